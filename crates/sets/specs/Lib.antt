@@ -1,0 +1,3 @@
+pub mod Mask
+pub mod Bounded
+pub mod Family
