@@ -39,6 +39,11 @@ unfoldable pub select : ℕ → (ℕ → Bool) → List ℕ
 select zero test = []
 select (suc n) test = select n test ++ cond (test n) (n ∷ []) []
 
+-- the lists for the numbers below the bound, one behind the other
+unfoldable pub gather : ℕ → (ℕ → List ℕ) → List ℕ
+gather zero piece = []
+gather (suc n) piece = gather n piece ++ piece n
+
 -- the list with its first n places set to v
 abbrev pub fill : ℕ → ℕ → List ℕ → List ℕ
 fill n v d = replicate n v ++ drop n d

@@ -1,0 +1,58 @@
+-- Document 01's card by what it means: an automaton over observations that gives an action in each cell (document 000, Theorem 12).
+-- Assumes nothing.
+use mathlib.Core.Path.{_≡_}
+use mathlib.Core.Bool.{Bool, true, false, cond}
+use mathlib.Core.List.{List, [], _∷_}
+use Prim.Native.Nat.{ℕ}
+use lib.Dec.{eqb}
+use lib.ListN.{length, getD}
+use Rattle.sets.specs.Mask.{subset}
+use Rattle.sets.specs.Bounded.{first, orElse}
+use Rattle.games.specs.Game.{Game}
+use Rattle.games.specs.Step.{after, meets}
+use Rattle.games.specs.Verdict.{startSet, settled, cells}
+
+-- the cell number that says: the observation cannot occur here
+abbrev pub noCell : ℕ
+noCell = 65535
+
+pub record Automaton : Type 0 where
+  -- the number of cells; a cell's set and action; the first cell by observation, the next by cell and observation
+  pub size : ℕ
+  pub set : ℕ → ℕ
+  pub action : ℕ → ℕ
+  pub begins : ℕ → ℕ
+  pub next : ℕ → ℕ → ℕ
+
+-- the cell that it is in after the observations: from a cell, and from the opening
+unfoldable pub cellFrom : Automaton → ℕ → List ℕ → ℕ
+cellFrom A c [] = c
+cellFrom A c (o ∷ h) = cellFrom A (A .next c o) h
+
+unfoldable pub cellAfter : Automaton → List ℕ → ℕ
+cellAfter A [] = noCell
+cellAfter A (o ∷ h) = cellFrom A (A .begins o) h
+
+-- the action that it gives there
+unfoldable pub actionAfter : Automaton → List ℕ → ℕ
+actionAfter A h = A .action (cellAfter A h)
+
+-- the lowest-numbered cell whose set holds s, or `noCell` if s has no state
+unfoldable pub holding : List ℕ → ℕ → ℕ
+holding l s = cond (eqb s 0) noCell (orElse (first (length l) (λ c. subset s (getD l c 0))) noCell)
+
+-- a settled set's action: the lowest that meets the step
+unfoldable pub chosen : Game → ℕ → ℕ
+chosen g s = orElse (first (g .actions) (meets g (settled g) s)) 0
+
+-- the card of a yes
+unfoldable pub card : Game → Automaton
+card g =
+    let l = cells g in
+    record {
+      size = length l;
+      set = λ c. getD l c 0;
+      action = λ c. chosen g (getD l c 0);
+      begins = λ o. holding l (startSet g o);
+      next = λ c o. holding l (after g (getD l c 0) (chosen g (getD l c 0)) o);
+    }

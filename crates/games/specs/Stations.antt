@@ -1,0 +1,131 @@
+-- The starred stations of document 01 ("Stations to try") as rows of one list, and one fact about the definitions that covers them:
+-- no row fails. Where a definition is wrong, the refusal names the stations that no longer come out.
+-- Assumes nothing.
+use mathlib.Core.Path.{_≡_, refl}
+use mathlib.Core.Bool.{Bool, true, false, Bool·beq, _&&_}
+use mathlib.Core.List.{List, [], _∷_, _++_}
+use Prim.Native.Nat.{ℕ}
+use lib.Dec.{eqb}
+use Rattle.sets.specs.Mask.{unionOver}
+use Rattle.sets.specs.Bounded.{all, any, first, select, gather}
+use Rattle.sets.specs.Family.{same, isMaximal, maximal, listed, cut, cuts, join, meet}
+use Rattle.games.specs.Game.{enabled}
+use Rattle.games.specs.Step.{safe, enabledAt, post, after, meets, step, good, antichain, fixed, settling}
+use Rattle.games.specs.Verdict.{Verdict, Yes, No, startSet, startsIn, settled, cells, lostRound, verdict}
+use Rattle.games.specs.Automaton.{holding, chosen, card}
+use Rattle.games.specs.Words.{game, cellWords, cardWords}
+
+pub data Station : Type 0 where
+  A B C D E F G H J K L : Station
+
+-- what document 01 says of a station
+pub data Row : Type 0 where
+  -- the list of maximal sets good for k
+  lists : Station → (table : List ℕ) (k : ℕ) (sets : List ℕ) → Row
+  answers : Station → (table : List ℕ) → Verdict → Row
+  writes : Station → (table card : List ℕ) → Row
+  joins : Station → (n : ℕ) (one other result : List ℕ) → Row
+  cutsTo : Station → (n : ℕ) (one other result : List ℕ) → Row
+  -- whether the set is good for k
+  judges : Station → (table : List ℕ) (set k : ℕ) (answer : Bool) → Row
+
+-- A's moves: wait, then dose
+abbrev moves : List ℕ
+moves = 0x5000_0002 ∷ 0x5001_0000 ∷ 0x5002_0004 ∷ 0x5010_0004 ∷ 0x5011_0001 ∷ 0x5012_0004 ∷ []
+
+abbrev tableA : List ℕ
+tableA = 0x1001_0203 ∷ 0x2000_0001 ∷ 0x3000_0004 ∷ 0x4000_0007 ∷ moves
+
+-- A with start {0,1}
+abbrev tableB : List ℕ
+tableB = 0x1001_0203 ∷ 0x2000_0003 ∷ 0x3000_0004 ∷ 0x4000_0007 ∷ moves
+
+-- B with two readings, {0} and {1,2}
+abbrev tableC : List ℕ
+tableC = 0x1002_0203 ∷ 0x2000_0003 ∷ 0x3000_0004 ∷ 0x4000_0001 ∷ 0x4001_0006 ∷ moves
+
+-- one state, bad, moving to itself; not bad, blocked; not bad, moving to itself
+abbrev tableD : List ℕ
+tableD = 0x1001_0101 ∷ 0x2000_0001 ∷ 0x3000_0001 ∷ 0x4000_0001 ∷ 0x5000_0001 ∷ []
+
+abbrev tableE : List ℕ
+tableE = 0x1001_0101 ∷ 0x2000_0001 ∷ 0x3000_0000 ∷ 0x4000_0001 ∷ 0x5000_0000 ∷ []
+
+abbrev tableF : List ℕ
+tableF = 0x1001_0101 ∷ 0x2000_0001 ∷ 0x3000_0000 ∷ 0x4000_0001 ∷ 0x5000_0001 ∷ []
+
+-- four states, one action, one reading, none bad, i to i+1, 3 blocked, start {0}
+abbrev tableG : List ℕ
+tableG = 0x1001_0104 ∷ 0x2000_0001 ∷ 0x3000_0000 ∷ 0x4000_000f ∷ 0x5000_0002 ∷ 0x5001_0004 ∷ 0x5002_0008 ∷ 0x5003_0000 ∷ []
+
+-- C with readings {0,1} and {1,2}
+abbrev tableH : List ℕ
+tableH = 0x1002_0203 ∷ 0x2000_0003 ∷ 0x3000_0004 ∷ 0x4000_0003 ∷ 0x4001_0006 ∷ moves
+
+pub stations : List Row
+stations =
+    lists A tableA 0 (7 ∷ [])
+    ∷ lists A tableA 1 (3 ∷ [])
+    ∷ lists A tableA 2 (1 ∷ 2 ∷ [])
+    ∷ answers A tableA (Yes 2 2)
+    ∷ writes A tableA (0x8021_0002 ∷ 0x9000_0000 ∷ 0xa000_0001 ∷ 0xb000_0001 ∷ 0xa010_0002 ∷ 0xb000_0000 ∷ [])
+    ∷ answers B tableB (No 2)
+    ∷ answers C tableC (Yes 2 2)
+    ∷ writes C tableC
+    (0x8022_0002
+    ∷ 0x9000_0000
+    ∷ 0x9001_0001
+    ∷ 0xa000_0001
+    ∷ 0xb000_ffff
+    ∷ 0xb001_0001
+    ∷ 0xa010_0002
+    ∷ 0xb000_0000
+    ∷ 0xb001_ffff
+    ∷ [])
+    ∷ answers D tableD (No 1)
+    ∷ answers E tableE (No 1)
+    ∷ answers F tableF (Yes 0 1)
+    ∷ answers G tableG (No 4)
+    ∷ answers H tableH (No 2)
+    ∷ joins J 2 (1 ∷ 2 ∷ []) (3 ∷ []) (3 ∷ [])
+    ∷ cutsTo K 3 (3 ∷ []) (1 ∷ 6 ∷ []) (1 ∷ 2 ∷ [])
+    ∷ judges L tableA 3 1 true
+    ∷ judges L tableA 3 2 false
+    ∷ []
+
+sameList : List ℕ → List ℕ → Bool
+sameList [] [] = true
+sameList [] (y ∷ l) = false
+sameList (x ∷ k) [] = false
+sameList (x ∷ k) (y ∷ l) = eqb x y && sameList k l
+
+sameVerdict : Verdict → Verdict → Bool
+sameVerdict (Yes t m) (Yes u k) = eqb t u && eqb m k
+sameVerdict (Yes t m) (No k) = false
+sameVerdict (No k) (Yes t m) = false
+sameVerdict (No j) (No k) = eqb j k
+
+comesOut : Row → Bool
+comesOut (lists x t k l) = sameList (antichain (game t) k) l
+comesOut (answers x t v) = sameVerdict (verdict (game t)) v
+comesOut (writes x t c) = sameList (cardWords (card (game t)) (game t .actions) (game t .observations)) c
+comesOut (joins x n k l r) = sameList (join n k l) r
+comesOut (cutsTo x n k l r) = sameList (meet n k l) r
+comesOut (judges x t s k b) = Bool·beq (good (game t) k s) b
+
+nameOf : Row → Station
+nameOf (lists x t k l) = x
+nameOf (answers x t v) = x
+nameOf (writes x t c) = x
+nameOf (joins x n k l r) = x
+nameOf (cutsTo x n k l r) = x
+nameOf (judges x t s k b) = x
+
+-- the stations of the rows that don't come out
+pub failing : List Row → List Station
+failing [] = []
+failing (r ∷ l) = elim (comesOut r) [ true ↦ failing l | false ↦ nameOf r ∷ failing l ]
+
+pub every-station : failing stations ≡ []
+unfolding stations failing comesOut nameOf sameList sameVerdict unionOver all any first select gather same isMaximal maximal listed cut cuts join meet enabled safe enabledAt post after meets step good antichain fixed settling startSet startsIn settled cells lostRound verdict holding chosen card game cellWords cardWords
+every-station = refl
