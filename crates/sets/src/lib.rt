@@ -41,11 +41,7 @@ pub fn without(s: u32, i: u32) -> u32
     requires { ⌜ i < 32 ⌝ }
     ensures { λ r. ⌜ r ≡ lacking s i ⌝ }
 {
-    if member(s, i) {
-        s - single(i)
-    } else {
-        s
-    }
+    if member(s, i) { s - single(i) } else { s }
 }
 
 // Sets the first `end` places to v.
