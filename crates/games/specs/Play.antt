@@ -1,7 +1,7 @@
 -- Strategies and plays (document 01, "The game").
 -- Assumes nothing.
 use mathlib.Core.Path.{_≡_}
-use mathlib.Core.Bool.{Bool, true, false}
+use mathlib.Core.Bool.{Bool, true, false, cond}
 use mathlib.Core.List.{List, [], _∷_, _++_}
 use Prim.Native.Nat.{ℕ, suc, _≤_, _<_}
 use lib.Dec.{leb}
@@ -36,7 +36,7 @@ rounds (more p a i o) = suc (rounds p)
 -- the play as it stood in round i; the whole of it where it has not come so far
 unfoldable pub upTo : ℕ → Play → Play
 upTo i (begin j o) = begin j o
-upTo i (more p a j o) = elim (leb i (rounds p)) [ true ↦ upTo i p | false ↦ more p a j o ]
+upTo i (more p a j o) = cond (leb i (rounds p)) (upTo i p) (more p a j o)
 
 -- it is a play of the game: a state of the start set and an observation it shows; an action; a successor and an observation it shows
 unfoldable pub PlayOf : Game → Play → Type 0

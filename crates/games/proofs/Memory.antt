@@ -1,0 +1,58 @@
+-- One theorem on strategies with memory: it serves the lasting strategy, the winning one and every card.
+-- A memory state is entered by the first observation and changed by each later one, and gives an action. Where a relation between rounds
+-- left, memory and state holds at the start, is kept by the moves and grants survival, the strategy lasts.
+-- Assumes nothing.
+use mathlib.Core.Path.{_≡_, refl, sym, ap, _∙_, subst, subst₂}
+use mathlib.Core.Bool.{Bool, true, false}
+use mathlib.Core.List.{List, [], _∷_, _++_}
+use Prim.Native.Nat.{ℕ, zero, suc, _+_, _-_, _≤_, _<_}
+use native.Mathlib.Omega.{arith}
+use Rattle.sets.specs.Mask.{member}
+use Rattle.games.specs.Game.{Game, Shows, enabled}
+use Rattle.games.specs.Play.{Strategy, Play, begin, more, last, seen, rounds, PlayOf, Under, Survives, Lasts}
+use Rattle.games.proofs.Plays.{lasts-by-last, seen-some, rounds-from-one}
+
+module _ {M : Type 0} (idle : M) (first : ℕ → M) (next : M → ℕ → M) where
+  pub from : M → List ℕ → M
+  from m [] = m
+  from m (o ∷ h) = from (next m o) h
+
+  -- the memory after the observations
+  unfoldable pub memory : List ℕ → M
+  memory [] = idle
+  memory (o ∷ h) = from (first o) h
+
+  from-more : (m : M) (h : List ℕ) (o : ℕ) → from m (h ++ (o ∷ [])) ≡ next (from m h) o
+  unfolding from
+  from-more m [] o = refl
+  from-more m (x ∷ h) o = from-more (next m x) h o
+
+  pub memory-more : (p : Play) (o : ℕ) → memory (seen p ++ (o ∷ [])) ≡ next (memory (seen p)) o
+  unfolding memory
+  memory-more p o =
+      let w = seen-some p in
+      subst (λ (l : List ℕ). memory (l ++ (o ∷ [])) ≡ next (memory l) o) (sym (w .2)) (from-more (first (w .0)) (w .1) o)
+
+  module _ (g : Game) (act : M → ℕ) (Inv : ℕ → M → ℕ → Type 0)
+      (survives : (j : ℕ) (m : M) (i : ℕ) → Inv (suc j) m i → (member (g .bad) i ≡ false) × (enabled g i (act m) ≡ true))
+      (moves : (j : ℕ) (m : M) (i i′ o : ℕ) → Inv (suc j) m i → member (g .successors (act m) i) i′ ≡ true → Shows g i′ o → Inv j (next m o) i′)
+      (k : ℕ) (begins : (i o : ℕ) → member (g .start) i ≡ true → Shows g i o → Inv k (first o) i)
+      (ρ : Strategy g) (follows : (h : List ℕ) (j i : ℕ) → Inv (suc j) (memory h) i → ρ .pick h ≡ act (memory h)) where
+
+    -- the relation holds on every play under the strategy, with the rounds that are left
+    pub holds-on : (p : Play) → PlayOf g p → Under ρ p → (j : ℕ) → rounds p + j ≡ suc k → Inv j (memory (seen p)) (last p)
+    unfolding PlayOf Under seen last rounds memory from
+    holds-on (begin i o) h u j e = subst (λ (n : ℕ). Inv n (first o) i) (omega arith) (begins i o (h .0) (h .1))
+    holds-on (more p a i o) h u j e =
+        let inv : Inv (suc j) (memory (seen p)) (last p) = holds-on p (h .0) (u .0) (suc j) (omega arith) in
+        let same : a ≡ act (memory (seen p)) = u .1 ∙ follows (seen p) j (last p) inv in
+        subst (λ (m : M). Inv j m i) (sym (memory-more p o))
+        (moves j (memory (seen p)) (last p) i o inv (subst (λ (b : ℕ). member (g .successors b (last p)) i ≡ true) same (h .2)) (h .3))
+
+    pub memory-lasts : Lasts g ρ k
+    memory-lasts =
+        lasts-by-last g ρ k
+        (λ p h u l.
+          let inv : Inv (suc (k - rounds p)) (memory (seen p)) (last p) = holds-on p h u (suc (k - rounds p)) (omega arith) in
+          let s = survives (k - rounds p) (memory (seen p)) (last p) inv in
+          (s .0, subst (λ (a : ℕ). enabled g (last p) a ≡ true) (sym (follows (seen p) (k - rounds p) (last p) inv)) (s .1)))
