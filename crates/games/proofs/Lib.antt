@@ -1,3 +1,4 @@
 pub mod Steps
 pub mod Plays
 pub mod Memory
+pub mod Losing
