@@ -9,7 +9,7 @@ use lib.ListN.{length, getD}
 use Rattle.sets.specs.Mask.{subset}
 use Rattle.sets.specs.Bounded.{first, orElse}
 use Rattle.games.specs.Game.{Game}
-use Rattle.games.specs.Step.{after, meets}
+use Rattle.games.specs.Step.{after, lowest}
 use Rattle.games.specs.Verdict.{startSet, settled, cells}
 
 -- the cell number that says: the observation cannot occur here
@@ -43,7 +43,7 @@ holding l s = cond (eqb s 0) noCell (orElse (first (length l) (λ c. subset s (g
 
 -- a settled set's action: the lowest that meets the step
 unfoldable pub chosen : Game → ℕ → ℕ
-chosen g s = orElse (first (g .actions) (meets g (settled g) s)) 0
+chosen g s = lowest g (settled g) s
 
 -- the card of a yes
 unfoldable pub card : Game → Automaton

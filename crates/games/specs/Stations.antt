@@ -10,7 +10,7 @@ use Rattle.sets.specs.Mask.{unionOver}
 use Rattle.sets.specs.Bounded.{all, any, first, select, gather}
 use Rattle.sets.specs.Family.{same, isMaximal, maximal, listed, cut, cuts, join, meet}
 use Rattle.games.specs.Game.{enabled}
-use Rattle.games.specs.Step.{safe, enabledAt, post, after, meets, step, good, antichain, fixed, settling}
+use Rattle.games.specs.Step.{safe, enabledAt, post, after, meets, lowest, step, good, antichain, fixed, settling}
 use Rattle.games.specs.Verdict.{Verdict, Yes, No, startSet, startsIn, settled, cells, lostRound, verdict}
 use Rattle.games.specs.Automaton.{holding, chosen, card}
 use Rattle.games.specs.Words.{game, cellWords, cardWords}
@@ -120,5 +120,5 @@ pub data Every : List Row → Type 0 where
 
 -- a refusal names the row that doesn't come out
 pub every-station : Every stations
-unfolding stations comesOut sameList sameVerdict unionOver all any first select gather same isMaximal maximal listed cut cuts join meet enabled safe enabledAt post after meets step good antichain fixed settling startSet startsIn settled cells lostRound verdict holding chosen card game cellWords cardWords
+unfolding stations comesOut sameList sameVerdict unionOver all any first select gather same isMaximal maximal listed cut cuts join meet enabled safe enabledAt post after meets lowest step good antichain fixed settling startSet startsIn settled cells lostRound verdict holding chosen card game cellWords cardWords
 every-station = row refl (row refl (row refl (row refl (row refl (row refl (row refl (row refl (row refl (row refl (row refl (row refl (row refl (row refl (row refl (row refl (row refl (none)))))))))))))))))

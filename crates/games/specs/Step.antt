@@ -33,6 +33,10 @@ meets g F s a = enabledAt g s a && all (g .observations) (λ o. F (after g s a o
 unfoldable pub step : Game → Family → Family
 step g F s = safe g s && any (g .actions) (meets g F s)
 
+-- the lowest action that meets the step (0 where there is none)
+unfoldable pub lowest : Game → Family → ℕ → ℕ
+lowest g F s = orElse (first (g .actions) (meets g F s)) 0
+
 -- good for k rounds
 unfoldable pub good : Game → ℕ → Family
 good g zero s = true
