@@ -37,9 +37,10 @@ module _ (g : Game) (A : Accepted g) where
   -- what a set of the step grants at a member: survival, and a next set of the family that holds each successor
   module _ (F : Family) (s : ℕ) (below : s < 2 ^ g .states) (h : step g F s ≡ true) (i : ℕ) (m : member s i ≡ true) where
     pub stepped-survives : (member (g .bad) i ≡ false) × (enabled g i (lowest g F s) ≡ true)
-    stepped-survives =
-        (safe-at g s (step-safe g F s h) i m,
-        enabled-at g s (lowest g F s) (meets-enabled g F s (lowest g F s) (lowest-meets F s h)) i (member-below (g .states) s i below m) m)
+    stepped-survives = (
+      safe-at g s (step-safe g F s h) i m,
+      enabled-at g s (lowest g F s) (meets-enabled g F s (lowest g F s) (lowest-meets F s h)) i (member-below (g .states) s i below m) m,
+    )
 
     pub stepped-in : (o : ℕ) → o < g .observations → F (after g s (lowest g F s) o) ≡ true
     stepped-in = meets-after g F s (lowest g F s) (lowest-meets F s h)
@@ -90,12 +91,12 @@ module _ (g : Game) (A : Accepted g) where
         left-is = ap pred (w .left-is);
         below = after-below g A (m .set) (action m) o (shows .0);
         is-good =
-          subst (λ (a : ℕ). good g j (after g (m .set) a o) ≡ true) (sym same)
-          (stepped-in (good g j) (m .set) (w .below) (w .is-good) i (w .held) o (shows .0));
+            subst (λ (a : ℕ). good g j (after g (m .set) a o) ≡ true) (sym same)
+            (stepped-in (good g j) (m .set) (w .below) (w .is-good) i (w .held) o (shows .0));
         held =
-          subst (λ (a : ℕ). member (after g (m .set) a o) i′ ≡ true) (sym same)
-          (stepped-member (good g j) (m .set) (w .below) (w .is-good) i (w .held) i′ o
-          (subst (λ (a : ℕ). member (g .successors a i) i′ ≡ true) same e) shows)
+            subst (λ (a : ℕ). member (after g (m .set) a o) i′ ≡ true) (sym same)
+            (stepped-member (good g j) (m .set) (w .below) (w .is-good) i (w .held) i′ o
+            (subst (λ (a : ℕ). member (g .successors a i) i′ ≡ true) same e) shows);
       }
 
   pub lasting : (k : ℕ) → startsIn g (good g k) ≡ true → (ρ : Strategy g) × Lasts g ρ k
@@ -103,8 +104,9 @@ module _ (g : Game) (A : Accepted g) where
   lasting k h =
       let opening : ℕ → Memo = λ o. record { left = k; set = startSet g o } in
       let memo : List ℕ → Memo = memory (opening 0) opening follow in
-      let ρ : Strategy g = record { pick = λ seen. action (memo seen); legal = λ seen. lowest-below (good g (pred (memo seen .left))) (memo seen .set) } in
-      (ρ,
-      memory-lasts (opening 0) opening follow g action Kept kept-survives kept-moves k
-      (λ i o m shows. record { left-is = refl; below = start-below o; is-good = starts-at (good g k) h o (shows .0); held = start-member i o m shows })
-      ρ (λ seen j i w. refl))
+      let ρ : Strategy g = record { pick = λ seen. action (memo seen); legal = λ seen. lowest-below (good g (pred (memo seen .left))) (memo seen .set) } in (
+        ρ,
+        memory-lasts (opening 0) opening follow g action Kept kept-survives kept-moves k
+            (λ i o m shows. record { left-is = refl; below = start-below o; is-good = starts-at (good g k) h o (shows .0); held = start-member i o m shows })
+            ρ (λ seen j i w. refl),
+      )

@@ -37,10 +37,11 @@ module _ (g : Game) (A : Accepted g) (ρ : Strategy g) where
         under = w .under;
         short = subst (λ (n : ℕ). n ≤ k) (sym (w .comes)) l;
         ends = λ s.
-          let t : Survives g ρ (w .play) = subst (Survives g ρ) (upTo-whole (w .play)) s in
-          no-more
-          (subst (λ (j : ℕ). member (g .bad) j ≡ false) (w .stands) (t .0),
-          subst (λ (j : ℕ). enabled g j (ρ .pick h) ≡ true) (w .stands) (subst (λ (l : List ℕ). enabled g (last (w .play)) (ρ .pick l) ≡ true) (w .shows) (t .1)))
+            let t : Survives g ρ (w .play) = subst (Survives g ρ) (upTo-whole (w .play)) s in
+            no-more (
+              subst (λ (j : ℕ). member (g .bad) j ≡ false) (w .stands) (t .0),
+              subst (λ (j : ℕ). enabled g j (ρ .pick h) ≡ true) (w .stands) (subst (λ (l : List ℕ). enabled g (last (w .play)) (ρ .pick l) ≡ true) (w .shows) (t .1)),
+            );
       }
 
   goes-on : (h : List ℕ) (r s o : ℕ) → o < g .observations → ((i : ℕ) → member s i ≡ true → Reaches h r i) → (j : ℕ) → member (after g s (ρ .pick h) o) j ≡ true → Reaches (h ++ (o ∷ [])) (suc r) j
@@ -52,11 +53,11 @@ module _ (g : Game) (A : Accepted g) (ρ : Strategy g) where
       record {
         play = more (p .play) a j o;
         played =
-          (p .played, ρ .legal h, subst (λ (i : ℕ). member (g .successors a i) j ≡ true) (sym (p .stands)) (w .3), (l, after-shown g s a o j m));
+            (p .played, ρ .legal h, subst (λ (i : ℕ). member (g .successors a i) j ≡ true) (sym (p .stands)) (w .3), (l, after-shown g s a o j m));
         under = (p .under, ap (ρ .pick) (sym (p .shows)));
         shows = ap (λ (l : List ℕ). l ++ (o ∷ [])) (p .shows);
         stands = refl;
-        comes = ap suc (p .comes)
+        comes = ap suc (p .comes);
       }
 
   -- a set that isn't good for k + 1: a play is lost in this round, or one of the next sets isn't good for k
@@ -67,9 +68,9 @@ module _ (g : Game) (A : Accepted g) (ρ : Strategy g) where
       ⊎-elim
       (λ e. let w = safe-fails g s l e in ends-here n r (w .0) h b (reach (w .0) (w .2)) (λ t. clash (w .3) (t .0)))
       (λ e. ⊎-elim
-        (λ f. let w = enabled-fails g s a f in ends-here n r (w .0) h b (reach (w .0) (w .2)) (λ t. clash (t .1) (w .3)))
-        (λ f. let w = all-fails (g .observations) (λ o. good g k (after g s a o)) f in next (w .0) (w .1) (w .2))
-        (and-false-cases (enabledAt g s a) (all (g .observations) (λ o. good g k (after g s a o))) (any-none (g .actions) (meets g (good g k) s) e a (ρ .legal h))))
+      (λ f. let w = enabled-fails g s a f in ends-here n r (w .0) h b (reach (w .0) (w .2)) (λ t. clash (t .1) (w .3)))
+      (λ f. let w = all-fails (g .observations) (λ o. good g k (after g s a o)) f in next (w .0) (w .1) (w .2))
+      (and-false-cases (enabledAt g s a) (all (g .observations) (λ o. good g k (after g s a o))) (any-none (g .actions) (meets g (good g k) s) e a (ρ .legal h))))
       (and-false-cases (safe g s) (any (g .actions) (meets g (good g k) s)) no-good)
 
   -- s holds states that plays under the strategy have come to in round r, all with the same observations
@@ -87,16 +88,16 @@ module _ (g : Game) (A : Accepted g) (ρ : Strategy g) where
   start-lost (suc k) o l e =
       loses k (suc k) 1 (o ∷ []) (startSet g o) (common-lt-left (g .states) (g .start) (g .shown o) (A .start-below)) (omega arith)
       (λ i m.
-        let both = sym (member-and (g .start) (g .shown o) i) ∙ m in
-        record {
-          play = begin i o;
-          played =
+      let both = sym (member-and (g .start) (g .shown o) i) ∙ m in
+      record {
+        play = begin i o;
+        played =
             (and-left (member (g .start) i) (member (g .shown o) i) both, (l, and-right (member (g .start) i) (member (g .shown o) i) both));
-          under = tt;
-          shows = refl;
-          stands = refl;
-          comes = refl
-        })
+        under = tt;
+        shows = refl;
+        stands = refl;
+        comes = refl;
+      })
       e
 
   pub lost-no-lasting : (k : ℕ) → Lost g ρ k → Lasts g ρ k → ⊥

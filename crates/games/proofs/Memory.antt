@@ -13,7 +13,7 @@ use Rattle.games.specs.Play.{Strategy, Play, begin, more, last, seen, ro
 use Rattle.games.proofs.Plays.{lasts-by-last, seen-some, rounds-from-one}
 
 module _ {M : Type 0} (idle : M) (first : ℕ → M) (next : M → ℕ → M) where
-  pub from : M → List ℕ → M
+  unfoldable pub from : M → List ℕ → M
   from m [] = m
   from m (o ∷ h) = from (next m o) h
 
@@ -38,7 +38,6 @@ module _ {M : Type 0} (idle : M) (first : ℕ → M) (next : M → ℕ → M) wh
       (moves : (j : ℕ) (m : M) (i i′ o : ℕ) → Inv (suc j) m i → member (g .successors (act m) i) i′ ≡ true → Shows g i′ o → Inv j (next m o) i′)
       (k : ℕ) (begins : (i o : ℕ) → member (g .start) i ≡ true → Shows g i o → Inv k (first o) i)
       (ρ : Strategy g) (follows : (h : List ℕ) (j i : ℕ) → Inv (suc j) (memory h) i → ρ .pick h ≡ act (memory h)) where
-
     -- the relation holds on every play under the strategy, with the rounds that are left
     pub holds-on : (p : Play) → PlayOf g p → Under ρ p → (j : ℕ) → rounds p + j ≡ suc k → Inv j (memory (seen p)) (last p)
     unfolding PlayOf Under seen last rounds memory from
@@ -53,6 +52,6 @@ module _ {M : Type 0} (idle : M) (first : ℕ → M) (next : M → ℕ → M) wh
     memory-lasts =
         lasts-by-last g ρ k
         (λ p h u l.
-          let inv : Inv (suc (k - rounds p)) (memory (seen p)) (last p) = holds-on p h u (suc (k - rounds p)) (omega arith) in
-          let s = survives (k - rounds p) (memory (seen p)) (last p) inv in
-          (s .0, subst (λ (a : ℕ). enabled g (last p) a ≡ true) (sym (follows (seen p) (k - rounds p) (last p) inv)) (s .1)))
+        let inv : Inv (suc (k - rounds p)) (memory (seen p)) (last p) = holds-on p h u (suc (k - rounds p)) (omega arith) in
+        let s = survives (k - rounds p) (memory (seen p)) (last p) inv in
+        (s .0, subst (λ (a : ℕ). enabled g (last p) a ≡ true) (sym (follows (seen p) (k - rounds p) (last p) inv)) (s .1)))

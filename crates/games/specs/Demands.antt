@@ -7,6 +7,7 @@ use Prim.Native.Nat.{ℕ, _-_, _^_, _≤_, _<_}
 use Rattle.sets.specs.Mask.{member}
 use Rattle.games.specs.Game.{Game}
 use Rattle.games.specs.Play.{Strategy, Play, PlayOf, Under, Survived, Lasts, Clear, last, seen, rounds}
+use Rattle.games.specs.Verdict.{Verdict, Yes, No}
 use Rattle.games.specs.Automaton.{Automaton, cellAfter, actionAfter}
 
 -- a play under the strategy, of at most k rounds, whose last round is not survived
@@ -42,3 +43,9 @@ pub record Second (g : Game) (A : Automaton) : Type 0 where
   pub follows : Follows strategy A
   pub clear : (ρ : Strategy g) → Follows ρ A → Clear g ρ
   pub keeps : (ρ : Strategy g) → Follows ρ A → (p : Play) → PlayOf g p → Under ρ p → Keeps g A p
+
+-- both demands on an answer: yes if and only if some strategy keeps every play clear, and then the card does; for a no the third demand
+pub record Decides (g : Game) (answer : Verdict) (A : Automaton) : Type 0 where
+  pub yes-iff : ((settled : ℕ) × (cells : ℕ) × (answer ≡ Yes settled cells)) ↔ ((ρ : Strategy g) × Clear g ρ)
+  pub yes-card : (settled cells : ℕ) → answer ≡ Yes settled cells → Second g A
+  pub no-round : (k : ℕ) → answer ≡ No k → Third g k

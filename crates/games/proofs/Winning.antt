@@ -1,0 +1,140 @@
+-- Where the start sets are settled, the card wins: the strategies that follow it keep every play clear, and on every play under them
+-- it is in a cell whose set holds the state.
+-- Assumes nothing.
+use mathlib.Core.Path.{_≡_, refl, sym, ap, _∙_, subst}
+use mathlib.Core.Logic.{_⊎_, ⊎-elim}
+use mathlib.Core.Bool.{Bool, true, false, cond}
+use mathlib.Core.List.{List, [], _∷_, List·Memᴰ, List·Memᴰ·head, List·Memᴰ·tail, List·Memᴰ·cases-cons, List·Memᴰ·not-nil}
+use Prim.Native.Nat.{ℕ, zero, suc, _+_, _^_, _≤_, _<_}
+use native.Mathlib.Nat.{not-suc-le-zero, le-of-suc-le-suc}
+use native.Mathlib.Omega.{arith}
+use lib.Dec.{eqb, ltb}
+use lib.ListN.{length, getD}
+use borrow.Author.Tests.{ne-eqb, eqb-true, lt-ltb, ltb-true}
+use Rattle.sets.specs.Mask.{member, subset}
+use Rattle.sets.specs.Bounded.{Found, found, nothing, first, orElse}
+use Rattle.sets.specs.Family.{Family, holds, maximal}
+use Rattle.sets.proofs.Logic.{decided, clash}
+use Rattle.sets.proofs.Bounded.{first-some, first-found}
+use Rattle.sets.proofs.Mask.{member-zero, subset-member}
+use Rattle.sets.proofs.Family.{holds-found, mem-maximal}
+use Rattle.games.specs.Game.{Game, Accepted, Shows, enabled}
+use Rattle.games.specs.Play.{Strategy, Play, PlayOf, Under, Lasts, Clear, last, seen, rounds}
+use Rattle.games.specs.Step.{after, meets, lowest, step, antichain, settling}
+use Rattle.games.specs.Verdict.{startSet, startsIn, settled, cells}
+use Rattle.games.specs.Automaton.{Automaton, noCell, cellFrom, cellAfter, actionAfter, holding, chosen, card}
+use Rattle.games.specs.Demands.{Follows, Keeps, Second}
+use Rattle.games.proofs.Steps.{after-below}
+use Rattle.games.proofs.Plays.{rounds-from-one}
+use Rattle.games.proofs.Memory.{from, memory, holds-on, memory-lasts}
+use Rattle.games.proofs.Lasting.{lowest-below, stepped-survives, stepped-in, stepped-member, start-below, start-member, starts-at}
+use Rattle.games.proofs.Settling.{settled-step, cells-hold}
+
+-- what stands at a place of a list is listed, and what is listed stands at a place
+pub at-mem : (l : List ℕ) (c : ℕ) → c < length l → List·Memᴰ (getD l c 0) l
+at-mem [] c h = absurd (not-suc-le-zero h)
+at-mem (x ∷ l) zero h = List·Memᴰ·head refl
+at-mem (x ∷ l) (suc c) h = List·Memᴰ·tail (at-mem l c (le-of-suc-le-suc h))
+
+pub mem-at : (l : List ℕ) (s : ℕ) → List·Memᴰ s l → (c : ℕ) × (c < length l) × (getD l c 0 ≡ s)
+mem-at [] s m = absurd (List·Memᴰ·not-nil m)
+mem-at (x ∷ l) s m = go (mem-at l s) (List·Memᴰ·cases-cons m)
+  where
+    go : (List·Memᴰ s l → (c : ℕ) × (c < length l) × (getD l c 0 ≡ s)) → (s ≡ x) ⊎ List·Memᴰ s l → (c : ℕ) × (c < length (x ∷ l)) × (getD (x ∷ l) c 0 ≡ s)
+    go down = ⊎-elim (λ e. (0, omega arith, sym e)) (λ n. let w = down n in (suc (w .0), omega arith, w .2))
+
+-- the memory theorem's memory, where it is an automaton's cell
+from-cell : (B : Automaton) (c : ℕ) (h : List ℕ) → from noCell (B .begins) (B .next) c h ≡ cellFrom B c h
+unfolding from cellFrom
+from-cell B c [] = refl
+from-cell B c (o ∷ h) = from-cell B (B .next c o) h
+
+pub memory-cell : (B : Automaton) (h : List ℕ) → memory noCell (B .begins) (B .next) h ≡ cellAfter B h
+unfolding memory cellAfter
+memory-cell B [] = refl
+memory-cell B (o ∷ h) = from-cell B (B .begins o) h
+
+-- a set with a member that some cell holds has a holding cell
+pub record Held (l : List ℕ) (s i : ℕ) : Type 0 where
+  pub below : holding l s < length l
+  pub holds-it : subset s (getD l (holding l s) 0) ≡ true
+  pub has : member (getD l (holding l s) 0) i ≡ true
+
+pub held-by : (l : List ℕ) (s i : ℕ) → holds l s ≡ true → member s i ≡ true → Held l s i
+unfolding holding
+held-by l s i h m =
+    let test : ℕ → Bool = λ c. subset s (getD l c 0) in
+    let t = holds-found l s h in
+    let c = mem-at l (t .0) (t .1) in
+    let f = first-some (length l) test (c .0) (c .1) (subst (λ (u : ℕ). subset s u ≡ true) (sym (c .2)) (t .2)) in
+    let w = first-found (length l) test (f .0) (f .1) in
+    let some : eqb s 0 ≡ false = ne-eqb s 0 (λ e. clash m (subst (λ (u : ℕ). member u i ≡ false) (sym e) (member-zero i))) in
+    let e : holding l s ≡ f .0 = ap (λ (b : Bool). cond b noCell (orElse (first (length l) test) noCell)) some ∙ ap (λ (x : Found). orElse x noCell) (f .1) in
+    record {
+      below = subst (λ (c : ℕ). c < length l) (sym e) (w .0);
+      holds-it = subst (λ (c : ℕ). subset s (getD l c 0) ≡ true) (sym e) (w .1);
+      has = subset-member s (getD l (holding l s) 0) (subst (λ (c : ℕ). subset s (getD l c 0) ≡ true) (sym e) (w .1)) i m;
+    }
+
+module _ (g : Game) (A : Accepted g) where
+  -- a cell's set is settled
+  pub cell-settled : (c : ℕ) → c < length (cells g) → (getD (cells g) c 0 < 2 ^ g .states) × (settled g (getD (cells g) c 0) ≡ true)
+  unfolding cells settled antichain
+  cell-settled c l = let w = mem-maximal (g .states) (settled g) (getD (cells g) c 0) (at-mem (cells g) c l) in (w .0, w .1)
+
+  -- the card is in a cell, and the cell's set holds the state
+  In : ℕ → ℕ → ℕ → Type 0
+  In j c i = (c < length (cells g)) × (member (getD (cells g) c 0) i ≡ true)
+
+  cell-step : (c : ℕ) → c < length (cells g) → step g (settled g) (getD (cells g) c 0) ≡ true
+  cell-step c l = let w = cell-settled c l in sym (settled-step g A (getD (cells g) c 0) (w .0)) ∙ w .1
+
+  in-survives : (j c i : ℕ) → In (suc j) c i → (member (g .bad) i ≡ false) × (enabled g i (card g .action c) ≡ true)
+  unfolding In card chosen
+  in-survives j c i w = stepped-survives g A (settled g) (getD (cells g) c 0) (cell-settled c (w .0) .0) (cell-step c (w .0)) i (w .1)
+
+  in-moves : (j c i i′ o : ℕ) → In (suc j) c i → member (g .successors (card g .action c) i) i′ ≡ true → Shows g i′ o → In j (card g .next c o) i′
+  unfolding In card chosen
+  in-moves j c i i′ o w e shows =
+      let s = getD (cells g) c 0 in
+      let a = lowest g (settled g) s in
+      let below = cell-settled c (w .0) .0 in
+      let next = after g s a o in
+      let h =
+      held-by (cells g) next i′
+      (cells-hold g A next (after-below g A s a o (shows .0)) ∙ stepped-in g A (settled g) s below (cell-step c (w .0)) i (w .1) o (shows .0))
+      (stepped-member g A (settled g) s below (cell-step c (w .0)) i (w .1) i′ o e shows) in
+      (h .below, h .has)
+
+  in-begins : startsIn g (settled g) ≡ true → (k i o : ℕ) → member (g .start) i ≡ true → Shows g i o → In k (card g .begins o) i
+  unfolding In card
+  in-begins won k i o m shows =
+      let h =
+      held-by (cells g) (startSet g o) i
+      (cells-hold g A (startSet g o) (start-below g A o) ∙ starts-at g A (settled g) won o (shows .0)) (start-member g A i o m shows) in
+      (h .below, h .has)
+
+  pub action-below : (h : List ℕ) → actionAfter (card g) h < g .actions
+  unfolding actionAfter card chosen
+  action-below h = lowest-below g A (settled g) (getD (cells g) (cellAfter (card g) h) 0)
+
+  follows-memory : (ρ : Strategy g) → Follows ρ (card g) → (h : List ℕ) → ρ .pick h ≡ card g .action (memory noCell (card g .begins) (card g .next) h)
+  unfolding actionAfter
+  follows-memory ρ f h = f h (action-below h) ∙ ap (card g .action) (sym (memory-cell (card g) h))
+
+  pub card-wins : startsIn g (settled g) ≡ true → Second g (card g)
+  unfolding In card actionAfter
+  card-wins won =
+      record {
+        strategy = record { pick = actionAfter (card g); legal = action-below };
+        follows = λ h l. refl;
+        clear = λ ρ f k.
+            memory-lasts noCell (card g .begins) (card g .next) g (card g .action) In in-survives in-moves k (in-begins won k) ρ
+            (λ h j i w. follows-memory ρ f h);
+        keeps = λ ρ f p played under.
+            let w : In 1 (memory noCell (card g .begins) (card g .next) (seen p)) (last p) =
+            holds-on noCell (card g .begins) (card g .next) g (card g .action) In in-survives in-moves (rounds p) (in-begins won (rounds p)) ρ
+            (λ h j i w. follows-memory ρ f h) p played under 1 (omega arith) in
+            let v : In 1 (cellAfter (card g) (seen p)) (last p) = subst (λ (c : ℕ). In 1 c (last p)) (memory-cell (card g) (seen p)) w in
+            record { cell-below = v .0; held = v .1; action-below = action-below (seen p) };
+      }
