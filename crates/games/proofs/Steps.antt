@@ -1,4 +1,5 @@
 -- Laws of the step on sets: smaller sets and larger families are no worse, and good sets fall with the rounds.
+-- The stations stand before the laws, so that a wrong definition is refused first by the station it breaks.
 -- Assumes nothing.
 use mathlib.Core.Path.{_≡_, refl, sym, ap, ap₂, _∙_, subst}
 use mathlib.Core.Logic.{_⊎_, ⊎-elim}
@@ -16,6 +17,7 @@ use Rattle.sets.proofs.Logic.{clash, refuted, same-truth, and-left, and-right, 
 use Rattle.sets.proofs.Bounded.{all-at, all-intro, all-fails, all-ext, any-found, any-intro, any-ext}
 use Rattle.sets.proofs.Mask.{member-and, member-zero, common-lt, subset-member, subset-of, subset-refl, subset-le, subset-common-mono, common-zero, common-zero-intro, common-witness, common-nonzero, unionOver-found, unionOver-intro, unionOver-mono}
 use Rattle.games.specs.Game.{Game, Accepted, enabled}
+use Rattle.games.proofs.Stations.{every-station}
 use Rattle.games.specs.Step.{safe, enabledAt, post, after, meets, step, good}
 
 module _ (g : Game) where

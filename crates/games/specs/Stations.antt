@@ -1,19 +1,15 @@
--- The starred stations of document 01 ("Stations to try") as rows of one list, and one fact about the definitions that covers them:
--- every row comes out.
+-- The starred stations of document 01 ("Stations to try") as rows of one list, and the one statement that covers them: every row comes out.
 -- Assumes nothing.
-use mathlib.Core.Path.{_≡_, refl}
+use mathlib.Core.Path.{_≡_}
 use mathlib.Core.Bool.{Bool, true, false, Bool·beq, _&&_}
 use mathlib.Core.List.{List, [], _∷_, _++_}
 use Prim.Native.Nat.{ℕ}
 use lib.Dec.{eqb}
-use Rattle.sets.specs.Mask.{unionOver}
-use Rattle.sets.specs.Bounded.{all, any, first, select, gather}
-use Rattle.sets.specs.Family.{same, isMaximal, maximal, listed, cut, cuts, join, meet}
-use Rattle.games.specs.Game.{enabled}
-use Rattle.games.specs.Step.{safe, enabledAt, post, after, meets, lowest, step, good, antichain, fixed, settling}
-use Rattle.games.specs.Verdict.{Verdict, Yes, No, startSet, startsIn, settled, cells, lostRound, verdict}
-use Rattle.games.specs.Automaton.{holding, chosen, card}
-use Rattle.games.specs.Words.{game, cellWords, cardWords}
+use Rattle.sets.specs.Family.{maximal, join, meet}
+use Rattle.games.specs.Step.{good, antichain}
+use Rattle.games.specs.Verdict.{Verdict, Yes, No, verdict}
+use Rattle.games.specs.Automaton.{card}
+use Rattle.games.specs.Words.{game, cardWords}
 
 pub data Station : Type 0 where
   A B C D E F G H J K L : Station
@@ -62,7 +58,7 @@ tableG = 0x1001_0104 ∷ 0x2000_0001 ∷ 0x3000_0000 ∷ 0x4000_000f ∷ 0x5000_
 abbrev tableH : List ℕ
 tableH = 0x1002_0203 ∷ 0x2000_0003 ∷ 0x3000_0004 ∷ 0x4000_0003 ∷ 0x4001_0006 ∷ moves
 
-pub stations : List Row
+unfoldable pub stations : List Row
 stations =
     lists A tableA 0 (7 ∷ [])
     ∷ lists A tableA 1 (3 ∷ [])
@@ -93,19 +89,19 @@ stations =
     ∷ judges L tableA 3 2 false
     ∷ []
 
-sameList : List ℕ → List ℕ → Bool
+unfoldable pub sameList : List ℕ → List ℕ → Bool
 sameList [] [] = true
 sameList [] (y ∷ l) = false
 sameList (x ∷ k) [] = false
 sameList (x ∷ k) (y ∷ l) = eqb x y && sameList k l
 
-sameVerdict : Verdict → Verdict → Bool
+unfoldable pub sameVerdict : Verdict → Verdict → Bool
 sameVerdict (Yes t m) (Yes u k) = eqb t u && eqb m k
 sameVerdict (Yes t m) (No k) = false
 sameVerdict (No k) (Yes t m) = false
 sameVerdict (No j) (No k) = eqb j k
 
-pub comesOut : Row → Bool
+unfoldable pub comesOut : Row → Bool
 comesOut (lists x t k l) = sameList (antichain (game t) k) l
 comesOut (answers x t v) = sameVerdict (verdict (game t)) v
 comesOut (writes x t c) = sameList (cardWords (card (game t)) (game t .actions) (game t .observations)) c
@@ -117,8 +113,3 @@ comesOut (judges x t s k b) = Bool·beq (good (game t) k s) b
 pub data Every : List Row → Type 0 where
   none : Every []
   row : {r : Row} {l : List Row} → comesOut r ≡ true → Every l → Every (r ∷ l)
-
--- a refusal names the row that doesn't come out
-pub every-station : Every stations
-unfolding stations comesOut sameList sameVerdict unionOver all any first select gather same isMaximal maximal listed cut cuts join meet enabled safe enabledAt post after meets lowest step good antichain fixed settling startSet startsIn settled cells lostRound verdict holding chosen card game cellWords cardWords
-every-station = row refl (row refl (row refl (row refl (row refl (row refl (row refl (row refl (row refl (row refl (row refl (row refl (row refl (row refl (row refl (row refl (row refl (none)))))))))))))))))
