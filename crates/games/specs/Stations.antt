@@ -29,33 +29,33 @@ pub data Row : Type 0 where
 abbrev moves : List ℕ
 moves = 0x5000_0002 ∷ 0x5001_0000 ∷ 0x5002_0004 ∷ 0x5010_0004 ∷ 0x5011_0001 ∷ 0x5012_0004 ∷ []
 
-abbrev tableA : List ℕ
+abbrev pub tableA : List ℕ
 tableA = 0x1001_0203 ∷ 0x2000_0001 ∷ 0x3000_0004 ∷ 0x4000_0007 ∷ moves
 
 -- A with start {0,1}
-abbrev tableB : List ℕ
+abbrev pub tableB : List ℕ
 tableB = 0x1001_0203 ∷ 0x2000_0003 ∷ 0x3000_0004 ∷ 0x4000_0007 ∷ moves
 
 -- B with two readings, {0} and {1,2}
-abbrev tableC : List ℕ
+abbrev pub tableC : List ℕ
 tableC = 0x1002_0203 ∷ 0x2000_0003 ∷ 0x3000_0004 ∷ 0x4000_0001 ∷ 0x4001_0006 ∷ moves
 
 -- one state, bad, moving to itself; not bad, blocked; not bad, moving to itself
-abbrev tableD : List ℕ
+abbrev pub tableD : List ℕ
 tableD = 0x1001_0101 ∷ 0x2000_0001 ∷ 0x3000_0001 ∷ 0x4000_0001 ∷ 0x5000_0001 ∷ []
 
-abbrev tableE : List ℕ
+abbrev pub tableE : List ℕ
 tableE = 0x1001_0101 ∷ 0x2000_0001 ∷ 0x3000_0000 ∷ 0x4000_0001 ∷ 0x5000_0000 ∷ []
 
-abbrev tableF : List ℕ
+abbrev pub tableF : List ℕ
 tableF = 0x1001_0101 ∷ 0x2000_0001 ∷ 0x3000_0000 ∷ 0x4000_0001 ∷ 0x5000_0001 ∷ []
 
 -- four states, one action, one reading, none bad, i to i+1, 3 blocked, start {0}
-abbrev tableG : List ℕ
+abbrev pub tableG : List ℕ
 tableG = 0x1001_0104 ∷ 0x2000_0001 ∷ 0x3000_0000 ∷ 0x4000_000f ∷ 0x5000_0002 ∷ 0x5001_0004 ∷ 0x5002_0008 ∷ 0x5003_0000 ∷ []
 
 -- C with readings {0,1} and {1,2}
-abbrev tableH : List ℕ
+abbrev pub tableH : List ℕ
 tableH = 0x1002_0203 ∷ 0x2000_0003 ∷ 0x3000_0004 ∷ 0x4000_0003 ∷ 0x4001_0006 ∷ moves
 
 unfoldable pub stations : List Row
