@@ -3,12 +3,12 @@
 use mathlib.Core.Path.{_≡_, refl, sym, ap, ap₂, _∙_, subst}
 use mathlib.Core.Logic.{_⊎_, inl, inr, ⊎-elim}
 use mathlib.Core.Bool.{Bool, true, false, cond, _&&_, _||_, true≢false, false≢true}
-use mathlib.Core.List.{List, [], _∷_, _++_, append-nil, List·Memᴰ, List·Memᴰ·head, List·Memᴰ·tail, Memᴰ·append-left, Memᴰ·append-right, List·Memᴰ·append-cases, List·Memᴰ·eq-of-singleton, List·Memᴰ·not-nil, List·Memᴰ·cases-cons}
-use Prim.Native.Nat.{ℕ, zero, suc, _+_, _≤_, _<_}
+use mathlib.Core.List.{List, [], _∷_, _++_, append-nil, append-assoc, List·Memᴰ, List·Memᴰ·head, List·Memᴰ·tail, Memᴰ·append-left, Memᴰ·append-right, List·Memᴰ·append-cases, List·Memᴰ·eq-of-singleton, List·Memᴰ·not-nil, List·Memᴰ·cases-cons}
+use Prim.Native.Nat.{ℕ, zero, suc, _+_, _≤_, _<_, zero-le}
 use native.Mathlib.Nat.{le-refl, le-step, le-trans, le-antisymm, le-of-suc-le-suc, lt-of-not-le, not-suc-le-zero, eq-or-lt-of-le}
 use native.Mathlib.Numerals.{add-one}
 use native.Mathlib.Omega.{arith}
-use lib.ListN.{length, length-append}
+use lib.ListN.{length, length-append, set, drop, getD}
 use Rattle.sets.specs.Bounded.{all, any, nothing, found, first, count, select}
 use Rattle.sets.specs.Family.{Ascending, none, more}
 use Rattle.sets.proofs.Logic.{decided, clash, refuted, same-truth, and-left, and-right, and-intro, and-false-cases, or-cases, or-false-left, or-false-right}
@@ -340,3 +340,48 @@ ascending-same (x ∷ k) [] a b f g = absurd (List·Memᴰ·not-nil (f x (List·
 ascending-same (x ∷ k) (y ∷ l) (more bk a) (more bl b) f g =
     let e : x ≡ y = same-heads x y k l bk bl (f x (List·Memᴰ·head refl)) (g y (List·Memᴰ·head refl)) in
     ap₂ _∷_ e (ascending-same k l a b (same-tails x y k l e bk f) (same-tails y x l k (sym e) bl g))
+
+-- ---- a loop that stores the numbers that pass in the front of d
+
+store : (l d : List ℕ) (v : ℕ) → length l < length d → set (l ++ drop (length l) d) (length l) v ≡ l ++ (v ∷ []) ++ drop (suc (length l)) d
+store [] [] v h = absurd (not-suc-le-zero h)
+store [] (x ∷ d) v h = refl
+store (a ∷ l) [] v h = absurd (not-suc-le-zero h)
+store (a ∷ l) (x ∷ d) v h = ap (λ (t : List ℕ). a ∷ t) (store l d v (le-of-suc-le-suc h))
+
+pub collect-none : (p : ℕ → Bool) (d : List ℕ) → d ≡ select 0 p ++ drop (count 0 p) d
+unfolding select count
+collect-none p d = refl
+
+pub collect-hit : (n : ℕ) (p : ℕ → Bool) (d : List ℕ) → p n ≡ true → count n p < length d → set (select n p ++ drop (count n p) d) (count n p) n ≡ select (n + 1) p ++ drop (count n p + 1) d
+collect-hit n p d e h =
+    subst (λ (k : ℕ). set (select n p ++ drop k d) k n ≡ select n p ++ (n ∷ []) ++ drop (suc k) d) (select-length n p)
+    (store (select n p) d n (subst (λ (k : ℕ). k < length d) (sym (select-length n p)) h))
+    ∙ ap₂ (λ (l : List ℕ) (k : ℕ). l ++ drop k d) (sym (select-hit n p e)) (sym (add-one (count n p)))
+
+pub collect-skip : (n : ℕ) (p : ℕ → Bool) (d : List ℕ) → p n ≡ false → select n p ++ drop (count n p) d ≡ select (n + 1) p ++ drop (count n p) d
+collect-skip n p d e = ap (λ (l : List ℕ). l ++ drop (count n p) d) (sym (select-skip n p e))
+
+at-seam : (l : List ℕ) (x : ℕ) (r : List ℕ) → getD (l ++ (x ∷ r)) (length l) 0 ≡ x
+at-seam [] x r = refl
+at-seam (a ∷ l) x r = at-seam l x r
+
+-- what was selected below a bound stands in front of what is selected below a larger one
+pub select-front : (n m : ℕ) (p : ℕ → Bool) → n ≤ m → (r : List ℕ) × (select m p ≡ select n p ++ r)
+select-front n zero p l = ([], ap (λ (k : ℕ). select k p) (sym (le-antisymm l zero-le)) ∙ sym (append-nil (select n p)))
+select-front n (suc m) p l =
+    ⊎-elim (λ e. ([], ap (λ (k : ℕ). select k p) (sym e) ∙ sym (append-nil (select n p))))
+    (λ lt. let w = select-front n m p (le-of-suc-le-suc lt) in
+    ⊎-elim
+    (λ e. (w .0 ++ (m ∷ []), select-hit-suc m p e ∙ ap (λ (l : List ℕ). l ++ (m ∷ [])) (w .1) ∙ append-assoc (select n p) (w .0) (m ∷ [])))
+    (λ e. (w .0, select-skip-suc m p e ∙ w .1))
+    (decided (p m)))
+    (eq-or-lt-of-le l)
+
+-- the number that passes stands at the place that is the count before it
+pub select-at : (n m : ℕ) (p : ℕ → Bool) → n < m → p n ≡ true → getD (select m p) (count n p) 0 ≡ n
+select-at n m p l e =
+    let w = select-front (suc n) m p l in
+    subst (λ (k : ℕ). getD (select m p) k 0 ≡ n) (select-length n p)
+    (ap (λ (l : List ℕ). getD l (length (select n p)) 0) (w .1 ∙ ap (λ (l : List ℕ). l ++ w .0) (select-hit-suc n p e) ∙ append-assoc (select n p) (n ∷ []) (w .0))
+    ∙ at-seam (select n p) n (w .0))

@@ -2,13 +2,15 @@
 -- Assumes nothing.
 use mathlib.Core.Path.{_≡_, refl, sym, ap, _∙_, subst}
 use mathlib.Core.Logic.{⊎-elim}
-use mathlib.Core.Bool.{true, false, not, _&&_, _||_, Bool·beq, false≢true}
-use mathlib.Core.List.{List, [], _∷_, List·Memᴰ, List·Memᴰ·head, List·Memᴰ·tail, Memᴰ·cast, List·Memᴰ·not-nil, List·Memᴰ·cases-cons}
+use mathlib.Core.Bool.{true, false, not, _&&_, _||_, Bool·beq, false≢true, or-false, or-assoc, Bool}
+use mathlib.Core.List.{List, [], _∷_, _++_, List·Memᴰ, List·Memᴰ·head, List·Memᴰ·tail, Memᴰ·cast, List·Memᴰ·not-nil, List·Memᴰ·cases-cons}
 use Prim.Native.Nat.{ℕ, zero, suc, _+_, _^_, _≤_, _<_}
 use native.Mathlib.Nat.{le-of-eq, le-trans}
 use native.Mathlib.Omega.{arith}
 use lib.Dec.{eqb}
-use lib.ListN.{length}
+use native.Mathlib.Numerals.{add-one}
+use lib.ListN.{length, getD, take}
+use lib.Seq.{take-suc}
 use lib.Pow.{pow-pos}
 use borrow.Author.Tests.{eqb-true, eqb-false, eq-eqb, not-true}
 use Rattle.sets.specs.Mask.{common, subset, member}
@@ -180,6 +182,38 @@ holds-mem l s m = holds-intro l s s m (subset-refl s)
 
 pub holds-down : (l : List ℕ) → DownClosed (holds l)
 holds-down l s t h k = let w = holds-found l s h in holds-intro l t (w .0) (w .1) (subset-trans t s (w .0) k (w .2))
+
+-- two lists, one after the other
+pub listed-append : (k l : List ℕ) (s : ℕ) → listed (k ++ l) s ≡ (listed k s || listed l s)
+unfolding listed
+listed-append [] l s = refl
+listed-append (t ∷ k) l s = ap (λ (b : Bool). eqb t s || b) (listed-append k l s) ∙ sym (or-assoc (eqb t s) (listed k s) (listed l s))
+
+pub holds-append : (k l : List ℕ) (s : ℕ) → holds (k ++ l) s ≡ (holds k s || holds l s)
+unfolding holds
+holds-append [] l s = refl
+holds-append (t ∷ k) l s = ap (λ (b : Bool). subset s t || b) (holds-append k l s) ∙ sym (or-assoc (subset s t) (holds k s) (holds l s))
+
+-- the front of a list, as code goes through it
+pub listed-none : (l : List ℕ) (s : ℕ) → listed (take 0 l) s ≡ false
+unfolding listed
+listed-none l s = refl
+
+pub listed-more : (l : List ℕ) (s i : ℕ) → i < length l → listed (take (i + 1) l) s ≡ (listed (take i l) s || eqb (getD l i 0) s)
+unfolding listed
+listed-more l s i h =
+    ap (λ (k : List ℕ). listed k s) (ap (λ (j : ℕ). take j l) (add-one i) ∙ take-suc l i 0 h)
+    ∙ listed-append (take i l) (getD l i 0 ∷ []) s ∙ ap (λ (b : Bool). listed (take i l) s || b) (or-false (eqb (getD l i 0) s))
+
+pub holds-none : (l : List ℕ) (s : ℕ) → holds (take 0 l) s ≡ false
+unfolding holds
+holds-none l s = refl
+
+pub holds-more : (l : List ℕ) (s i : ℕ) → i < length l → holds (take (i + 1) l) s ≡ (holds (take i l) s || subset s (getD l i 0))
+unfolding holds
+holds-more l s i h =
+    ap (λ (k : List ℕ). holds k s) (ap (λ (j : ℕ). take j l) (add-one i) ∙ take-suc l i 0 h)
+    ∙ holds-append (take i l) (getD l i 0 ∷ []) s ∙ ap (λ (b : Bool). holds (take i l) s || b) (or-false (subset s (getD l i 0)))
 
 pub cut-found : (t : ℕ) (l : List ℕ) (s : ℕ) → cut t l s ≡ true → (u : ℕ) × List·Memᴰ u l × (common t u ≡ s)
 unfolding cut

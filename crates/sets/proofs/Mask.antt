@@ -2,7 +2,7 @@
 -- Assumes nothing.
 use mathlib.Core.Path.{_≡_, refl, sym, ap, ap₂, _∙_, subst}
 use mathlib.Core.Logic.{⊎-elim}
-use mathlib.Core.Bool.{Bool, true, false, cond, not, _&&_, _||_, or-false}
+use mathlib.Core.Bool.{Bool, true, false, cond, not, _&&_, _||_, or-false, and-true}
 use Prim.Native.Nat.{ℕ, zero, suc, min, max, _+_, _-_, _/_, _%_, _^_, _≤_, _<_, suc-le-suc}
 use native.Mathlib.Nat.{le-refl, le-step, le-of-suc-le-suc, lt-of-lt-of-le, lt-of-le-of-lt, lt-of-not-le, zero-div, div-one, div-eq-of-lt, div-self, div-div-eq-div-mul, pow-succ', mod-lt, zero-lt-suc, zero-min, zero-max, le-add-right, add-comm, sub-add-cancel, div-eq-sub-div}
 use native.Mathlib.Numerals.{add-one}
@@ -13,7 +13,7 @@ use lib.Bits.{bitAnd, bitOr, and-step, or-step, and-shr, or-shr, and-comm, and-s
 use borrow.Author.Tests.{eqb-true, eqb-false, eq-eqb, ne-eqb}
 use Rattle.sets.specs.Mask.{member, common, union, subset, without, unionOver}
 use Rattle.sets.specs.Bounded.{all, any}
-use Rattle.sets.proofs.Logic.{decided, clash, refuted, same-truth, and-left, and-right, and-intro, or-cases, or-left, or-right, implies-at, implies-fails}
+use Rattle.sets.proofs.Logic.{decided, clash, refuted, same-truth, and-left, and-right, and-intro, and-false-right, true-not, or-cases, or-left, or-right, implies-at, implies-fails}
 use Rattle.sets.proofs.Bounded.{all-at, all-fails, any-found, any-none, any-intro}
 
 -- ---- members
@@ -306,6 +306,13 @@ pub member-without-other : (s i j : ℕ) → (j ≡ i → ⊥) → member (witho
 member-without-other s i j h =
     ⊎-elim (λ m. ap (λ (x : ℕ). member x j) (without-member s i m) ∙ member-sub-other s i m j h)
     (λ f. ap (λ (x : ℕ). member x j) (without-other s i f)) (decided (member s i))
+
+pub member-without : (s i j : ℕ) → member (without s i) j ≡ (member s j && not (eqb j i))
+member-without s i j =
+    ⊎-elim
+    (λ e. ap (λ (x : ℕ). member (without s i) x) (eqb-true j i e) ∙ member-without-same s i ∙ sym (and-false-right (member s j) (true-not e)))
+    (λ e. member-without-other s i j (eqb-false j i e) ∙ sym (ap (λ (b : Bool). member s j && not b) e ∙ and-true (member s j)))
+    (decided (eqb j i))
 
 pub without-subset : (s i : ℕ) → subset (without s i) s ≡ true
 without-subset s i =
