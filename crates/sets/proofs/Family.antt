@@ -267,6 +267,42 @@ cuts-intro [] l s t u m n e = absurd (List·Memᴰ·not-nil m)
 cuts-intro (v ∷ k) l s t u m n e =
     ⊎-elim (λ (d : t ≡ v). or-left (cuts k l s) (cut-intro v l s u n (ap (λ (x : ℕ). common x u) (sym d) ∙ e))) (λ (m′ : List·Memᴰ t k). or-right (cut v l s) (cuts-intro k l s t u m′ n e)) (List·Memᴰ·cases-cons m)
 
+-- one list after the other
+pub cut-append : (t : ℕ) (k l : List ℕ) (s : ℕ) → cut t (k ++ l) s ≡ (cut t k s || cut t l s)
+unfolding cut
+cut-append t [] l s = refl
+cut-append t (u ∷ k) l s = ap (λ (b : Bool). eqb (common t u) s || b) (cut-append t k l s) ∙ sym (or-assoc (eqb (common t u) s) (cut t k s) (cut t l s))
+
+-- the same in the first list
+pub cuts-append : (j k l : List ℕ) (s : ℕ) → cuts (j ++ k) l s ≡ (cuts j l s || cuts k l s)
+unfolding cuts
+cuts-append [] k l s = refl
+cuts-append (t ∷ j) k l s = ap (λ (b : Bool). cut t l s || b) (cuts-append j k l s) ∙ sym (or-assoc (cut t l s) (cuts j l s) (cuts k l s))
+
+-- the front of the second list, as code goes through it: before the first turn
+pub cut-none : (t : ℕ) (l : List ℕ) (s : ℕ) → cut t (take 0 l) s ≡ false
+unfolding cut
+cut-none t l s = refl
+
+-- one turn
+pub cut-more : (t : ℕ) (l : List ℕ) (s i : ℕ) → i < length l → cut t (take (i + 1) l) s ≡ (cut t (take i l) s || eqb (common t (getD l i 0)) s)
+unfolding cut
+cut-more t l s i h =
+    ap (λ (k : List ℕ). cut t k s) (ap (λ (j : ℕ). take j l) (add-one i) ∙ take-suc l i 0 h)
+    ∙ cut-append t (take i l) (getD l i 0 ∷ []) s ∙ ap (λ (b : Bool). cut t (take i l) s || b) (or-false (eqb (common t (getD l i 0)) s))
+
+-- the front of the first list: before the first turn
+pub cuts-none : (k l : List ℕ) (s : ℕ) → cuts (take 0 k) l s ≡ false
+unfolding cuts
+cuts-none k l s = refl
+
+-- one turn
+pub cuts-more : (k l : List ℕ) (s i : ℕ) → i < length k → cuts (take (i + 1) k) l s ≡ (cuts (take i k) l s || cut (getD k i 0) l s)
+unfolding cuts
+cuts-more k l s i h =
+    ap (λ (j : List ℕ). cuts j l s) (ap (λ (j : ℕ). take j k) (add-one i) ∙ take-suc k i 0 h)
+    ∙ cuts-append (take i k) (getD k i 0 ∷ []) l s ∙ ap (λ (b : Bool). cuts (take i k) l s || b) (or-false (cut (getD k i 0) l s))
+
 -- ---- the maximal sets stand for the family
 
 -- what the list of the maximal sets holds, for any family
