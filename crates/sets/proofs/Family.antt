@@ -2,13 +2,15 @@
 -- Assumes nothing.
 use mathlib.Core.Path.{_≡_, refl, sym, ap, _∙_, subst}
 use mathlib.Core.Logic.{⊎-elim}
-use mathlib.Core.Bool.{true, false, not, _&&_, _||_, Bool·beq, false≢true}
-use mathlib.Core.List.{List, [], _∷_, List·Memᴰ, List·Memᴰ·head, List·Memᴰ·tail, Memᴰ·cast, List·Memᴰ·not-nil, List·Memᴰ·cases-cons}
+use mathlib.Core.Bool.{true, false, not, _&&_, _||_, Bool·beq, false≢true, or-false, or-assoc, Bool}
+use mathlib.Core.List.{List, [], _∷_, _++_, List·Memᴰ, List·Memᴰ·head, List·Memᴰ·tail, Memᴰ·cast, List·Memᴰ·not-nil, List·Memᴰ·cases-cons}
 use Prim.Native.Nat.{ℕ, zero, suc, _+_, _^_, _≤_, _<_}
 use native.Mathlib.Nat.{le-of-eq, le-trans}
 use native.Mathlib.Omega.{arith}
 use lib.Dec.{eqb}
-use lib.ListN.{length}
+use native.Mathlib.Numerals.{add-one}
+use lib.ListN.{length, getD, take}
+use lib.Seq.{take-suc}
 use lib.Pow.{pow-pos}
 use borrow.Author.Tests.{eqb-true, eqb-false, eq-eqb, not-true}
 use Rattle.sets.specs.Mask.{common, subset, member}
@@ -22,6 +24,7 @@ use Rattle.sets.proofs.Mask.{subset-refl, subset-trans, subset-antisym,
 abbrev pub DownBelow : ℕ → Family → Type 0
 DownBelow n F = (s t : ℕ) → s < 2 ^ n → F s ≡ true → subset t s ≡ true → F t ≡ true
 
+-- a down-closed family is so below 2 ^ n
 pub down-below : (n : ℕ) (F : Family) → DownClosed F → DownBelow n F
 down-below n F d s t h = d s t
 
@@ -31,10 +34,12 @@ Within n l = (t : ℕ) → List·Memᴰ t l → t < 2 ^ n
 
 -- ---- same
 
+-- the same: equal at each set
 pub same-at : (n : ℕ) (F G : Family) → same n F G ≡ true → (s : ℕ) → s < 2 ^ n → F s ≡ G s
 unfolding same
 same-at n F G h s l = beq-same (F s) (G s) (all-at (2 ^ n) (λ s. Bool·beq (F s) (G s)) h s l)
 
+-- equal at each set: the same
 pub same-intro : (n : ℕ) (F G : Family) → ((s : ℕ) → s < 2 ^ n → F s ≡ G s) → same n F G ≡ true
 unfolding same
 same-intro n F G h = all-intro (2 ^ n) (λ s. Bool·beq (F s) (G s)) (λ s l. same-beq (h s l))
@@ -48,10 +53,12 @@ same-witness n F G h =
 
 -- ---- one maximal set
 
+-- a maximal set is in the family
 pub isMaximal-in : (n : ℕ) (F : Family) (s : ℕ) → isMaximal n F s ≡ true → F s ≡ true
 unfolding isMaximal
 isMaximal-in n F s h = and-left (F s) (all (2 ^ n) (λ t. not (F t && subset s t) || eqb t s)) h
 
+-- a set of the family that holds it is it
 pub isMaximal-only : (n : ℕ) (F : Family) (s : ℕ) → isMaximal n F s ≡ true → (t : ℕ) → t < 2 ^ n → F t ≡ true → subset s t ≡ true → t ≡ s
 unfolding isMaximal
 isMaximal-only n F s h t l f k =
@@ -60,6 +67,7 @@ isMaximal-only n F s h t l f k =
     (all-at (2 ^ n) (λ t. not (F t && subset s t) || eqb t s) (and-right (F s) (all (2 ^ n) (λ t. not (F t && subset s t) || eqb t s)) h) t l)
     (and-intro f k))
 
+-- a set of the family that no other holds is maximal
 pub isMaximal-intro : (n : ℕ) (F : Family) (s : ℕ) → F s ≡ true → ((t : ℕ) → t < 2 ^ n → F t ≡ true → subset s t ≡ true → t ≡ s) → isMaximal n F s ≡ true
 unfolding isMaximal
 isMaximal-intro n F s f h =
@@ -78,6 +86,7 @@ isMaximal-beaten n F s f h =
     (w .0, w .1, and-left (F (w .0)) (subset s (w .0)) (v .0), and-right (F (w .0)) (subset s (w .0)) (v .0), eqb-false (w .0) s (v .1)))
     (decided (all (2 ^ n) (λ t. not (F t && subset s t) || eqb t s)))
 
+-- a set that lies in another is not maximal
 pub isMaximal-refuted : (n : ℕ) (F : Family) (s t : ℕ) → t < 2 ^ n → F t ≡ true → subset s t ≡ true → (t ≡ s → ⊥) → isMaximal n F s ≡ false
 isMaximal-refuted n F s t l f k d = refuted (isMaximal n F s) (λ h. d (isMaximal-only n F s h t l f k))
 
@@ -103,32 +112,39 @@ maximal-by-states n F d s h =
 
 -- ---- the list of maximal sets
 
+-- what a listed set is
 pub mem-maximal : (n : ℕ) (F : Family) (s : ℕ) → List·Memᴰ s (maximal n F) → (s < 2 ^ n) × (F s ≡ true) × ((t : ℕ) → t < 2 ^ n → F t ≡ true → subset s t ≡ true → t ≡ s)
 unfolding maximal
 mem-maximal n F s m =
     let w = mem-select (2 ^ n) (isMaximal n F) s m in
     (w .0, isMaximal-in n F s (w .1), isMaximal-only n F s (w .1))
 
+-- such a set is listed
 pub maximal-mem : (n : ℕ) (F : Family) (s : ℕ) → s < 2 ^ n → F s ≡ true → ((t : ℕ) → t < 2 ^ n → F t ≡ true → subset s t ≡ true → t ≡ s) → List·Memᴰ s (maximal n F)
 unfolding maximal
 maximal-mem n F s l f h = select-mem (2 ^ n) (isMaximal n F) s l (isMaximal-intro n F s f h)
 
+-- the same, by the test
 pub maximal-is : (n : ℕ) (F : Family) (s : ℕ) → s < 2 ^ n → isMaximal n F s ≡ true → List·Memᴰ s (maximal n F)
 unfolding maximal
 maximal-is n F s l m = select-mem (2 ^ n) (isMaximal n F) s l m
 
+-- the listed sets are sets of states below n
 pub maximal-within : (n : ℕ) (F : Family) → Within n (maximal n F)
 maximal-within n F t m = mem-maximal n F t m .0
 
+-- their masks ascend
 pub maximal-ascending : (n : ℕ) (F : Family) → Ascending (maximal n F)
 unfolding maximal
 maximal-ascending n F = select-ascending (2 ^ n) (isMaximal n F)
 
+-- none lies in another
 pub maximal-antichain : (n : ℕ) (F : Family) → Antichain (maximal n F)
 maximal-antichain n F s t a b k =
     let v = mem-maximal n F t b in
     sym (mem-maximal n F s a .2 t (v .0) (v .1) k)
 
+-- there are at most 2 ^ n
 pub maximal-length : (n : ℕ) (F : Family) → length (maximal n F) ≤ 2 ^ n
 unfolding maximal
 maximal-length n F = le-trans (le-of-eq (select-length (2 ^ n) (isMaximal n F))) (count-le (2 ^ n) (isMaximal n F))
@@ -151,59 +167,141 @@ above n F s l f = climb (2 ^ n) n F s (omega arith) l f
 
 -- ---- a list as a family
 
+-- a set that passes is a member of the list
 pub listed-mem : (l : List ℕ) (s : ℕ) → listed l s ≡ true → List·Memᴰ s l
 unfolding listed
 listed-mem [] s h = absurd (false≢true h)
 listed-mem (t ∷ l) s h =
     ⊎-elim (λ e. List·Memᴰ·head (sym (eqb-true t s e))) (λ e. List·Memᴰ·tail (listed-mem l s e)) (or-cases (eqb t s) (listed l s) h)
 
+-- a member of the list passes
 pub mem-listed : (l : List ℕ) (s : ℕ) → List·Memᴰ s l → listed l s ≡ true
 unfolding listed
 mem-listed [] s m = absurd (List·Memᴰ·not-nil m)
 mem-listed (t ∷ l) s m =
     ⊎-elim (λ (e : s ≡ t). or-left (listed l s) (eq-eqb t s (sym e))) (λ (k : List·Memᴰ s l). or-right (eqb t s) (mem-listed l s k)) (List·Memᴰ·cases-cons m)
 
+-- a set that is held lies in one of the list
 pub holds-found : (l : List ℕ) (s : ℕ) → holds l s ≡ true → (t : ℕ) × List·Memᴰ t l × (subset s t ≡ true)
 unfolding holds
 holds-found [] s h = absurd (false≢true h)
 holds-found (t ∷ l) s h =
     ⊎-elim (λ e. (t, List·Memᴰ·head refl, e)) (λ e. let w = holds-found l s e in (w .0, List·Memᴰ·tail (w .1), w .2)) (or-cases (subset s t) (holds l s) h)
 
+-- a set that lies in one of the list is held
 pub holds-intro : (l : List ℕ) (s t : ℕ) → List·Memᴰ t l → subset s t ≡ true → holds l s ≡ true
 unfolding holds
 holds-intro [] s t m k = absurd (List·Memᴰ·not-nil m)
 holds-intro (u ∷ l) s t m k =
     ⊎-elim (λ (e : t ≡ u). or-left (holds l s) (subst (λ (x : ℕ). subset s x ≡ true) e k)) (λ (m′ : List·Memᴰ t l). or-right (subset s u) (holds-intro l s t m′ k)) (List·Memᴰ·cases-cons m)
 
+-- the list holds its own sets
 pub holds-mem : (l : List ℕ) (s : ℕ) → List·Memᴰ s l → holds l s ≡ true
 holds-mem l s m = holds-intro l s s m (subset-refl s)
 
+-- it holds their subsets
 pub holds-down : (l : List ℕ) → DownClosed (holds l)
 holds-down l s t h k = let w = holds-found l s h in holds-intro l t (w .0) (w .1) (subset-trans t s (w .0) k (w .2))
 
+-- two lists, one after the other
+pub listed-append : (k l : List ℕ) (s : ℕ) → listed (k ++ l) s ≡ (listed k s || listed l s)
+unfolding listed
+listed-append [] l s = refl
+listed-append (t ∷ k) l s = ap (λ (b : Bool). eqb t s || b) (listed-append k l s) ∙ sym (or-assoc (eqb t s) (listed k s) (listed l s))
+
+-- the same for what they hold
+pub holds-append : (k l : List ℕ) (s : ℕ) → holds (k ++ l) s ≡ (holds k s || holds l s)
+unfolding holds
+holds-append [] l s = refl
+holds-append (t ∷ k) l s = ap (λ (b : Bool). subset s t || b) (holds-append k l s) ∙ sym (or-assoc (subset s t) (holds k s) (holds l s))
+
+-- the front of a list, as code goes through it: before the first turn
+pub listed-none : (l : List ℕ) (s : ℕ) → listed (take 0 l) s ≡ false
+unfolding listed
+listed-none l s = refl
+
+-- one turn
+pub listed-more : (l : List ℕ) (s i : ℕ) → i < length l → listed (take (i + 1) l) s ≡ (listed (take i l) s || eqb (getD l i 0) s)
+unfolding listed
+listed-more l s i h =
+    ap (λ (k : List ℕ). listed k s) (ap (λ (j : ℕ). take j l) (add-one i) ∙ take-suc l i 0 h)
+    ∙ listed-append (take i l) (getD l i 0 ∷ []) s ∙ ap (λ (b : Bool). listed (take i l) s || b) (or-false (eqb (getD l i 0) s))
+
+-- before the first turn
+pub holds-none : (l : List ℕ) (s : ℕ) → holds (take 0 l) s ≡ false
+unfolding holds
+holds-none l s = refl
+
+-- one turn
+pub holds-more : (l : List ℕ) (s i : ℕ) → i < length l → holds (take (i + 1) l) s ≡ (holds (take i l) s || subset s (getD l i 0))
+unfolding holds
+holds-more l s i h =
+    ap (λ (k : List ℕ). holds k s) (ap (λ (j : ℕ). take j l) (add-one i) ∙ take-suc l i 0 h)
+    ∙ holds-append (take i l) (getD l i 0 ∷ []) s ∙ ap (λ (b : Bool). holds (take i l) s || b) (or-false (subset s (getD l i 0)))
+
+-- the set of the list that gives s
 pub cut-found : (t : ℕ) (l : List ℕ) (s : ℕ) → cut t l s ≡ true → (u : ℕ) × List·Memᴰ u l × (common t u ≡ s)
 unfolding cut
 cut-found t [] s h = absurd (false≢true h)
 cut-found t (u ∷ l) s h =
     ⊎-elim (λ e. (u, List·Memᴰ·head refl, eqb-true (common t u) s e)) (λ e. let w = cut-found t l s e in (w .0, List·Memᴰ·tail (w .1), w .2)) (or-cases (eqb (common t u) s) (cut t l s) h)
 
+-- a set of the list that gives s
 pub cut-intro : (t : ℕ) (l : List ℕ) (s u : ℕ) → List·Memᴰ u l → common t u ≡ s → cut t l s ≡ true
 unfolding cut
 cut-intro t [] s u m e = absurd (List·Memᴰ·not-nil m)
 cut-intro t (v ∷ l) s u m e =
     ⊎-elim (λ (d : u ≡ v). or-left (cut t l s) (eq-eqb (common t v) s (ap (λ (x : ℕ). common t x) (sym d) ∙ e))) (λ (k : List·Memᴰ u l). or-right (eqb (common t v) s) (cut-intro t l s u k e)) (List·Memᴰ·cases-cons m)
 
+-- the sets, one from each list, that give s
 pub cuts-found : (k l : List ℕ) (s : ℕ) → cuts k l s ≡ true → (t : ℕ) × (u : ℕ) × List·Memᴰ t k × List·Memᴰ u l × (common t u ≡ s)
 unfolding cuts
 cuts-found [] l s h = absurd (false≢true h)
 cuts-found (t ∷ k) l s h =
     ⊎-elim (λ e. let w = cut-found t l s e in (t, w .0, List·Memᴰ·head refl, w .1, w .2)) (λ e. let w = cuts-found k l s e in (w .0, w .1, List·Memᴰ·tail (w .2), w .3, w .4)) (or-cases (cut t l s) (cuts k l s) h)
 
+-- sets, one from each list, that give s
 pub cuts-intro : (k l : List ℕ) (s t u : ℕ) → List·Memᴰ t k → List·Memᴰ u l → common t u ≡ s → cuts k l s ≡ true
 unfolding cuts
 cuts-intro [] l s t u m n e = absurd (List·Memᴰ·not-nil m)
 cuts-intro (v ∷ k) l s t u m n e =
     ⊎-elim (λ (d : t ≡ v). or-left (cuts k l s) (cut-intro v l s u n (ap (λ (x : ℕ). common x u) (sym d) ∙ e))) (λ (m′ : List·Memᴰ t k). or-right (cut v l s) (cuts-intro k l s t u m′ n e)) (List·Memᴰ·cases-cons m)
+
+-- one list after the other
+pub cut-append : (t : ℕ) (k l : List ℕ) (s : ℕ) → cut t (k ++ l) s ≡ (cut t k s || cut t l s)
+unfolding cut
+cut-append t [] l s = refl
+cut-append t (u ∷ k) l s = ap (λ (b : Bool). eqb (common t u) s || b) (cut-append t k l s) ∙ sym (or-assoc (eqb (common t u) s) (cut t k s) (cut t l s))
+
+-- the same in the first list
+pub cuts-append : (j k l : List ℕ) (s : ℕ) → cuts (j ++ k) l s ≡ (cuts j l s || cuts k l s)
+unfolding cuts
+cuts-append [] k l s = refl
+cuts-append (t ∷ j) k l s = ap (λ (b : Bool). cut t l s || b) (cuts-append j k l s) ∙ sym (or-assoc (cut t l s) (cuts j l s) (cuts k l s))
+
+-- the front of the second list, as code goes through it: before the first turn
+pub cut-none : (t : ℕ) (l : List ℕ) (s : ℕ) → cut t (take 0 l) s ≡ false
+unfolding cut
+cut-none t l s = refl
+
+-- one turn
+pub cut-more : (t : ℕ) (l : List ℕ) (s i : ℕ) → i < length l → cut t (take (i + 1) l) s ≡ (cut t (take i l) s || eqb (common t (getD l i 0)) s)
+unfolding cut
+cut-more t l s i h =
+    ap (λ (k : List ℕ). cut t k s) (ap (λ (j : ℕ). take j l) (add-one i) ∙ take-suc l i 0 h)
+    ∙ cut-append t (take i l) (getD l i 0 ∷ []) s ∙ ap (λ (b : Bool). cut t (take i l) s || b) (or-false (eqb (common t (getD l i 0)) s))
+
+-- the front of the first list: before the first turn
+pub cuts-none : (k l : List ℕ) (s : ℕ) → cuts (take 0 k) l s ≡ false
+unfolding cuts
+cuts-none k l s = refl
+
+-- one turn
+pub cuts-more : (k l : List ℕ) (s i : ℕ) → i < length k → cuts (take (i + 1) k) l s ≡ (cuts (take i k) l s || cut (getD k i 0) l s)
+unfolding cuts
+cuts-more k l s i h =
+    ap (λ (j : List ℕ). cuts j l s) (ap (λ (j : ℕ). take j k) (add-one i) ∙ take-suc k i 0 h)
+    ∙ cuts-append (take i k) (getD k i 0 ∷ []) l s ∙ ap (λ (b : Bool). cuts (take i k) l s || b) (or-false (cut (getD k i 0) l s))
 
 -- ---- the maximal sets stand for the family
 
@@ -214,11 +312,13 @@ maximal-found n F s h =
     let v = mem-maximal n F (w .0) (w .1) in
     (w .0, v .0, v .1, w .2)
 
+-- it holds each subset of a set of the family
 pub maximal-holds : (n : ℕ) (F : Family) (s t : ℕ) → t < 2 ^ n → F t ≡ true → subset s t ≡ true → holds (maximal n F) s ≡ true
 maximal-holds n F s t l f k =
     let w = above n F t l f in
     holds-intro (maximal n F) s (w .0) (maximal-is n F (w .0) (w .1) (w .2)) (subset-trans s t (w .0) k (w .3))
 
+-- a down-closed family is what the list of its maximal sets holds
 pub represents : (n : ℕ) (F : Family) → DownBelow n F → (s : ℕ) → s < 2 ^ n → holds (maximal n F) s ≡ F s
 represents n F d s l =
     same-truth (holds (maximal n F) s) (F s) (λ h. let w = maximal-found n F s h in d (w .0) s (w .1) (w .2) (w .3))
@@ -243,11 +343,12 @@ pub maximal-covers : (n : ℕ) (F G : Family) → Covers n G F → Covers n F G 
 maximal-covers n F G c d =
     ascending-same (maximal n F) (maximal n G) (maximal-ascending n F) (maximal-ascending n G) (cover-mem n F G c d) (cover-mem n G F d c)
 
--- the same sets, the same maximal sets; and the other way for down-closed families
+-- equal families, equal lists of maximal sets
 pub maximal-ext : (n : ℕ) (F G : Family) → ((s : ℕ) → s < 2 ^ n → F s ≡ G s) → maximal n F ≡ maximal n G
 maximal-ext n F G h =
     maximal-covers n F G (λ s l f. (s, l, sym (h s l) ∙ f, subset-refl s)) (λ s l g. (s, l, h s l ∙ g, subset-refl s))
 
+-- equal lists of maximal sets, equal families
 pub maximal-same : (n : ℕ) (F G : Family) → DownBelow n F → DownBelow n G → maximal n F ≡ maximal n G → (s : ℕ) → s < 2 ^ n → F s ≡ G s
 maximal-same n F G c d e s l =
     sym (represents n F c s l) ∙ ap (λ (k : List ℕ). holds k s) e ∙ represents n G d s l
@@ -257,6 +358,7 @@ pub maximal-down : (n : ℕ) (F : Family) → maximal n (holds (maximal n F)) �
 maximal-down n F =
     maximal-covers n (holds (maximal n F)) F (λ s l h. maximal-found n F s h) (λ s l f. (s, l, maximal-holds n F s s l f (subset-refl s), subset-refl s))
 
+-- the sets of a list, and what it holds
 pub maximal-listed : (n : ℕ) (l : List ℕ) → Within n l → maximal n (listed l) ≡ maximal n (holds l)
 maximal-listed n l b =
     maximal-covers n (listed l) (holds l) (λ s h f. (s, h, holds-mem l s (listed-mem l s f), subset-refl s))
@@ -277,6 +379,7 @@ maximal-self n l b a c =
 -- ---- join and meet
 
 module _ (n : ℕ) (k l : List ℕ) (bk : Within n k) (bl : Within n l) where
+  -- join is the list of the maximal sets that either list holds
   pub join-maximal : join n k l ≡ maximal n (λ s. holds k s || holds l s)
   unfolding join
   join-maximal =
@@ -292,6 +395,7 @@ module _ (n : ℕ) (k l : List ℕ) (bk : Within n k) (bl : Within n l) where
       (λ a. let w = holds-found l s a in (w .0, bl (w .0) (w .1), or-right (listed k (w .0)) (mem-listed l (w .0) (w .1)), w .2))
       (or-cases (holds k s) (holds l s) f))
 
+  -- meet is the list of the maximal sets that both lists hold
   pub meet-maximal : meet n k l ≡ maximal n (λ s. holds k s && holds l s)
   unfolding meet
   meet-maximal =
@@ -311,7 +415,7 @@ module _ (n : ℕ) (k l : List ℕ) (bk : Within n k) (bl : Within n l) where
         common-greatest s (v .0) (w .0) (v .2) (w .2),
       ))
 
-  -- what they hold
+  -- what the join holds
   pub join-holds : (s : ℕ) → s < 2 ^ n → holds (join n k l) s ≡ (holds k s || holds l s)
   join-holds s h =
       ap (λ (m : List ℕ). holds m s) join-maximal
@@ -319,6 +423,7 @@ module _ (n : ℕ) (k l : List ℕ) (bk : Within n k) (bl : Within n l) where
       (λ s t h f c. ⊎-elim (λ a. or-left (holds l t) (holds-down k s t a c)) (λ a. or-right (holds k t) (holds-down l s t a c)) (or-cases (holds k s) (holds l s) f))
       s h
 
+  -- what the meet holds
   pub meet-holds : (s : ℕ) → s < 2 ^ n → holds (meet n k l) s ≡ (holds k s && holds l s)
   meet-holds s h =
       ap (λ (m : List ℕ). holds m s) meet-maximal
