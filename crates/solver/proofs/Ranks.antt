@@ -5,7 +5,7 @@ use mathlib.Core.Logic.{_⊎_, inl, inr, ⊎-elim}
 use mathlib.Core.Bool.{Bool, true, false}
 use mathlib.Core.List.{List}
 use Prim.Native.Nat.{ℕ, zero, suc, _+_, _^_, _≤_, _<_}
-use native.Mathlib.Nat.{le-refl, le-step, lt-irrefl, le-of-eq, eq-or-lt-of-le, not-suc-le-zero}
+use native.Mathlib.Nat.{le-refl, le-antisymm, le-step, lt-irrefl, le-of-eq, eq-or-lt-of-le, not-suc-le-zero}
 use native.Mathlib.Numerals.{add-one}
 use native.Mathlib.Omega.{arith}
 use lib.Dec.{eqb, leb}
@@ -15,9 +15,9 @@ use borrow.Author.Count.{below-more}
 use borrow.Author.Tests.{le-leb, lt-leb, eqb-true, leb-true, leb-false}
 use Rattle.sets.specs.Bounded.{count}
 use Rattle.sets.proofs.Logic.{decided, clash, refuted}
-use Rattle.sets.proofs.Bounded.{count-zero, count-le, count-all, count-skip-suc}
+use Rattle.sets.proofs.Bounded.{count-zero, count-le, count-all, count-skip-suc, count-skip, count-hit}
 use Rattle.games.specs.Game.{Game}
-use Rattle.games.specs.Step.{good}
+use Rattle.games.specs.Step.{step, good}
 use Rattle.games.proofs.Steps.{good-falls, good-fewer}
 use Rattle.solver.specs.Ranks.{rank, Ranked, Tells, Passing}
 
@@ -102,3 +102,41 @@ module _ (g : Game) where
 
   pub ranked-tells : (k : ℕ) (d : List ℕ) → Ranked g k d → Tells g k d
   ranked-tells k d r = record { size = r .size; tells = λ s b. ap (leb k) (r .at s b) ∙ rank-tells k s }
+
+-- a pass from k to k + 1 at i: the ranks, and how many sets below i are good for k + 1
+pub record Counted (g : Game) (k i left : ℕ) (d : List ℕ) : Type 0 where
+  pub passing : Passing g k i d
+  pub counts : left ≡ count i (good g (suc k))
+  pub within : i ≤ 2 ^ g .states
+
+module _ (g : Game) (k : ℕ) (d : List ℕ) where
+  pub counted-none : Ranked g k d → Counted g k 0 0 d
+  counted-none r = record { passing = passing-none g k d r; counts = sym (count-zero (good g (suc k))); within = omega arith }
+
+  module _ (i left : ℕ) (w : Counted g k i left d) (l : i < 2 ^ g .states) where
+    counted-lost : good g (suc k) i ≡ false → Counted g k (i + 1) left d
+    counted-lost h =
+        record { passing = passing-skip g k d i h (w .passing); counts = w .counts ∙ sym (count-skip i (good g (suc k)) h); within = omega arith }
+
+    -- its rank is not k: it was lost before
+    pub counted-before : (getD d i 0 ≡ k → ⊥) → Counted g k (i + 1) left d
+    counted-before h = counted-lost (rank-below g k i (λ e. h (w .passing .left i (le-refl i) l ∙ e)))
+
+    pub counted-now : false ≡ step g (good g k) i → Counted g k (i + 1) left d
+    unfolding good
+    counted-now h = counted-lost (sym h)
+
+    pub counted-hit : true ≡ step g (good g k) i → Counted g k (i + 1) (left + 1) (set d i (k + 1))
+    unfolding good
+    counted-hit h =
+        record {
+          passing = passing-hit g k d i l (sym h) (w .passing);
+          counts = ap (λ (n : ℕ). n + 1) (w .counts) ∙ sym (count-hit i (good g (suc k)) (sym h));
+          within = omega arith
+        }
+
+  pub counted-end : (i left : ℕ) → 2 ^ g .states ≤ i → Counted g k i left d → Ranked g (k + 1) d × (left ≡ count (2 ^ g .states) (good g (k + 1)))
+  counted-end i left h w =
+      let e : i ≡ 2 ^ g .states = le-antisymm (w .within) h in
+      rw add-one
+      (passing-end g k d i h (w .passing), subst (λ (n : ℕ). left ≡ count n (good g (suc k))) e (w .counts))

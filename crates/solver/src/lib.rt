@@ -1,1 +1,80 @@
-// The solver.
+// The solver: the search on sets, and the card.
+ghost use mathlib.Core.Path.{_≡_};
+ghost use Prim.Native.Nat.{_+_, _<_, _≤_, _^_};
+ghost use lib.ListN.{length};
+ghost use Rattle.sets.specs.Bounded.{count};
+ghost use Rattle.games.specs.Words.{game};
+ghost use Rattle.games.specs.Step.{meets, step, good};
+ghost use Rattle.tables.specs.Check.{checked};
+ghost use Rattle.tables.specs.declared.Checked.the-variants.{Fine};
+ghost use Rattle.solver.specs.Ranks.{Ranked, Tells};
+
+use games::{Action, Observation};
+use tables::Walked;
+
+// The number of sets of n states.
+fn set_count(n: u32) -> usize
+    requires { ⌜ n ≤ 12 ⌝ }
+    ensures { λ r. ⌜ r ≡ 2 ^ n ⌝ }
+{
+    1usize << n
+}
+
+// The action is enabled at all members of s, and leads to sets that are good for k.
+fn action_meets(table: &[u32], ranks: &[u32], s: u32, a: Action, k: u32) -> bool
+    requires { ⌜ (checked (now table) ≡ Fine) × Tells (game (now table)) k (now ranks) × (a .0 < game (now table) .actions) ⌝ }
+    ensures { λ r. ⌜ r ≡ meets (game (now (table .entry))) (good (game (now (table .entry))) k) s (a .0) ⌝ }
+{
+    let walked = tables::walk(table, s, a);
+    let Walked::Post(u) = walked else {
+        return false;
+    };
+    let o = tables::observations(table);
+    let mut j: u32 = 0;
+    while j < o {
+        let t = (u & tables::shown(table, Observation(j))) as usize;
+        if ranks[t] < k {
+            return false;
+        }
+        j += 1;
+    }
+    true
+}
+
+// The step: a set with no bad state for which one action meets it.
+fn stays_good(table: &[u32], ranks: &[u32], s: u32, k: u32) -> bool
+    requires { ⌜ (checked (now table) ≡ Fine) × Tells (game (now table)) k (now ranks) ⌝ }
+    ensures { λ r. ⌜ r ≡ step (game (now (table .entry))) (good (game (now (table .entry))) k) s ⌝ }
+{
+    if s & tables::bad(table) != 0 {
+        return false;
+    }
+    let actions = tables::actions(table);
+    let mut a: u32 = 0;
+    while a < actions {
+        if action_meets(table, ranks, s, Action(a), k) {
+            return true;
+        }
+        a += 1;
+    }
+    false
+}
+
+// One application of the step, in place: the sets that are good for k + 1 get that rank. How many they are.
+fn pass(table: &[u32], ranks: &mut [u32], k: u32) -> usize
+    requires { ⌜ (checked (now table) ≡ Fine) × Ranked (game (now table)) k (now ranks) × (k < 4096) ⌝ }
+    ensures { λ r. ⌜ Ranked (game (now (table .entry))) (k + 1) (now (ranks .exit)) × (r ≡ count (2 ^ game (now (table .entry)) .states) (good (game (now (table .entry))) (k + 1))) ⌝ }
+{
+    let mut left: usize = 0;
+    let mut s: usize = 0;
+    while s < ranks.len() {
+        if ranks[s] == k {
+            if stays_good(table, ranks, s as u32, k) {
+                ranks[s] = k + 1;
+                left += 1;
+            }
+        }
+        s += 1;
+    }
+    left
+}

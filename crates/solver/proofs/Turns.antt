@@ -1,0 +1,92 @@
+-- What one turn of the search's loops shows, over plain variables.
+-- Assumes nothing.
+use mathlib.Core.Path.{_≡_, refl, sym, ap, _∙_, subst}
+use mathlib.Core.Logic.{_⊎_, ⊎-elim}
+use mathlib.Core.Bool.{Bool, true, false, cond, _&&_}
+use mathlib.Core.List.{List}
+use Prim.Native.Nat.{ℕ, _+_, _^_, _≤_, _<_}
+use native.Mathlib.Omega.{arith}
+use lib.Dec.{eqb, leb}
+use lib.ListN.{length, getD}
+use lib.Pow.{pow-mono}
+use borrow.Author.Tests.{eq-eqb, ne-eqb, lt-leb, le-leb}
+use Rattle.sets.specs.Mask.{common}
+use Rattle.sets.specs.Bounded.{all, any}
+use Rattle.sets.specs.Family.{Family}
+use Rattle.sets.proofs.Logic.{decided, clash, refuted, and-intro, and-false-left, and-false-right}
+use Rattle.sets.proofs.Bounded.{all-refuted, all-more, any-intro, any-more}
+use Rattle.sets.proofs.Mask.{common-lt}
+use Rattle.games.specs.Game.{Game, Accepted}
+use Rattle.games.specs.Step.{safe, enabledAt, post, after, meets, step, good}
+use Rattle.games.specs.Words.{game}
+use Rattle.tables.specs.Layout.{Sized}
+use Rattle.tables.specs.Check.{checked}
+use Rattle.tables.specs.declared.Checked.the-variants.{Fine}
+use Rattle.tables.specs.Walk.{walked}
+use Rattle.tables.specs.declared.Walked.{Walked}
+use Rattle.tables.specs.declared.Walked.the-variants.{Blocked, Post}
+use Rattle.solver.specs.Ranks.{Ranked, Tells}
+
+module _ (g : Game) (F : Family) (s a : ℕ) (r : Walked) (is : r ≡ walked g s a) where
+  walked-post : (u : ℕ) → r ≡ Post u → (enabledAt g s a ≡ true) × (post g s a ≡ u)
+  unfolding walked
+  walked-post u e =
+      ⊎-elim
+      (λ h. (h, let w : walked g s a ≡ Post (post g s a) = rw h in (cc)))
+      (λ h. let w : walked g s a ≡ Blocked = rw h in let z : _≡_ {A = ℕ} 0 1 = cc in absurd (omega arith))
+      (decided (enabledAt g s a))
+
+  pub meets-blocked : r ≡ Blocked → false ≡ meets g F s a
+  unfolding walked meets
+  meets-blocked e =
+      sym
+      (and-false-left (all (g .observations) (λ o. F (after g s a o)))
+      (refuted (enabledAt g s a)
+      (λ h. let w : walked g s a ≡ Post (post g s a) = rw h in let z : _≡_ {A = ℕ} 0 1 = cc in absurd (omega arith))))
+
+  module _ (u : ℕ) (e : r ≡ Post u) where
+    pub meets-fails : (j : ℕ) → j < g .observations → F (common u (g .shown j)) ≡ false → false ≡ meets g F s a
+    unfolding meets after
+    meets-fails j l f =
+        sym
+        (and-false-right (enabledAt g s a)
+        (all-refuted (g .observations) (λ o. F (common (post g s a) (g .shown o))) j l
+        (ap (λ (v : ℕ). F (common v (g .shown j))) (walked-post u e .1) ∙ f)))
+
+    pub meets-holds : all (g .observations) (λ o. F (common u (g .shown o))) ≡ true → true ≡ meets g F s a
+    unfolding meets after
+    meets-holds h =
+        let w = walked-post u e in
+        sym (and-intro (w .0) (subst (λ (v : ℕ). all (g .observations) (λ o. F (common v (g .shown o))) ≡ true) (sym (w .1)) h))
+
+module _ (g : Game) (F : Family) (s : ℕ) where
+  pub step-bad : (common s (g .bad) ≡ 0 → ⊥) → false ≡ step g F s
+  unfolding step safe
+  step-bad h = sym (and-false-left (any (g .actions) (meets g F s)) (ne-eqb (common s (g .bad)) 0 h))
+
+  pub step-none : any (g .actions) (meets g F s) ≡ false → false ≡ step g F s
+  unfolding step
+  step-none h = sym (and-false-right (safe g s) h)
+
+  pub step-hit : common s (g .bad) ≡ 0 → (a : ℕ) → a < g .actions → meets g F s a ≡ true → true ≡ step g F s
+  unfolding step safe
+  step-hit h a l m = sym (and-intro (eq-eqb (common s (g .bad)) 0 h) (any-intro (g .actions) (meets g F s) a l m))
+
+-- what the ranks tell of a set that is read
+module _ (g : Game) (k : ℕ) (d : List ℕ) (t : Tells g k d) (s : ℕ) (b : s < 2 ^ g .states) where
+  pub tells-no : getD d s 0 < k → good g k s ≡ false
+  tells-no h = sym (t .tells s b) ∙ lt-leb k (getD d s 0) h
+
+  pub tells-yes : k ≤ getD d s 0 → good g k s ≡ true
+  tells-yes h = sym (t .tells s b) ∙ le-leb k (getD d s 0) h
+
+  pub tells-inside : s < length d
+  tells-inside = subst (λ (n : ℕ). s < n) (sym (t .size)) b
+
+pub shown-below : (g : Game) → Accepted g → (u j : ℕ) → j < g .observations → common u (g .shown j) < 2 ^ g .states
+shown-below g A u j l = common-lt (g .states) u (g .shown j) (A .shown-below j l)
+
+-- n is at most 12, so there are few sets
+pub sets-few : (w : List ℕ) → Sized w → 2 ^ game w .states ≤ 4096
+unfolding game
+sets-few w z = pow-mono (z .most-states)
