@@ -132,7 +132,7 @@ module _ (g : Game) (k : ℕ) (d : List ℕ) where
         record {
           passing = passing-hit g k d i l (sym h) (w .passing);
           counts = ap (λ (n : ℕ). n + 1) (w .counts) ∙ sym (count-hit i (good g (suc k)) (sym h));
-          within = omega arith
+          within = omega arith;
         }
 
   pub counted-end : (i left : ℕ) → 2 ^ g .states ≤ i → Counted g k i left d → Ranked g (k + 1) d × (left ≡ count (2 ^ g .states) (good g (k + 1)))

@@ -25,9 +25,9 @@ use Rattle.tables.specs.declared.Checked.the-variants.{Fine}
 use Rattle.tables.specs.Walk.{walked}
 use Rattle.tables.specs.declared.Walked.{Walked}
 use Rattle.tables.specs.declared.Walked.the-variants.{Blocked, Post}
-use Rattle.solver.specs.Ranks.{Ranked, Tells}
+use Rattle.solver.specs.Ranks.{Ranked, Tells, shownGood}
 
-module _ (g : Game) (F : Family) (s a : ℕ) (r : Walked) (is : r ≡ walked g s a) where
+module _ (g : Game) (k s a : ℕ) (r : Walked) (is : r ≡ walked g s a) where
   walked-post : (u : ℕ) → r ≡ Post u → (enabledAt g s a ≡ true) × (post g s a ≡ u)
   unfolding walked
   walked-post u e =
@@ -36,28 +36,32 @@ module _ (g : Game) (F : Family) (s a : ℕ) (r : Walked) (is : r ≡ walked g s
       (λ h. let w : walked g s a ≡ Blocked = rw h in let z : _≡_ {A = ℕ} 0 1 = cc in absurd (omega arith))
       (decided (enabledAt g s a))
 
-  pub meets-blocked : r ≡ Blocked → false ≡ meets g F s a
+  -- the action meets the step where the sets after it are good
+  pub meets-shown : (u : ℕ) → r ≡ Post u → shownGood g k u ≡ meets g (good g k) s a
+  unfolding meets after shownGood
+  meets-shown u e =
+      let w = walked-post u e in
+      sym
+      (ap (λ (b : Bool). b && all (g .observations) (λ o. good g k (common (post g s a) (g .shown o)))) (w .0)
+      ∙ ap (λ (v : ℕ). all (g .observations) (λ o. good g k (common v (g .shown o)))) (w .1))
+
+  pub meets-blocked : r ≡ Blocked → false ≡ meets g (good g k) s a
   unfolding walked meets
   meets-blocked e =
       sym
-      (and-false-left (all (g .observations) (λ o. F (after g s a o)))
+      (and-false-left (all (g .observations) (λ o. good g k (after g s a o)))
       (refuted (enabledAt g s a)
       (λ h. let w : walked g s a ≡ Post (post g s a) = rw h in let z : _≡_ {A = ℕ} 0 1 = cc in absurd (omega arith))))
 
-  module _ (u : ℕ) (e : r ≡ Post u) where
-    pub meets-fails : (j : ℕ) → j < g .observations → F (common u (g .shown j)) ≡ false → false ≡ meets g F s a
-    unfolding meets after
-    meets-fails j l f =
-        sym
-        (and-false-right (enabledAt g s a)
-        (all-refuted (g .observations) (λ o. F (common (post g s a) (g .shown o))) j l
-        (ap (λ (v : ℕ). F (common v (g .shown j))) (walked-post u e .1) ∙ f)))
+-- a state of u with its observation at j decides
+module _ (g : Game) (k u : ℕ) where
+  pub shown-fails : (j : ℕ) → j < g .observations → good g k (common u (g .shown j)) ≡ false → false ≡ shownGood g k u
+  unfolding shownGood
+  shown-fails j l f = sym (all-refuted (g .observations) (λ o. good g k (common u (g .shown o))) j l f)
 
-    pub meets-holds : all (g .observations) (λ o. F (common u (g .shown o))) ≡ true → true ≡ meets g F s a
-    unfolding meets after
-    meets-holds h =
-        let w = walked-post u e in
-        sym (and-intro (w .0) (subst (λ (v : ℕ). all (g .observations) (λ o. F (common v (g .shown o))) ≡ true) (sym (w .1)) h))
+  pub shown-holds : all (g .observations) (λ o. good g k (common u (g .shown o))) ≡ true → true ≡ shownGood g k u
+  unfolding shownGood
+  shown-holds h = sym h
 
 module _ (g : Game) (F : Family) (s : ℕ) where
   pub step-bad : (common s (g .bad) ≡ 0 → ⊥) → false ≡ step g F s

@@ -1,13 +1,19 @@
 -- What the search keeps: for each set the number of rounds that it is good for, counted up to the rounds done.
 -- Assumes nothing.
 use mathlib.Core.Path.{_≡_}
+use mathlib.Core.Bool.{Bool}
 use mathlib.Core.List.{List}
 use Prim.Native.Nat.{ℕ, suc, _^_, _≤_, _<_}
 use lib.Dec.{leb}
 use lib.ListN.{length, getD}
-use Rattle.sets.specs.Bounded.{count}
+use Rattle.sets.specs.Mask.{common}
+use Rattle.sets.specs.Bounded.{all, count}
 use Rattle.games.specs.Game.{Game}
 use Rattle.games.specs.Step.{good}
+
+-- for every observation, the states of u that show it form a set good for k
+unfoldable pub shownGood : Game → (k u : ℕ) → Bool
+shownGood g k u = all (g .observations) (λ j. good g k (common u (g .shown j)))
 
 -- how many of the rounds 1 to k the set is good for
 unfoldable pub rank : Game → (k s : ℕ) → ℕ

@@ -7,9 +7,10 @@ ghost use Rattle.games.specs.Words.{game};
 ghost use Rattle.games.specs.Step.{meets, step, good};
 ghost use Rattle.tables.specs.Check.{checked};
 ghost use Rattle.tables.specs.declared.Checked.the-variants.{Fine};
-ghost use Rattle.solver.specs.Ranks.{Ranked, Tells};
-
-use games::{Action, Observation};
+ghost use Rattle.solver.specs.Ranks.{Ranked, Tells, shownGood};
+ghost use Rattle.solver.specs.Search.{Searched};
+use games::Action;
+use games::Observation;
 use tables::Walked;
 
 // The number of sets of n states.
@@ -18,6 +19,23 @@ fn set_count(n: u32) -> usize
     ensures { λ r. ⌜ r ≡ 2 ^ n ⌝ }
 {
     1usize << n
+}
+
+// For every observation, the states of u that show it form a set good for k.
+fn shown_good(table: &[u32], ranks: &[u32], u: u32, k: u32) -> bool
+    requires { ⌜ (checked (now table) ≡ Fine) × Tells (game (now table)) k (now ranks) ⌝ }
+    ensures { λ r. ⌜ r ≡ shownGood (game (now (table .entry))) k u ⌝ }
+{
+    let o = tables::observations(table);
+    let mut j: u32 = 0;
+    while j < o {
+        let t = (u & tables::shown(table, Observation(j))) as usize;
+        if ranks[t] < k {
+            return false;
+        }
+        j += 1;
+    }
+    true
 }
 
 // The action is enabled at all members of s, and leads to sets that are good for k.
@@ -29,16 +47,7 @@ fn action_meets(table: &[u32], ranks: &[u32], s: u32, a: Action, k: u32) -> bool
     let Walked::Post(u) = walked else {
         return false;
     };
-    let o = tables::observations(table);
-    let mut j: u32 = 0;
-    while j < o {
-        let t = (u & tables::shown(table, Observation(j))) as usize;
-        if ranks[t] < k {
-            return false;
-        }
-        j += 1;
-    }
-    true
+    shown_good(table, ranks, u, k)
 }
 
 // The step: a set with no bad state for which one action meets it.
@@ -77,4 +86,32 @@ fn pass(table: &[u32], ranks: &mut [u32], k: u32) -> usize
         s += 1;
     }
     left
+}
+
+// What the search finds: the families settled at k with the start sets in them, or a start set that is not good for k.
+enum Outcome {
+    Settled(u32),
+    Lost(u32),
+}
+
+// Applies the step until a start set is lost or nothing changes.
+fn search(table: &[u32], ranks: &mut [u32]) -> Outcome
+    requires { ⌜ (checked (now table) ≡ Fine) × (length (now ranks) ≡ 2 ^ game (now table) .states) ⌝ }
+    ensures { λ r. ⌜ Searched (game (now (table .entry))) r (now (ranks .exit)) ⌝ }
+{
+    let start = tables::start(table);
+    let mut left = ranks.len();
+    sets::fill(ranks, left, 0);
+    let mut k: u32 = 0;
+    loop {
+        let now = pass(table, ranks, k);
+        if !shown_good(table, ranks, start, k + 1) {
+            return Outcome::Lost(k + 1);
+        }
+        if now == left {
+            return Outcome::Settled(k);
+        }
+        left = now;
+        k += 1;
+    }
 }

@@ -1,131 +1,40 @@
-use borrow.Author.Needs.{needs}
-use mathlib.Core.Bool.{true}
-use mathlib.Core.Path.{_≡_, sym, _∙_}
-use Prim.Native.Nat.{ℕ, _≤_, _<_, _-_, _^_}
-use native.Mathlib.Omega.{arith}
-use lib.ListN.{length}
-use Rattle.sets.specs.Bounded.{all}
-use Rattle.sets.proofs.Bounded.{all-zero, all-more}
-use Rattle.sets.proofs.Logic.{and-intro}
-use Rattle.tables.proofs.Checks.{sized, accepted}
-use Rattle.solver.proofs.Turns.{meets-blocked, meets-fails, meets-holds, tells-no, tells-yes, tells-inside, shown-below}
-use Rattle.sets.specs.Mask.{common}
+use mathlib.Core.Path.{_≡_, _∙_}
 use Rattle.games.specs.Words.{game}
-use Rattle.games.specs.Step.{good}
+use Rattle.tables.proofs.Checks.{sized}
+use Rattle.solver.proofs.Turns.{meets-blocked, meets-shown}
+use borrow.Author.Needs.{needs}
 use Rattle.solver.proofs.action_meets.Statement.{statement}
 use Rattle.solver.proofs.action_meets.Tie as tie
 use Rattle.solver.proofs.action_meets.Reads as reads
 use Rattle.solver.proofs.action_meets.Lts as lts
-use Rattle.tables.proofs.observations.Reads as observations-reads
-use Rattle.tables.proofs.shown.Reads as shown-reads
+use Rattle.solver.proofs.shown_good.Reads as shown-good-reads
 use Rattle.tables.proofs.walk.Reads as walk-reads
 
-abbrev Inv-loop : tie.InvT-loop
-Inv-loop table ranks s k u o j₀ j = (j ≤ o) × (all j (λ i. good (game table) k (common u (game table .shown i))) ≡ true)
-
-abbrev μ-loop : tie.MeasureT-loop
-μ-loop table ranks s k u o j₀ j = o - j
-
-walk-requires : tie.Need-walk-requires Inv-loop μ-loop
+walk-requires : tie.Need-walk-requires
 walk-requires c κs = (sized (c .before .before .args .table .now) (c .before .before .pre .0), c .before .before .pre .2)
 
-enum-known-walked : tie.Need-enum-known-walked Inv-loop μ-loop
+enum-known-walked : tie.Need-enum-known-walked
 enum-known-walked c = search needs
 
-enum-told : tie.Need-enum-told Inv-loop μ-loop
+enum-told : tie.Need-enum-told
 enum-told c = search needs
 
-returns : tie.Need-returns Inv-loop μ-loop
+returns : tie.Need-returns
 returns c =
     let start = c .before .before .before .before .before in
-    meets-blocked (game (start .args .table .now)) (good (game (start .args .table .now)) (start .args .k)) (start .args .s) (start .args .a .0) (c .before .before .walk .result) (c .before .before .walk .ensures) (c .enum-told .given .1)
+    meets-blocked (game (start .args .table .now)) (start .args .k) (start .args .s) (start .args .a .0) (c .before .before .walk .result) (c .before .before .walk .ensures) (c .enum-told .given .1)
 
-observations-requires : tie.Need-observations-requires Inv-loop μ-loop
-observations-requires c κs = let start = c .before .before .before .before .before .before in sized (start .args .table .now) (start .pre .0)
+shown-good-requires : tie.Need-shown-good-requires
+shown-good-requires c κs = search needs
 
-loop-holds : tie.Need-loop-holds Inv-loop μ-loop
-loop-holds c = (search needs, all-zero _)
-
-shown-requires : tie.Need-shown-requires Inv-loop μ-loop
-shown-requires c κs = 
-    let start = c .before .before .before .before .before .before .before .before .before in
-    (sized (start .args .table .now) (start .pre .0), omega arith)
-
--- the set that is read has no state from n up
-below : (c : tie.In-loop Inv-loop μ-loop) (t : ℕ) → t ≡ game (c .before .before .before .before .before .before .before .before .before .args .table .now) .shown (c .before .loop .j) → common (c .before .before .before .before .walked .given .0 .0) t < 2 ^ game (c .before .before .before .before .before .before .before .before .before .args .table .now) .states
-below c t e =
-    let start = c .before .before .before .before .before .before .before .before .before in
-    rw e (shown-below (game (start .args .table .now)) (accepted (start .args .table .now) (start .pre .0)) (c .before .before .before .before .walked .given .0 .0) (c .before .loop .j) (omega arith))
-
-cast-t : tie.Need-cast-t Inv-loop μ-loop
-cast-t c = omega (arith, below (c .before) (c .shown .result) (c .shown .ensures))
-
-mul-if1 : tie.Need-mul-if1 Inv-loop μ-loop
-mul-if1 c = omega (arith, below (c .before) (c .shown .result) (c .shown .ensures))
-
-shared-slice-read-if1 : tie.Need-shared-slice-read-if1 Inv-loop μ-loop
-shared-slice-read-if1 c = omega (arith, below (c .before .before) (c .before .shown .result) (c .before .shown .ensures))
-
-returns-2 : tie.Need-returns-2 Inv-loop μ-loop
+returns-2 : tie.Need-returns-2
 returns-2 c =
-    let inl = c .before .before .before in
-    let start = inl .before .before .before .before .before .before .before .before .before in
-    let g = game (start .args .table .now) in
-    let k = start .args .k in
-    let u = inl .before .before .before .before .walked .given .0 .0 in
-    let j = inl .before .loop .j in
-    let t = c .before .before .shown in
-    let e = t .ensures in
-    meets-fails g (good g k) (start .args .s) (start .args .a .0) (inl .before .before .before .before .before .before .walk .result) (inl .before .before .before .before .before .before .walk .ensures) u (inl .before .before .before .before .walked .given .1) j (omega arith)
-    (tells-no g k (start .args .ranks .now) (start .pre .1) (common u (g .shown j)) (shown-below g (accepted (start .args .table .now) (start .pre .0)) u j (omega arith)) (rw e at (c .if1 .taken)))
-
-add-j : tie.Need-add-j Inv-loop μ-loop
-add-j c = search needs
-
-loop-less : tie.Need-loop-less Inv-loop μ-loop
-loop-less c = search needs
-
-loop-again : tie.Need-loop-again Inv-loop μ-loop
-loop-again c =
-    let inl = c .before .before .before in
-    let start = inl .before .before .before .before .before .before .before .before .before in
-    let g = game (start .args .table .now) in
-    let k = start .args .k in
-    let u = inl .before .before .before .before .walked .given .0 .0 in
-    let j = inl .before .loop .j in
-    let t = c .before .before .shown in
-    let e = t .ensures in
-    (search needs,
-    all-more j (λ i. good g k (common u (g .shown i)))
-    ∙ and-intro (inl .before .loop .inv .1)
-      (tells-yes g k (start .args .ranks .now) (start .pre .1) (common u (g .shown j)) (shown-below g (accepted (start .args .table .now) (start .pre .0)) u j (omega arith)) (rw e at (c .if1 .left))))
-
-returns-3 : tie.Need-returns-3 Inv-loop μ-loop
-returns-3 c =
-    let at = c .before in
-    let start = at .before .before .before .before .before .before .before .before in
-    let g = game (start .args .table .now) in
-    let e : at .loop .j ≡ g .observations = omega arith in
-    meets-holds g (good g (start .args .k)) (start .args .s) (start .args .a .0) (at .before .before .before .before .before .walk .result) (at .before .before .before .before .before .walk .ensures) (at .before .before .before .walked .given .0 .0) (at .before .before .before .walked .given .1) (rw e at (at .loop .inv .1))
+    let after = c .before .before in
+    let start = after .before .before .before .before .before in
+    c .shown-good .ensures
+    ∙ meets-shown (game (start .args .table .now)) (start .args .k) (start .args .s) (start .args .a .0) (after .before .before .walk .result) (after .before .before .walk .ensures) (after .walked .given .0 .0) (after .walked .given .1)
 
 pub action-meets-spec : {M : Type 1} → statement M
 action-meets-spec =
     tie.close
-    (tie.spec
-    Inv-loop
-    μ-loop
-    walk-requires
-    enum-known-walked
-    enum-told
-    returns
-    observations-requires
-    loop-holds
-    shown-requires
-    cast-t
-    mul-if1
-    shared-slice-read-if1
-    returns-2
-    add-j
-    loop-less
-    loop-again
-    returns-3)
+    (tie.spec walk-requires enum-known-walked enum-told returns shown-good-requires returns-2)

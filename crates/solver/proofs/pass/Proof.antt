@@ -72,9 +72,11 @@ loop-again c =
     let i = at .loop .s in
     let left = at .loop .left in
     let inv = at .loop .inv .1 in
-    let l : i < 2 ^ g .states = omega (arith, inv .passing .size) in
-    (at .loop .inv .0, ⊎-elim (λ w. rw (w .4, w .5) (counted-hit g k d i left inv l (cc)))
-    (⊎-elim (λ w. rw (w .4, w .5) (counted-now g k d i left inv l (cc))) (λ w. rw (w .1, w .2) (counted-before g k d i left inv l (w .0 .left)))) (c .if1 .came))
+    let l : i < 2 ^ g .states = omega (arith, inv .passing .size) in (
+      at .loop .inv .0,
+      ⊎-elim (λ w. rw (w .4, w .5) (counted-hit g k d i left inv l (cc)))
+          (⊎-elim (λ w. rw (w .4, w .5) (counted-now g k d i left inv l (cc))) (λ w. rw (w .1, w .2) (counted-before g k d i left inv l (w .0 .left)))) (c .if1 .came),
+    )
 
 same-length : tie.Need-same-length Inv-loop μ-loop
 same-length c = search needs
