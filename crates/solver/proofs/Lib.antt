@@ -1,3 +1,4 @@
 pub mod Ranks
 pub mod Turns
 pub mod Searching
+pub mod Cells

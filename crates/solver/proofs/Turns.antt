@@ -91,6 +91,10 @@ pub shown-below : (g : Game) → Accepted g → (u j : ℕ) → j < g .observati
 shown-below g A u j l = common-lt (g .states) u (g .shown j) (A .shown-below j l)
 
 -- n is at most 12, so there are few sets
+pub few-states : (w : List ℕ) → Sized w → game w .states ≤ 12
+unfolding game
+few-states w z = z .most-states
+
 pub sets-few : (w : List ℕ) → Sized w → 2 ^ game w .states ≤ 4096
 unfolding game
 sets-few w z = pow-mono (z .most-states)

@@ -8,7 +8,9 @@ ghost use Rattle.games.specs.Step.{meets, step, good};
 ghost use Rattle.tables.specs.Check.{checked};
 ghost use Rattle.tables.specs.declared.Checked.the-variants.{Fine};
 ghost use Rattle.solver.specs.Ranks.{Ranked, Tells, shownGood};
-ghost use Rattle.solver.specs.Search.{Searched};
+ghost use Rattle.sets.specs.Family.{isMaximal};
+ghost use Rattle.games.specs.Verdict.{settled};
+ghost use Rattle.solver.specs.Search.{Searched, Kept, Collected};
 use games::Action;
 use games::Observation;
 use tables::Walked;
@@ -114,4 +116,43 @@ fn search(table: &[u32], ranks: &mut [u32]) -> Outcome
         left = now;
         k += 1;
     }
+}
+
+// The set is settled, and with any state more it is not: it is one of the cells.
+fn is_cell(table: &[u32], work: &[u32], k: u32, s: u32) -> bool
+    requires { ⌜ (checked (now table) ≡ Fine) × Kept (game (now table)) k (now work) × (s < 2 ^ game (now table) .states) ⌝ }
+    ensures { λ r. ⌜ r ≡ isMaximal (game (now (table .entry)) .states) (settled (game (now (table .entry)))) s ⌝ }
+{
+    if work[s as usize] <= k {
+        return false;
+    }
+    let n = tables::states(table);
+    let mut i: u32 = 0;
+    while i < n {
+        if !sets::member(s, i) {
+            if k < work[(s + sets::single(i)) as usize] {
+                return false;
+            }
+        }
+        i += 1;
+    }
+    true
+}
+
+// Puts the cells, ascending, behind the ranks. How many they are.
+fn collect(table: &[u32], work: &mut [u32], k: u32) -> usize
+    requires { ⌜ (checked (now table) ≡ Fine) × Kept (game (now table)) k (now work) ⌝ }
+    ensures { λ r. ⌜ Collected (game (now (table .entry))) r (now (work .exit)) ⌝ }
+{
+    let size = set_count(tables::states(table));
+    let mut m: usize = 0;
+    let mut s: usize = 0;
+    while s < size {
+        if is_cell(table, work, k, s as u32) {
+            work[size + m] = s as u32;
+            m += 1;
+        }
+        s += 1;
+    }
+    m
 }
