@@ -1,0 +1,17 @@
+use borrow.Author.Needs.{needs}
+use Rattle.tables.specs.Check.{headRight}
+use Rattle.tables.proofs.head_right.Statement.{statement}
+use Rattle.tables.proofs.head_right.Tie as tie
+use Rattle.tables.proofs.head_right.Reads as reads
+use Rattle.tables.proofs.head_right.Lts as lts
+use Rattle.tables.proofs.limits_hold.Reads as limits-hold-reads
+
+limits-hold-requires : tie.Need-limits-hold-requires
+limits-hold-requires c κs = search needs
+
+returns : tie.Need-returns
+unfolding headRight
+returns c = cc
+
+pub head-right-spec : {M : Type 1} → statement M
+head-right-spec = tie.close (tie.spec limits-hold-requires returns)

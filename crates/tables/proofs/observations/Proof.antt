@@ -1,0 +1,17 @@
+use mathlib.Core.Path.{refl}
+use borrow.Author.Needs.{needs}
+use Rattle.games.specs.Words.{game}
+use Rattle.tables.proofs.observations.Statement.{statement}
+use Rattle.tables.proofs.observations.Tie as tie
+use Rattle.tables.proofs.observations.Reads as reads
+use Rattle.tables.proofs.observations.Lts as lts
+
+shared-slice-read-result : tie.Need-shared-slice-read-result
+shared-slice-read-result c = search needs
+
+returns : tie.Need-returns
+unfolding game
+returns c = refl
+
+pub observations-spec : {M : Type 1} → statement M
+observations-spec = tie.close (tie.spec shared-slice-read-result returns)

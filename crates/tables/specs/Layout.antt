@@ -1,0 +1,37 @@
+-- What stands at each place of a table (document 01, "Words"), and its limits.
+-- Assumes nothing.
+use mathlib.Core.Path.{_≡_}
+use mathlib.Core.Bool.{Bool, true, false, cond}
+use mathlib.Core.List.{List}
+use Prim.Native.Nat.{ℕ, _+_, _-_, _/_, _%_, _≤_}
+use lib.Dec.{eqb, ltb}
+use lib.ListN.{length, getD}
+use Rattle.games.specs.Words.{word, headStates, headActions, headObservations, startPlace, badPlace, shownPlace, tableLength}
+
+-- document 01: n from 1 to 12, a from 1 to 8, o from 1 to 8 readings
+abbrev pub maxStates : ℕ
+maxStates = 12
+
+abbrev pub maxActions : ℕ
+maxActions = 8
+
+abbrev pub maxObservations : ℕ
+maxObservations = 8
+
+-- the word at a place from 1 up, with no state in its mask: its kind, and the reading, or the state and the action, that it is for
+unfoldable pub bareWord : (states observations place : ℕ) → ℕ
+bareWord n o p =
+    cond (eqb p startPlace) (word 2 0 0 0)
+    (cond (eqb p badPlace) (word 3 0 0 0)
+    (cond (ltb p (shownPlace o)) (word 4 0 (p - 3) 0)
+    (word 5 0 ((p - shownPlace o) % n) ((p - shownPlace o) / n))))
+
+-- the head's numbers are within the limits, and the words are as many as they ask
+pub record Sized (w : List ℕ) : Type 0 where
+  pub some-state : 1 ≤ headStates (getD w 0 0)
+  pub most-states : headStates (getD w 0 0) ≤ maxStates
+  pub some-action : 1 ≤ headActions (getD w 0 0)
+  pub most-actions : headActions (getD w 0 0) ≤ maxActions
+  pub some-observation : 1 ≤ headObservations (getD w 0 0)
+  pub most-observations : headObservations (getD w 0 0) ≤ maxObservations
+  pub long : length w ≡ tableLength (headStates (getD w 0 0)) (headActions (getD w 0 0)) (headObservations (getD w 0 0))
