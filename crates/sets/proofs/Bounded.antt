@@ -3,12 +3,12 @@
 use mathlib.Core.Path.{_≡_, refl, sym, ap, ap₂, _∙_, subst}
 use mathlib.Core.Logic.{_⊎_, inl, inr, ⊎-elim}
 use mathlib.Core.Bool.{Bool, true, false, cond, _&&_, _||_, true≢false, false≢true}
-use mathlib.Core.List.{List, [], _∷_, _++_, append-nil, List·Memᴰ, List·Memᴰ·head, List·Memᴰ·tail, Memᴰ·append-left, Memᴰ·append-right, List·Memᴰ·append-cases, List·Memᴰ·eq-of-singleton, List·Memᴰ·not-nil, List·Memᴰ·cases-cons}
-use Prim.Native.Nat.{ℕ, zero, suc, _+_, _≤_, _<_}
+use mathlib.Core.List.{List, [], _∷_, _++_, append-nil, append-assoc, List·Memᴰ, List·Memᴰ·head, List·Memᴰ·tail, Memᴰ·append-left, Memᴰ·append-right, List·Memᴰ·append-cases, List·Memᴰ·eq-of-singleton, List·Memᴰ·not-nil, List·Memᴰ·cases-cons}
+use Prim.Native.Nat.{ℕ, zero, suc, _+_, _≤_, _<_, zero-le}
 use native.Mathlib.Nat.{le-refl, le-step, le-trans, le-antisymm, le-of-suc-le-suc, lt-of-not-le, not-suc-le-zero, eq-or-lt-of-le}
 use native.Mathlib.Numerals.{add-one}
 use native.Mathlib.Omega.{arith}
-use lib.ListN.{length, length-append}
+use lib.ListN.{length, length-append, set, drop, getD}
 use Rattle.sets.specs.Bounded.{all, any, nothing, found, first, count, select}
 use Rattle.sets.specs.Family.{Ascending, none, more}
 use Rattle.sets.proofs.Logic.{decided, clash, refuted, same-truth, and-left, and-right, and-intro, and-false-cases, or-cases, or-false-left, or-false-right}
@@ -19,10 +19,12 @@ top P n here below i l = ⊎-elim (λ e. subst P (sym e) here) (λ lt. below i l
 
 -- ---- all
 
+-- no number, all pass
 pub all-zero : (p : ℕ → Bool) → all 0 p ≡ true
 unfolding all
 all-zero p = refl
 
+-- one number more
 pub all-suc : (n : ℕ) (p : ℕ → Bool) → all (suc n) p ≡ (all n p && p n)
 unfolding all
 all-suc n p = refl
@@ -31,11 +33,13 @@ all-suc n p = refl
 pub all-more : (n : ℕ) (p : ℕ → Bool) → all (n + 1) p ≡ (all n p && p n)
 all-more n p = rw add-one (all-suc n p)
 
+-- all pass, so each does
 pub all-at : (n : ℕ) (p : ℕ → Bool) → all n p ≡ true → (i : ℕ) → i < n → p i ≡ true
 unfolding all
 all-at zero p h i l = absurd (not-suc-le-zero l)
 all-at (suc n) p h i l = top (λ i. p i ≡ true) n (and-right (all n p) (p n) h) (all-at n p (and-left (all n p) (p n) h)) i l
 
+-- each passes, so all do
 pub all-intro : (n : ℕ) (p : ℕ → Bool) → ((i : ℕ) → i < n → p i ≡ true) → all n p ≡ true
 unfolding all
 all-intro zero p h = refl
@@ -48,9 +52,11 @@ all-fails zero p h = absurd (true≢false h)
 all-fails (suc n) p h =
     ⊎-elim (λ e. let w = all-fails n p e in (w .0, le-step (w .1), w .2)) (λ e. (n, le-refl (suc n), e)) (and-false-cases (all n p) (p n) h)
 
+-- one fails, so not all pass
 pub all-refuted : (n : ℕ) (p : ℕ → Bool) (i : ℕ) → i < n → p i ≡ false → all n p ≡ false
 all-refuted n p i l f = refuted (all n p) (λ e. clash (all-at n p e i l) f)
 
+-- tests equal below the bound
 pub all-ext : (n : ℕ) (p q : ℕ → Bool) → ((i : ℕ) → i < n → p i ≡ q i) → all n p ≡ all n q
 unfolding all
 all-ext zero p q h = refl
@@ -58,10 +64,12 @@ all-ext (suc n) p q h = ap₂ _&&_ (all-ext n p q (λ i l. h i (le-step l))) (h 
 
 -- ---- any
 
+-- no number, none passes
 pub any-zero : (p : ℕ → Bool) → any 0 p ≡ false
 unfolding any
 any-zero p = refl
 
+-- one number more
 pub any-suc : (n : ℕ) (p : ℕ → Bool) → any (suc n) p ≡ (any n p || p n)
 unfolding any
 any-suc n p = refl
@@ -77,17 +85,21 @@ any-found zero p h = absurd (false≢true h)
 any-found (suc n) p h =
     ⊎-elim (λ e. let w = any-found n p e in (w .0, le-step (w .1), w .2)) (λ e. (n, le-refl (suc n), e)) (or-cases (any n p) (p n) h)
 
+-- none passes, so each fails
 pub any-none : (n : ℕ) (p : ℕ → Bool) → any n p ≡ false → (i : ℕ) → i < n → p i ≡ false
 unfolding any
 any-none zero p h i l = absurd (not-suc-le-zero l)
 any-none (suc n) p h i l = top (λ i. p i ≡ false) n (or-false-right (any n p) (p n) h) (any-none n p (or-false-left (any n p) (p n) h)) i l
 
+-- one passes, so some does
 pub any-intro : (n : ℕ) (p : ℕ → Bool) (i : ℕ) → i < n → p i ≡ true → any n p ≡ true
 any-intro n p i l t = ⊎-elim (λ e. e) (λ e. clash t (any-none n p e i l)) (decided (any n p))
 
+-- each fails, so none passes
 pub any-refuted : (n : ℕ) (p : ℕ → Bool) → ((i : ℕ) → i < n → p i ≡ false) → any n p ≡ false
 any-refuted n p h = refuted (any n p) (λ e. let w = any-found n p e in clash (w .2) (h (w .0) (w .1)))
 
+-- tests equal below the bound
 pub any-ext : (n : ℕ) (p q : ℕ → Bool) → ((i : ℕ) → i < n → p i ≡ q i) → any n p ≡ any n q
 unfolding any
 any-ext zero p q h = refl
@@ -95,29 +107,35 @@ any-ext (suc n) p q h = ap₂ _||_ (any-ext n p q (λ i l. h i (le-step l))) (h 
 
 -- ---- first
 
+-- no number, none found
 pub first-zero : (p : ℕ → Bool) → first 0 p ≡ nothing
 unfolding first
 first-zero p = refl
 
+-- none so far, and n fails
 pub first-skip-suc : (n : ℕ) (p : ℕ → Bool) → first n p ≡ nothing → p n ≡ false → first (suc n) p ≡ nothing
 unfolding first
 first-skip-suc n p e f = rw (first, e, f)
 
+-- none so far, and n passes
 pub first-hit-suc : (n : ℕ) (p : ℕ → Bool) → first n p ≡ nothing → p n ≡ true → first (suc n) p ≡ found n
 unfolding first
 first-hit-suc n p e f = rw (first, e, f)
 
+-- what was found stays found
 pub first-kept-suc : (n : ℕ) (p : ℕ → Bool) (i : ℕ) → first n p ≡ found i → first (suc n) p ≡ found i
 unfolding first
 first-kept-suc n p i e = rw (first, e)
 
--- as code counts: the turn that passes n by, and the one that stops there
+-- as code counts: the turn that passes n by
 pub first-skip : (n : ℕ) (p : ℕ → Bool) → first n p ≡ nothing → p n ≡ false → first (n + 1) p ≡ nothing
 first-skip n p e f = rw add-one (first-skip-suc n p e f)
 
+-- the turn that stops at n
 pub first-hit : (n : ℕ) (p : ℕ → Bool) → first n p ≡ nothing → p n ≡ true → first (n + 1) p ≡ found n
 first-hit n p e f = rw add-one (first-hit-suc n p e f)
 
+-- what was found stays found
 pub first-kept : (n : ℕ) (p : ℕ → Bool) (i : ℕ) → first n p ≡ found i → first (n + 1) p ≡ found i
 first-kept n p i e = rw add-one (first-kept-suc n p i e)
 
@@ -135,12 +153,14 @@ first-cases (suc n) p =
     (λ w. inr (w .0, first-kept-suc n p (w .0) (w .1), (le-step (w .2 .0), w .2 .1, w .2 .2)))
     (first-cases n p)
 
+-- the number found is the lowest that passes
 pub first-found : (n : ℕ) (p : ℕ → Bool) (i : ℕ) → first n p ≡ found i → Lowest n p i
 first-found n p i h =
     ⊎-elim (λ w. let z : _≡_ {A = ℕ} 0 1 = cc (w .0) in absurd (omega arith))
     (λ w. let e : w .0 ≡ i = cc (w .1) in subst (Lowest n p) e (w .2))
     (first-cases n p)
 
+-- nothing found: each number fails
 pub first-nothing : (n : ℕ) (p : ℕ → Bool) → first n p ≡ nothing → (j : ℕ) → j < n → p j ≡ false
 first-nothing n p h =
     ⊎-elim (λ w. w .1) (λ w. let z : _≡_ {A = ℕ} 0 1 = cc (w .1) in absurd (omega arith)) (first-cases n p)
@@ -148,15 +168,18 @@ first-nothing n p h =
 lowest-le : (p : ℕ → Bool) (i k : ℕ) → p k ≡ true → ((j : ℕ) → j < i → p j ≡ false) → i ≤ k
 lowest-le p i k t h = le-of-suc-le-suc (lt-of-not-le (λ l. clash t (h k l)))
 
+-- the lowest number that passes is found
 pub first-is : (n : ℕ) (p : ℕ → Bool) (i : ℕ) → i < n → p i ≡ true → ((j : ℕ) → j < i → p j ≡ false) → first n p ≡ found i
 first-is n p i l t h =
     ⊎-elim (λ w. clash t (w .1 i l))
     (λ w. w .1 ∙ ap found (le-antisymm (lowest-le p (w .0) i t (w .2 .2)) (lowest-le p i (w .0) (w .2 .1) h)))
     (first-cases n p)
 
+-- where one passes, one is found
 pub first-some : (n : ℕ) (p : ℕ → Bool) (i : ℕ) → i < n → p i ≡ true → (k : ℕ) × (first n p ≡ found k)
 first-some n p i l t = ⊎-elim (λ w. clash t (w .1 i l)) (λ w. (w .0, w .1)) (first-cases n p)
 
+-- where each fails, nothing is found
 pub first-none : (n : ℕ) (p : ℕ → Bool) → ((j : ℕ) → j < n → p j ≡ false) → first n p ≡ nothing
 first-none n p h = ⊎-elim (λ w. w .0) (λ w. clash (w .2 .1) (h (w .0) (w .2 .0))) (first-cases n p)
 
@@ -168,6 +191,7 @@ first-stop n p i l e t = first-is n p i l t (first-nothing i p e)
 pub first-wider : (n m : ℕ) (p : ℕ → Bool) (i : ℕ) → n ≤ m → first n p ≡ found i → first m p ≡ found i
 first-wider n m p i l e = let w = first-found n p i e in first-is m p i (le-trans (w .0) l) (w .1) (w .2)
 
+-- tests equal below the bound
 pub first-ext : (n : ℕ) (p q : ℕ → Bool) → ((i : ℕ) → i < n → p i ≡ q i) → first n p ≡ first n q
 first-ext n p q h =
     ⊎-elim (λ w. w .0 ∙ sym (first-none n q (λ j l. sym (h j l) ∙ w .1 j l)))
@@ -176,14 +200,17 @@ first-ext n p q h =
 
 -- ---- count
 
+-- no number, none counted
 pub count-zero : (p : ℕ → Bool) → count 0 p ≡ 0
 unfolding count
 count-zero p = refl
 
+-- n passes: one more
 pub count-hit-suc : (n : ℕ) (p : ℕ → Bool) → p n ≡ true → count (suc n) p ≡ suc (count n p)
 unfolding count
 count-hit-suc n p e = rw (count, e)
 
+-- n fails: as many
 pub count-skip-suc : (n : ℕ) (p : ℕ → Bool) → p n ≡ false → count (suc n) p ≡ count n p
 unfolding count
 count-skip-suc n p e = rw (count, e)
@@ -192,24 +219,29 @@ count-skip-suc n p e = rw (count, e)
 pub count-hit : (n : ℕ) (p : ℕ → Bool) → p n ≡ true → count (n + 1) p ≡ count n p + 1
 count-hit n p e = simp add-one (count-hit-suc n p e)
 
+-- n fails: as many
 pub count-skip : (n : ℕ) (p : ℕ → Bool) → p n ≡ false → count (n + 1) p ≡ count n p
 count-skip n p e = rw add-one (count-skip-suc n p e)
 
+-- at most the bound
 pub count-le : (n : ℕ) (p : ℕ → Bool) → count n p ≤ n
 count-le zero p = omega (arith, count-zero p)
 count-le (suc n) p =
     let l : count n p ≤ n = count-le n p in
     ⊎-elim (λ e. omega (arith, count-hit-suc n p e)) (λ e. omega (arith, count-skip-suc n p e)) (decided (p n))
 
+-- tests equal below the bound
 pub count-ext : (n : ℕ) (p q : ℕ → Bool) → ((i : ℕ) → i < n → p i ≡ q i) → count n p ≡ count n q
 unfolding count
 count-ext zero p q h = refl
 count-ext (suc n) p q h = ap₂ (λ (b : Bool) (k : ℕ). cond b (suc k) k) (h n (le-refl (suc n))) (count-ext n p q (λ i l. h i (le-step l)))
 
+-- all pass: the bound
 pub count-all : (n : ℕ) (p : ℕ → Bool) → ((i : ℕ) → i < n → p i ≡ true) → count n p ≡ n
 count-all zero p h = count-zero p
 count-all (suc n) p h = count-hit-suc n p (h n (le-refl (suc n))) ∙ ap suc (count-all n p (λ i l. h i (le-step l)))
 
+-- none passes: 0
 pub count-none : (n : ℕ) (p : ℕ → Bool) → ((i : ℕ) → i < n → p i ≡ false) → count n p ≡ 0
 count-none zero p h = count-zero p
 count-none (suc n) p h = count-skip-suc n p (h n (le-refl (suc n))) ∙ count-none n p (λ i l. h i (le-step l))
@@ -235,6 +267,7 @@ count-strict (suc n) p q h i l f t =
     (decided (p n)))
     (eq-or-lt-of-le (le-of-suc-le-suc l))
 
+-- one passes: not 0
 pub count-pos : (n : ℕ) (p : ℕ → Bool) (i : ℕ) → i < n → p i ≡ true → 0 < count n p
 count-pos n p i l t =
     let m : count n (λ j. false) < count n p = count-strict n (λ j. false) p (λ j k e. absurd (false≢true e)) i l refl t in
@@ -248,14 +281,17 @@ count-same n p q h e i l =
 
 -- ---- select
 
+-- no number, none listed
 pub select-zero : (p : ℕ → Bool) → select 0 p ≡ []
 unfolding select
 select-zero p = refl
 
+-- n passes: it stands at the end
 pub select-hit-suc : (n : ℕ) (p : ℕ → Bool) → p n ≡ true → select (suc n) p ≡ select n p ++ (n ∷ [])
 unfolding select
 select-hit-suc n p e = rw (select, e)
 
+-- n fails: the same list
 pub select-skip-suc : (n : ℕ) (p : ℕ → Bool) → p n ≡ false → select (suc n) p ≡ select n p
 unfolding select
 select-skip-suc n p e = rw (select, e) (append-nil (select n p))
@@ -264,9 +300,11 @@ select-skip-suc n p e = rw (select, e) (append-nil (select n p))
 pub select-hit : (n : ℕ) (p : ℕ → Bool) → p n ≡ true → select (n + 1) p ≡ select n p ++ (n ∷ [])
 select-hit n p e = rw add-one (select-hit-suc n p e)
 
+-- n fails: the same list
 pub select-skip : (n : ℕ) (p : ℕ → Bool) → p n ≡ false → select (n + 1) p ≡ select n p
 select-skip n p e = rw add-one (select-skip-suc n p e)
 
+-- the list is as long as the count
 pub select-length : (n : ℕ) (p : ℕ → Bool) → length (select n p) ≡ count n p
 select-length zero p = ap length (select-zero p) ∙ sym (count-zero p)
 select-length (suc n) p =
@@ -276,6 +314,7 @@ select-length (suc n) p =
     (λ e. ap length (select-skip-suc n p e) ∙ l ∙ sym (count-skip-suc n p e))
     (decided (p n))
 
+-- tests equal below the bound
 pub select-ext : (n : ℕ) (p q : ℕ → Bool) → ((i : ℕ) → i < n → p i ≡ q i) → select n p ≡ select n q
 unfolding select
 select-ext zero p q h = refl
@@ -290,7 +329,7 @@ mem-last : (b : Bool) (n i : ℕ) → i ≡ n → b ≡ true → List·Memᴰ i 
 mem-last true n i e t = List·Memᴰ·head e
 mem-last false n i e t = absurd (false≢true t)
 
--- the members of the list are the numbers that pass
+-- each number listed passes
 pub mem-select : (n : ℕ) (p : ℕ → Bool) (i : ℕ) → List·Memᴰ i (select n p) → (i < n) × (p i ≡ true)
 unfolding select
 mem-select zero p i m = absurd (List·Memᴰ·not-nil m)
@@ -299,6 +338,7 @@ mem-select (suc n) p i m =
     (λ k. let w = last-mem (p n) n i k in (omega (arith, w .0), subst (λ (j : ℕ). p j ≡ true) (sym (w .0)) (w .1)))
     (List·Memᴰ·append-cases (select n p) m)
 
+-- each number that passes is listed
 pub select-mem : (n : ℕ) (p : ℕ → Bool) (i : ℕ) → i < n → p i ≡ true → List·Memᴰ i (select n p)
 unfolding select
 select-mem zero p i l t = absurd (not-suc-le-zero l)
@@ -314,6 +354,7 @@ ascending-more (s ∷ l) n (more b a) h =
     more (λ t m. ⊎-elim (λ k. b t k) (λ k. subst (λ (j : ℕ). s < j) (sym (List·Memᴰ·eq-of-singleton k)) (h s (List·Memᴰ·head refl))) (List·Memᴰ·append-cases l m))
     (ascending-more l n a (λ t m. h t (List·Memᴰ·tail m)))
 
+-- the list ascends
 pub select-ascending : (n : ℕ) (p : ℕ → Bool) → Ascending (select n p)
 select-ascending zero p = rw select-zero none
 select-ascending (suc n) p =
@@ -322,7 +363,7 @@ select-ascending (suc n) p =
     (λ e. rw (select-skip-suc n p e) a)
     (decided (p n))
 
--- two ascending lists with the same members are equal
+-- their heads are equal, and their tails have the same members
 same-heads : (x y : ℕ) (k l : List ℕ) → ((t : ℕ) → List·Memᴰ t k → x < t) → ((t : ℕ) → List·Memᴰ t l → y < t) → List·Memᴰ x (y ∷ l) → List·Memᴰ y (x ∷ k) → x ≡ y
 same-heads x y k l bk bl p q =
     ⊎-elim (λ (e : x ≡ y). e)
@@ -333,6 +374,7 @@ same-tails : (x y : ℕ) (k l : List ℕ) → x ≡ y → ((t : ℕ) → List·M
 same-tails x y k l e b h t m =
     ⊎-elim (λ (f : t ≡ y). absurd (omega (arith, b t m))) (λ (n : List·Memᴰ t l). n) (List·Memᴰ·cases-cons (h t (List·Memᴰ·tail m)))
 
+-- two ascending lists with the same members are equal
 pub ascending-same : (k l : List ℕ) → Ascending k → Ascending l → ((t : ℕ) → List·Memᴰ t k → List·Memᴰ t l) → ((t : ℕ) → List·Memᴰ t l → List·Memᴰ t k) → k ≡ l
 ascending-same [] [] a b f g = refl
 ascending-same [] (y ∷ l) a b f g = absurd (List·Memᴰ·not-nil (g y (List·Memᴰ·head refl)))
@@ -340,3 +382,51 @@ ascending-same (x ∷ k) [] a b f g = absurd (List·Memᴰ·not-nil (f x (List·
 ascending-same (x ∷ k) (y ∷ l) (more bk a) (more bl b) f g =
     let e : x ≡ y = same-heads x y k l bk bl (f x (List·Memᴰ·head refl)) (g y (List·Memᴰ·head refl)) in
     ap₂ _∷_ e (ascending-same k l a b (same-tails x y k l e bk f) (same-tails y x l k (sym e) bl g))
+
+-- ---- a loop that stores the numbers that pass in the front of d
+
+store : (l d : List ℕ) (v : ℕ) → length l < length d → set (l ++ drop (length l) d) (length l) v ≡ l ++ (v ∷ []) ++ drop (suc (length l)) d
+store [] [] v h = absurd (not-suc-le-zero h)
+store [] (x ∷ d) v h = refl
+store (a ∷ l) [] v h = absurd (not-suc-le-zero h)
+store (a ∷ l) (x ∷ d) v h = ap (λ (t : List ℕ). a ∷ t) (store l d v (le-of-suc-le-suc h))
+
+-- before the first turn
+pub collect-none : (p : ℕ → Bool) (d : List ℕ) → d ≡ select 0 p ++ drop (count 0 p) d
+unfolding select count
+collect-none p d = refl
+
+-- the turn that stores n
+pub collect-hit : (n : ℕ) (p : ℕ → Bool) (d : List ℕ) → p n ≡ true → count n p < length d → set (select n p ++ drop (count n p) d) (count n p) n ≡ select (n + 1) p ++ drop (count n p + 1) d
+collect-hit n p d e h =
+    subst (λ (k : ℕ). set (select n p ++ drop k d) k n ≡ select n p ++ (n ∷ []) ++ drop (suc k) d) (select-length n p)
+    (store (select n p) d n (subst (λ (k : ℕ). k < length d) (sym (select-length n p)) h))
+    ∙ ap₂ (λ (l : List ℕ) (k : ℕ). l ++ drop k d) (sym (select-hit n p e)) (sym (add-one (count n p)))
+
+-- the turn that passes n by
+pub collect-skip : (n : ℕ) (p : ℕ → Bool) (d : List ℕ) → p n ≡ false → select n p ++ drop (count n p) d ≡ select (n + 1) p ++ drop (count n p) d
+collect-skip n p d e = ap (λ (l : List ℕ). l ++ drop (count n p) d) (sym (select-skip n p e))
+
+at-seam : (l : List ℕ) (x : ℕ) (r : List ℕ) → getD (l ++ (x ∷ r)) (length l) 0 ≡ x
+at-seam [] x r = refl
+at-seam (a ∷ l) x r = at-seam l x r
+
+-- what was selected below a bound stands in front of what is selected below a larger one
+pub select-front : (n m : ℕ) (p : ℕ → Bool) → n ≤ m → (r : List ℕ) × (select m p ≡ select n p ++ r)
+select-front n zero p l = ([], ap (λ (k : ℕ). select k p) (sym (le-antisymm l zero-le)) ∙ sym (append-nil (select n p)))
+select-front n (suc m) p l =
+    ⊎-elim (λ e. ([], ap (λ (k : ℕ). select k p) (sym e) ∙ sym (append-nil (select n p))))
+    (λ lt. let w = select-front n m p (le-of-suc-le-suc lt) in
+    ⊎-elim
+    (λ e. (w .0 ++ (m ∷ []), select-hit-suc m p e ∙ ap (λ (l : List ℕ). l ++ (m ∷ [])) (w .1) ∙ append-assoc (select n p) (w .0) (m ∷ [])))
+    (λ e. (w .0, select-skip-suc m p e ∙ w .1))
+    (decided (p m)))
+    (eq-or-lt-of-le l)
+
+-- the number that passes stands at the place that is the count before it
+pub select-at : (n m : ℕ) (p : ℕ → Bool) → n < m → p n ≡ true → getD (select m p) (count n p) 0 ≡ n
+select-at n m p l e =
+    let w = select-front (suc n) m p l in
+    subst (λ (k : ℕ). getD (select m p) k 0 ≡ n) (select-length n p)
+    (ap (λ (l : List ℕ). getD l (length (select n p)) 0) (w .1 ∙ ap (λ (l : List ℕ). l ++ w .0) (select-hit-suc n p e) ∙ append-assoc (select n p) (n ∷ []) (w .0))
+    ∙ at-seam (select n p) n (w .0))

@@ -1,3 +1,4 @@
 pub mod Logic
 pub mod Bounded
 pub mod Mask
+pub mod Family
