@@ -1,8 +1,13 @@
 -- Bounds on products of two numbers of a table's head.
 -- Assumes nothing.
+use mathlib.Core.Path.{_≡_}
+use mathlib.Core.List.{List}
 use Prim.Native.Nat.{ℕ, suc, _+_, _*_, _≤_, _<_}
 use native.Mathlib.Nat.{mul-le-mul, mul-le-mul-right, suc-mul, le-of-lt}
 use native.Mathlib.Omega.{arith}
+use lib.ListN.{length, getD}
+use Rattle.games.specs.Words.{headStates, headActions}
+use Rattle.tables.specs.Layout.{Sized}
 
 -- bytes
 pub product-below : (a n : ℕ) → a < 256 → n < 256 → a * n ≤ 65025
@@ -15,3 +20,9 @@ pub slot-below : (a A n i : ℕ) → a < A → i < n → a * n + i < A * n
 slot-below a A n i p q =
     let h : suc a * n ≤ A * n = mul-le-mul-right n p in
     omega (arith, suc-mul a n)
+
+-- a table has at most 3 + 8 + 8 * 12 words
+pub table-short : (w : List ℕ) → Sized w → length w ≤ 107
+table-short w h =
+    let m : headActions (getD w 0 0) * headStates (getD w 0 0) ≤ 8 * 12 = mul-le-mul {n₂ = 8} {m₂ = 12} (omega arith) (omega arith) in
+    omega arith

@@ -1,3 +1,4 @@
 pub mod Bounds
 pub mod Walks
 pub mod Checks
+pub mod Layouts

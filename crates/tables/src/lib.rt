@@ -1,6 +1,6 @@
 // The words of a station table: checks, what the words say, reading into fields and writing.
 ghost use mathlib.Core.Path.{_≡_};
-ghost use Prim.Native.Nat.{_<_, _≤_};
+ghost use Prim.Native.Nat.{_<_, _≤_, _^_};
 ghost use lib.ListN.{length, getD};
 ghost use Rattle.games.specs.Words.{game, tableLength, headStates, headActions, headObservations};
 ghost use Rattle.tables.specs.Layout.{maxObservations, Sized, bareWord};
@@ -149,4 +149,112 @@ pub fn walk(table: &[u32], s: u32, a: Action) -> Walked
         i += 1;
     }
     Walked::Post(u)
+}
+
+// The word at a place from 1 up, with no state in its mask.
+fn bare_word(n: u32, o: u32, place: usize) -> u32
+    requires { ⌜ (1 ≤ n) × (o ≤ maxObservations) × (1 ≤ place) × (place < 128) ⌝ }
+    ensures { λ r. ⌜ (r ≡ bareWord n o place) × (r < 2 ^ 31) ⌝ }
+{
+    let p = place as u32;
+    if p == 1 {
+        return 2 * 268435456;
+    }
+    if p == 2 {
+        return 3 * 268435456;
+    }
+    if p < 3 + o {
+        return 4 * 268435456 + (p - 3) * 65536;
+    }
+    let slot = p - (3 + o);
+    5 * 268435456 + slot / n * 1048576 + slot % n * 65536
+}
+
+// The word's kind, spare bits and index are those of its place.
+fn is_placed(table: &[u32], p: usize) -> bool
+    requires { ⌜ Sized (now table) × (1 ≤ p) × (p < length (now table)) ⌝ }
+    ensures { λ r. ⌜ r ≡ placed (now (table .entry)) p ⌝ }
+{
+    let w = table[p];
+    let n = table[0] % 256;
+    let o = table[0] / 65536 % 256;
+    w == bare_word(n, o, p) + w % 65536
+}
+
+// The word is refused, by 4 or 5.
+fn is_faulty(table: &[u32], p: usize) -> bool
+    requires { ⌜ Sized (now table) × (1 ≤ p) × (p < length (now table)) ⌝ }
+    ensures { λ r. ⌜ r ≡ faulty (now (table .entry)) p ⌝ }
+{
+    let n = table[0] % 256;
+    let wide = sets::single(n) <= table[p] % 65536;
+    !is_placed(table, p) | wide
+}
+
+// Refusals 4 and 5.
+fn check_words(table: &[u32]) -> Checked
+    requires { ⌜ Sized (now table) ⌝ }
+    ensures { λ r. ⌜ r ≡ wordsChecked (now (table .entry)) ⌝ }
+{
+    let words = table.len();
+    let mut p: usize = 1;
+    while p < words {
+        if is_faulty(table, p) {
+            if is_placed(table, p) {
+                return Checked::Refused(5, p);
+            } else {
+                return Checked::Refused(4, p);
+            }
+        }
+        p += 1;
+    }
+    Checked::Fine
+}
+
+// State i shows no observation.
+fn is_unseen(table: &[u32], i: u32) -> bool
+    requires { ⌜ Sized (now table) × (i < 32) ⌝ }
+    ensures { λ r. ⌜ r ≡ unseen (game (now (table .entry))) i ⌝ }
+{
+    let o = observations(table);
+    let mut j: u32 = 0;
+    while j < o {
+        if sets::member(shown(table, Observation(j)), i) {
+            return false;
+        }
+        j += 1;
+    }
+    true
+}
+
+// Refusals 6 and 7.
+fn check_sets(table: &[u32]) -> Checked
+    requires { ⌜ Sized (now table) ⌝ }
+    ensures { λ r. ⌜ r ≡ setsChecked (game (now (table .entry))) ⌝ }
+{
+    if start(table) == 0 {
+        return Checked::Refused(6, 1);
+    }
+    let n = states(table);
+    let mut i: u32 = 0;
+    while i < n {
+        if is_unseen(table, i) {
+            return Checked::Refused(7, i as usize);
+        }
+        i += 1;
+    }
+    Checked::Fine
+}
+
+// The table checks, 1 to 7.
+pub fn check(table: &[u32]) -> Checked
+    ensures { λ r. ⌜ r ≡ checked (now (table .entry)) ⌝ }
+{
+    match check_size(table) {
+        Checked::Refused(number, place) => Checked::Refused(number, place),
+        Checked::Fine => match check_words(table) {
+            Checked::Refused(number, place) => Checked::Refused(number, place),
+            Checked::Fine => check_sets(table),
+        },
+    }
 }
