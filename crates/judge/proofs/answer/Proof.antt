@@ -14,10 +14,21 @@ pub answer-spec : {M : Type 1} → statement M
 answer-spec =
     tie.close
     (tie.spec
-    (λ c. let x = c .before .before .args in too-many-rounds (x .table .now) (x .s) (x .k) (c .if1 .taken))
+    (λ c. let x = c .before .before .args in too-many-rounds (x .table .now) (x .mask) (x .k) (c .if1 .taken))
     (λ c κs. search needs)
     single-requires
-    (λ c. ?)
+    (λ c.
+      let sized = c .before .before in
+      let x = sized .before .before .before .args in
+      names-no-state (x .table .now) (x .mask) (x .k) _ _ (sized .before .if1 .left) (sized .states .ensures) (c .before .single .ensures) (c .if2 .taken))
     (λ c κs. search needs)
-    (λ c. ?)
-    (λ c. ?))
+    (λ c.
+      let wide = c .before .before in
+      let sized = wide .before .before in
+      let x = sized .before .before .before .args in
+      is-good (x .table .now) (x .mask) (x .k) _ _ (sized .before .if1 .left) (sized .states .ensures) (wide .before .single .ensures) _ (wide .if2 .left) (c .before .action-turn .ensures) (c .if3 .taken))
+    (λ c.
+      let wide = c .before .before in
+      let sized = wide .before .before in
+      let x = sized .before .before .before .args in
+      not-good (x .table .now) (x .mask) (x .k) _ _ (sized .before .if1 .left) (sized .states .ensures) (wide .before .single .ensures) _ (wide .if2 .left) (c .before .action-turn .ensures) (c .if3 .left)))

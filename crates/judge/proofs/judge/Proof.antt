@@ -14,6 +14,10 @@ judge-spec =
     (λ c κs. search needs)
     (λ c. search needs)
     (λ c. search needs)
-    (λ c κs. ?)
-    (λ c. ?)
-    (λ c. ?))
+    (λ c κs. let x = c .before .before .before .before .args in sized (x .table .now) (cc))
+    (λ c.
+      let x = c .before .before .before .before .before .args in
+      table-refused (x .table .now) (x .mask) (x .k) (c .before .number .given .0 .0) (c .before .number .given .0 .1 .0) (cc))
+    (λ c.
+      let x = c .before .before .before .before .before .args in
+      c .answer .ensures ∙ table-fine (x .table .now) (x .mask) (x .k) (cc)))
