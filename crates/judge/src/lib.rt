@@ -26,10 +26,10 @@ fn action_turn(table: &[u32], s: u32, k: u32) -> bool
     ensures { λ r. ⌜ r ≡ good (game (now (table .entry))) k s ⌝ }
 {
     if k == 0 {
-        return true;
+        return true; // no round to go
     }
     if sets::common(s, tables::bad(table)) != 0 {
-        return false;
+        return false; // a bad member
     }
     let end = tables::actions(table);
     let mut a: u32 = 0;
@@ -48,16 +48,16 @@ fn observation_turn(table: &[u32], s: u32, a: Action, k: u32) -> bool
     ensures { λ r. ⌜ r ≡ meets (game (now (table .entry))) (good (game (now (table .entry))) k) s (a .0) ⌝ }
 {
     let Walked::Post(u) = tables::walk(table, s, a) else {
-        return false;
+        return false; // blocked at a member
     };
     let end = tables::observations(table);
     let mut o: u32 = 0;
     while o < end {
-        if action_turn(table, sets::common(u, tables::shown(table, Observation(o))), k) {
-            o += 1;
-        } else {
+        let seen = sets::common(u, tables::shown(table, Observation(o)));
+        if !action_turn(table, seen, k) {
             return false;
         }
+        o += 1;
     }
     true
 }
@@ -73,7 +73,11 @@ fn answer(table: &[u32], mask: u32, k: u32) -> Judged
     if sets::single(tables::states(table)) <= mask {
         return Judged::Refused(5, table.len());
     }
-    if action_turn(table, mask, k) { Judged::Good } else { Judged::NotGood }
+    if action_turn(table, mask, k) {
+        Judged::Good
+    } else {
+        Judged::NotGood
+    }
 }
 
 // Is the set good for k rounds? The table checks come first.

@@ -18,17 +18,17 @@ answer-spec =
     (λ c κs. search needs)
     single-requires
     (λ c.
-      let sized = c .before .before in
-      let x = sized .before .before .before .args in
-      names-no-state (x .table .now) (x .mask) (x .k) _ _ (sized .before .if1 .left) (sized .states .ensures) (c .before .single .ensures) (c .if2 .taken))
+    let sized = c .before .before in
+    let x = sized .before .before .before .args in
+    names-no-state (x .table .now) (x .mask) (x .k) _ _ (sized .before .if1 .left) (sized .states .ensures) (c .before .single .ensures) (c .if2 .taken))
     (λ c κs. search needs)
     (λ c.
-      let wide = c .before .before in
-      let sized = wide .before .before in
-      let x = sized .before .before .before .args in
-      is-good (x .table .now) (x .mask) (x .k) _ _ (sized .before .if1 .left) (sized .states .ensures) (wide .before .single .ensures) _ (wide .if2 .left) (c .before .action-turn .ensures) (c .if3 .taken))
+    let wide = c .before .before in
+    let sized = wide .before .before in
+    let x = sized .before .before .before .args in
+    is-good (x .table .now) (x .mask) (x .k) _ _ (sized .before .if1 .left) (sized .states .ensures) (wide .before .single .ensures) _ (wide .if2 .left) (c .before .action-turn .ensures) (c .if3 .taken))
     (λ c.
-      let wide = c .before .before in
-      let sized = wide .before .before in
-      let x = sized .before .before .before .args in
-      not-good (x .table .now) (x .mask) (x .k) _ _ (sized .before .if1 .left) (sized .states .ensures) (wide .before .single .ensures) _ (wide .if2 .left) (c .before .action-turn .ensures) (c .if3 .left)))
+    let wide = c .before .before in
+    let sized = wide .before .before in
+    let x = sized .before .before .before .args in
+    not-good (x .table .now) (x .mask) (x .k) _ _ (sized .before .if1 .left) (sized .states .ensures) (wide .before .single .ensures) _ (wide .if2 .left) (c .before .action-turn .ensures) (c .if3 .left)))

@@ -1,6 +1,6 @@
 -- `judge::judge` meets its contract.
 -- Assumes nothing.
-use mathlib.Core.Path.{_≡_, sym, _∙_}
+use mathlib.Core.Path.{_∙_}
 use borrow.Author.Needs.{needs}
 use Rattle.tables.proofs.Checks.{sized}
 use Rattle.judge.proofs.Answers.{table-refused, table-fine}
@@ -16,8 +16,8 @@ judge-spec =
     (λ c. search needs)
     (λ c κs. let x = c .before .before .before .before .args in sized (x .table .now) (cc))
     (λ c.
-      let x = c .before .before .before .before .before .args in
-      table-refused (x .table .now) (x .mask) (x .k) (c .before .number .given .0 .0) (c .before .number .given .0 .1 .0) (cc))
+    let x = c .before .before .before .before .before .args in
+    table-refused (x .table .now) (x .mask) (x .k) (c .before .number .given .0 .0) (c .before .number .given .0 .1 .0) (cc))
     (λ c.
-      let x = c .before .before .before .before .before .args in
-      c .answer .ensures ∙ table-fine (x .table .now) (x .mask) (x .k) (cc)))
+    let x = c .before .before .before .before .before .args in
+    c .answer .ensures ∙ table-fine (x .table .now) (x .mask) (x .k) (cc)))
