@@ -1,0 +1,34 @@
+-- `judge::answer` meets its contract.
+-- Assumes nothing.
+use borrow.Author.Needs.{needs}
+use Rattle.games.specs.Words.{game}
+use Rattle.judge.proofs.Answers.{too-many-rounds, names-no-state, is-good, not-good}
+use Rattle.judge.proofs.answer.Statement.{statement}
+use Rattle.judge.proofs.answer.Tie as tie
+
+single-requires : tie.Need-single-requires
+unfolding game
+single-requires c κs = search needs
+
+pub answer-spec : {M : Type 1} → statement M
+answer-spec =
+    tie.close
+    (tie.spec
+    (λ c. let x = c .before .before .args in too-many-rounds (x .table .now) (x .mask) (x .k) (c .if1 .taken))
+    (λ c κs. search needs)
+    single-requires
+    (λ c.
+    let sized = c .before .before in
+    let x = sized .before .before .before .args in
+    names-no-state (x .table .now) (x .mask) (x .k) _ _ (sized .before .if1 .left) (sized .states .ensures) (c .before .single .ensures) (c .if2 .taken))
+    (λ c κs. search needs)
+    (λ c.
+    let wide = c .before .before in
+    let sized = wide .before .before in
+    let x = sized .before .before .before .args in
+    is-good (x .table .now) (x .mask) (x .k) _ _ (sized .before .if1 .left) (sized .states .ensures) (wide .before .single .ensures) _ (wide .if2 .left) (c .before .action-turn .ensures) (c .if3 .taken))
+    (λ c.
+    let wide = c .before .before in
+    let sized = wide .before .before in
+    let x = sized .before .before .before .args in
+    not-good (x .table .now) (x .mask) (x .k) _ _ (sized .before .if1 .left) (sized .states .ensures) (wide .before .single .ensures) _ (wide .if2 .left) (c .before .action-turn .ensures) (c .if3 .left)))
