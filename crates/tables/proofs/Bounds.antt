@@ -15,6 +15,12 @@ product-below a n p q =
     let h : a * n ≤ 255 * 255 = mul-le-mul {n₂ = 255} {m₂ = 255} (omega arith) (omega arith) in
     omega arith
 
+-- moves
+pub moves-below : (a n : ℕ) → a ≤ 8 → n ≤ 12 → a * n ≤ 96
+moves-below a n p q =
+    let h : a * n ≤ 8 * 12 = mul-le-mul {n₂ = 8} {m₂ = 12} p q in
+    omega arith
+
 -- a row's slot lies below all rows
 pub slot-below : (a A n i : ℕ) → a < A → i < n → a * n + i < A * n
 slot-below a A n i p q =
@@ -24,5 +30,4 @@ slot-below a A n i p q =
 -- a table has at most 3 + 8 + 8 * 12 words
 pub table-short : (w : List ℕ) → Sized w → length w ≤ 107
 table-short w h =
-    let m : headActions (getD w 0 0) * headStates (getD w 0 0) ≤ 8 * 12 = mul-le-mul {n₂ = 8} {m₂ = 12} (omega arith) (omega arith) in
-    omega arith
+    omega (arith, moves-below (headActions (getD w 0 0)) (headStates (getD w 0 0)) (h .limits .most-actions) (h .limits .most-states))

@@ -14,7 +14,7 @@ use Rattle.sets.proofs.Bounded.{first-zero, first-skip, first-stop, first-nothi
 use Rattle.sets.specs.Mask.{member}
 use Rattle.games.specs.Game.{Game, Shows, Accepted}
 use Rattle.games.specs.Words.{lowField, headStates, headActions, headObservations, tableLength, startPlace, movePlace, game}
-use Rattle.tables.specs.Layout.{maxStates, maxActions, maxObservations, bareWord, Sized}
+use Rattle.tables.specs.Layout.{maxStates, maxActions, maxObservations, bareWord, Limited, Sized}
 use Rattle.tables.specs.Check.{andThen, atFound, within, tooWide, limitsHold, headRight, sizeChecked, placed, faulty, wordsChecked, unseen, setsChecked, checked}
 use Rattle.tables.proofs.Bounds.{slot-below}
 use Rattle.tables.specs.declared.Checked.{Checked}
@@ -111,18 +111,18 @@ then-fine Fine d e = (refl, e)
 then-fine (Refused k p) d e = let z : _≡_ {A = ℕ} 0 1 = cc in absurd (omega arith)
 
 -- a refusal is no `Fine`
-never : {A : Type 0} (k p : ℕ) → Refused k p ≡ Fine → A
+pub never : {A : Type 0} (k p : ℕ) → Refused k p ≡ Fine → A
 never k p e = let z : _≡_ {A = ℕ} 0 1 = cc in absurd (omega arith)
 
-cond-fine : (b : Bool) (c : Checked) (k p : ℕ) → cond b c (Refused k p) ≡ Fine → (b ≡ true) × (c ≡ Fine)
+pub cond-fine : (b : Bool) (c : Checked) (k p : ℕ) → cond b c (Refused k p) ≡ Fine → (b ≡ true) × (c ≡ Fine)
 cond-fine true c k p e = (refl, e)
 cond-fine false c k p e = never k p e
 
-cond-passed : (b : Bool) (k p : ℕ) (c : Checked) → cond b (Refused k p) c ≡ Fine → (b ≡ false) × (c ≡ Fine)
+pub cond-passed : (b : Bool) (k p : ℕ) (c : Checked) → cond b (Refused k p) c ≡ Fine → (b ≡ false) × (c ≡ Fine)
 cond-passed true k p c e = never k p e
 cond-passed false k p c e = (refl, e)
 
-found-none : (f : Found) (r : ℕ → Checked) → ((i : ℕ) → r i ≡ Fine → ⊥) → atFound f r Fine ≡ Fine → f ≡ nothing
+pub found-none : (f : Found) (r : ℕ → Checked) → ((i : ℕ) → r i ≡ Fine → ⊥) → atFound f r Fine ≡ Fine → f ≡ nothing
 found-none nothing r h e = refl
 found-none (found i) r h e = absurd (h i e)
 
@@ -132,7 +132,7 @@ within-low x most e = leb-true 1 x (and-left (leb 1 x) (leb x most) e)
 within-high : (x most : ℕ) → within x most ≡ true → x ≤ most
 within-high x most e = leb-true x most (and-right (leb 1 x) (leb x most) e)
 
-pub limits-at : (n a o : ℕ) → limitsHold n a o ≡ true → (within n maxStates ≡ true) × (within a maxActions ≡ true) × (within o maxObservations ≡ true)
+limits-at : (n a o : ℕ) → limitsHold n a o ≡ true → (within n maxStates ≡ true) × (within a maxActions ≡ true) × (within o maxObservations ≡ true)
 unfolding limitsHold
 limits-at n a o e =
     let f = and-right (within n maxStates) (within a maxActions && within o maxObservations) e in
@@ -155,20 +155,23 @@ pub head-limits : (w : ℕ) → headRight w ≡ true → limitsHold (headStates 
 unfolding headRight
 head-limits w e = and-right (eqb (w / 2 ^ 24) 16) (limitsHold (headStates w) (headActions w) (headObservations w)) e
 
+pub limits-hold : (n a o : ℕ) → limitsHold n a o ≡ true → Limited n a o
+limits-hold n a o e =
+    let l = limits-at n a o e in
+    record {
+      some-state = within-low n maxStates (l .0);
+      most-states = within-high n maxStates (l .0);
+      some-action = within-low a maxActions (l .1);
+      most-actions = within-high a maxActions (l .1);
+      some-observation = within-low o maxObservations (l .2);
+      most-observations = within-high o maxObservations (l .2);
+    }
+
 pub size-sized : (w : List ℕ) → sizeChecked w ≡ Fine → Sized w
 size-sized w e =
     let h = size-passed w e in
     let head = getD w 0 0 in
-    let l = limits-at (headStates head) (headActions head) (headObservations head) (head-limits head (h .0)) in
-    record {
-      some-state = within-low (headStates head) maxStates (l .0);
-      most-states = within-high (headStates head) maxStates (l .0);
-      some-action = within-low (headActions head) maxActions (l .1);
-      most-actions = within-high (headActions head) maxActions (l .1);
-      some-observation = within-low (headObservations head) maxObservations (l .2);
-      most-observations = within-high (headObservations head) maxObservations (l .2);
-      long = h .1;
-    }
+    record { limits = limits-hold (headStates head) (headActions head) (headObservations head) (head-limits head (h .0)); long = h .1 }
 
 module _ (w : List ℕ) where
   words-passed : wordsChecked w ≡ Fine → first (length w) (faulty w) ≡ nothing
@@ -236,9 +239,9 @@ module _ (w : List ℕ) (fine : checked w ≡ Fine) where
       let z = sized in
       let below = word-below w (fine-parts .1) in
       record {
-        some-state = z .some-state;
-        some-action = z .some-action;
-        some-observation = z .some-observation;
+        some-state = z .limits .some-state;
+        some-action = z .limits .some-action;
+        some-observation = z .limits .some-observation;
         start-below = below 1 (omega arith) (omega arith);
         bad-below = below 2 (omega arith) (omega arith);
         shown-below = λ o l. below (3 + o) (omega arith) (omega arith);

@@ -15,13 +15,10 @@ use Rattle.sets.proofs.Mask.{unionOver-zero, unionOver-hit, unionOver-skip}
 use Rattle.games.specs.Game.{Game, enabled}
 use Rattle.games.specs.Step.{enabledAt, post}
 use Rattle.games.specs.Words.{lowField, headStates, headObservations, tableLength, game}
+use Rattle.tables.specs.Fields.{masksFrom}
 use Rattle.tables.specs.Walk.{walked}
 use Rattle.tables.specs.declared.Walked.{Walked}
 use Rattle.tables.specs.declared.Walked.the-variants.{Blocked, Post}
-
--- the masks from a place on
-abbrev pub masksFrom : List ℕ → ℕ → ℕ → ℕ
-masksFrom w base i = lowField (getD w (base + i) 0)
 
 -- i is not a member of s, or f gives it something
 abbrev passes : ℕ → (ℕ → ℕ) → ℕ → Bool

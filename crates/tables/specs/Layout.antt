@@ -26,12 +26,16 @@ bareWord n o p =
     (cond (ltb p (shownPlace o)) (word 4 0 (p - 3) 0)
     (word 5 0 ((p - shownPlace o) % n) ((p - shownPlace o) / n))))
 
--- the head's numbers are within the limits, and the words are as many as they ask
+-- the numbers of states, actions and observations are within the limits
+pub record Limited (states actions observations : ℕ) : Type 0 where
+  pub some-state : 1 ≤ states
+  pub most-states : states ≤ maxStates
+  pub some-action : 1 ≤ actions
+  pub most-actions : actions ≤ maxActions
+  pub some-observation : 1 ≤ observations
+  pub most-observations : observations ≤ maxObservations
+
+-- those of the head are, and the words are as many as they ask
 pub record Sized (w : List ℕ) : Type 0 where
-  pub some-state : 1 ≤ headStates (getD w 0 0)
-  pub most-states : headStates (getD w 0 0) ≤ maxStates
-  pub some-action : 1 ≤ headActions (getD w 0 0)
-  pub most-actions : headActions (getD w 0 0) ≤ maxActions
-  pub some-observation : 1 ≤ headObservations (getD w 0 0)
-  pub most-observations : headObservations (getD w 0 0) ≤ maxObservations
+  pub limits : Limited (headStates (getD w 0 0)) (headActions (getD w 0 0)) (headObservations (getD w 0 0))
   pub long : length w ≡ tableLength (headStates (getD w 0 0)) (headActions (getD w 0 0)) (headObservations (getD w 0 0))

@@ -1,10 +1,12 @@
 // The words of a station table: checks, what the words say, reading into fields and writing.
 ghost use mathlib.Core.Path.{_≡_};
-ghost use Prim.Native.Nat.{_<_, _≤_, _^_};
+ghost use Prim.Native.Nat.{_<_, _+_, _≤_, _^_};
 ghost use lib.ListN.{length, getD};
 ghost use Rattle.games.specs.Words.{game, tableLength, headStates, headActions, headObservations};
-ghost use Rattle.tables.specs.Layout.{maxObservations, Sized, bareWord};
+ghost use Rattle.tables.specs.Layout.{maxObservations, Limited, Sized, bareWord};
 ghost use Rattle.tables.specs.Walk.{walked};
+ghost use Rattle.tables.specs.declared.Checked.the-variants.{Fine};
+ghost use Rattle.tables.specs.Fields.{masksFrom, filledBy, fieldsOf, noFields, readOf, gameOf, maskAt, wordAt, unusedZero, wideAt, slotsChecked, masksChecked, fieldsChecked, wordsLength, leaves, writtenTo, writeOf};
 ghost use Rattle.tables.specs.Check.{within as isWithin, limitsHold, headRight, sizeChecked, placed, tooWide, faulty, wordsChecked, unseen, setsChecked, checked};
 use games::Action;
 use games::Observation;
@@ -211,41 +213,6 @@ fn check_words(table: &[u32]) -> Checked
     Checked::Fine
 }
 
-// State i shows no observation.
-fn is_unseen(table: &[u32], i: u32) -> bool
-    requires { ⌜ Sized (now table) × (i < 32) ⌝ }
-    ensures { λ r. ⌜ r ≡ unseen (game (now (table .entry))) i ⌝ }
-{
-    let o = observations(table);
-    let mut j: u32 = 0;
-    while j < o {
-        if sets::member(shown(table, Observation(j)), i) {
-            return false;
-        }
-        j += 1;
-    }
-    true
-}
-
-// Refusals 6 and 7.
-fn check_sets(table: &[u32]) -> Checked
-    requires { ⌜ Sized (now table) ⌝ }
-    ensures { λ r. ⌜ r ≡ setsChecked (game (now (table .entry))) ⌝ }
-{
-    if start(table) == 0 {
-        return Checked::Refused(6, 1);
-    }
-    let n = states(table);
-    let mut i: u32 = 0;
-    while i < n {
-        if is_unseen(table, i) {
-            return Checked::Refused(7, i as usize);
-        }
-        i += 1;
-    }
-    Checked::Fine
-}
-
 // The table checks, 1 to 7.
 pub fn check(table: &[u32]) -> Checked
     ensures { λ r. ⌜ r ≡ checked (now (table .entry)) ⌝ }
@@ -254,7 +221,264 @@ pub fn check(table: &[u32]) -> Checked
         Checked::Refused(number, place) => Checked::Refused(number, place),
         Checked::Fine => match check_words(table) {
             Checked::Refused(number, place) => Checked::Refused(number, place),
-            Checked::Fine => check_sets(table),
+            Checked::Fine => check_sets(fields_of(table)),
         },
+    }
+}
+
+// A table's numbers and sets. Slots of `shown` from `observations` up, and of `moves` from `actions` · `states` up, are unused.
+pub struct Fields {
+    pub states: u32,
+    pub actions: u32,
+    pub observations: u32,
+    pub start: u32,
+    pub bad: u32,
+    pub shown: [u32; 8],
+    // at action · states + state
+    pub moves: [u32; 96],
+}
+
+// The answer of reading, with the fields beside it.
+pub struct ReadFields {
+    pub answer: Checked,
+    pub fields: Fields,
+}
+
+// How many words were written, or a refusal: number and place.
+pub enum Written {
+    Words(usize),
+    Refused(u32, usize),
+}
+
+// The masks from a place on, into the front of `out`.
+fn copy_masks(table: &[u32], base: usize, count: usize, out: &mut [u32])
+    requires { ⌜ (base + count ≤ length (now table)) × (count ≤ length (now out)) ⌝ }
+    ensures { λ _. ⌜ now (out .exit) ≡ filledBy count (masksFrom (now (table .entry)) base) (now (out .entry)) ⌝ }
+{
+    let mut i: usize = 0;
+    while i < count {
+        out[i] = table[base + i] % 65536;
+        i += 1;
+    }
+}
+
+// The fields of a table that was accepted.
+fn fields_of(table: &[u32]) -> Fields
+    requires { ⌜ Sized (now table) ⌝ }
+    ensures { λ r. ⌜ r ≡ fieldsOf (game (now (table .entry))) ⌝ }
+{
+    let n = states(table);
+    let a = actions(table);
+    let o = observations(table);
+    let mut shown = [0u32; 8];
+    copy_masks(table, 3, o as usize, &mut shown);
+    let mut moves = [0u32; 96];
+    copy_masks(table, 3 + o as usize, (a * n) as usize, &mut moves);
+    Fields {
+        states: n,
+        actions: a,
+        observations: o,
+        start: start(table),
+        bad: bad(table),
+        shown,
+        moves,
+    }
+}
+
+fn no_fields() -> Fields
+    ensures { λ r. ⌜ r ≡ noFields ⌝ }
+{
+    Fields {
+        states: 0,
+        actions: 0,
+        observations: 0,
+        start: 0,
+        bad: 0,
+        shown: [0u32; 8],
+        moves: [0u32; 96],
+    }
+}
+
+// Checks a table and reads it into fields.
+pub fn read(table: &[u32]) -> ReadFields
+    ensures { λ r. ⌜ r ≡ readOf (now (table .entry)) ⌝ }
+{
+    match check(table) {
+        Checked::Refused(number, place) => ReadFields {
+            answer: Checked::Refused(number, place),
+            fields: no_fields(),
+        },
+        Checked::Fine => ReadFields {
+            answer: Checked::Fine,
+            fields: fields_of(table),
+        },
+    }
+}
+
+// The slots from `used` up are 0.
+fn unused_zero(slots: &[u32], used: usize) -> bool
+    ensures { λ r. ⌜ r ≡ unusedZero used (now (slots .entry)) ⌝ }
+{
+    let mut j: usize = 0;
+    while j < slots.len() {
+        let clean = (j < used) | (slots[j] == 0);
+        if !clean {
+            return false;
+        }
+        j += 1;
+    }
+    true
+}
+
+// The mask of the word at a place from 1 up.
+fn mask_at(f: Fields, p: usize) -> u32
+    requires { ⌜ (1 ≤ p) × (f .observations ≤ maxObservations) × (p < 3 + f .observations + 96) ⌝ }
+    ensures { λ r. ⌜ r ≡ maskAt (gameOf f) p ⌝ }
+{
+    if p == 1 {
+        return f.start;
+    }
+    if p == 2 {
+        return f.bad;
+    }
+    let o = f.observations as usize;
+    if p < 3 + o {
+        let shown = f.shown;
+        return shown[p - 3];
+    }
+    let moves = f.moves;
+    moves[p - (3 + o)]
+}
+
+// Every used mask names states below n only, or the lowest place of a word whose mask doesn't.
+fn check_masks(f: Fields) -> Checked
+    requires { ⌜ Limited (f .states) (f .actions) (f .observations) ⌝ }
+    ensures { λ r. ⌜ r ≡ masksChecked (gameOf f) ⌝ }
+{
+    let full = sets::single(f.states);
+    let words = words_of(f.states, f.actions, f.observations);
+    let mut p: usize = 1;
+    while p < words {
+        if full <= mask_at(f, p) {
+            return Checked::Refused(5, p);
+        }
+        p += 1;
+    }
+    Checked::Fine
+}
+
+// State i shows no observation.
+fn is_unseen(f: Fields, i: u32) -> bool
+    requires { ⌜ (f .observations ≤ maxObservations) × (i < 32) ⌝ }
+    ensures { λ r. ⌜ r ≡ unseen (gameOf f) i ⌝ }
+{
+    let o = f.observations as usize;
+    let shown = f.shown;
+    let mut j: usize = 0;
+    while j < o {
+        if sets::member(shown[j], i) {
+            return false;
+        }
+        j += 1;
+    }
+    true
+}
+
+// Refusals 6 and 7.
+fn check_sets(f: Fields) -> Checked
+    requires { ⌜ Limited (f .states) (f .actions) (f .observations) ⌝ }
+    ensures { λ r. ⌜ r ≡ setsChecked (gameOf f) ⌝ }
+{
+    if f.start == 0 {
+        return Checked::Refused(6, 1);
+    }
+    let n = f.states;
+    let mut i: u32 = 0;
+    while i < n {
+        if is_unseen(f, i) {
+            return Checked::Refused(7, i as usize);
+        }
+        i += 1;
+    }
+    Checked::Fine
+}
+
+// The words of a table.
+fn words_of(n: u32, a: u32, o: u32) -> usize
+    requires { ⌜ Limited n a o ⌝ }
+    ensures { λ r. ⌜ r ≡ tableLength n a o ⌝ }
+{
+    (3 + o + a * n) as usize
+}
+
+// Refusals 2 and 11.
+fn check_slots(f: Fields) -> Checked
+    ensures { λ r. ⌜ r ≡ slotsChecked f ⌝ }
+{
+    let n = f.states;
+    let a = f.actions;
+    let o = f.observations;
+    if limits_hold(n, a, o) {
+        let shown = f.shown;
+        let moves = f.moves;
+        let clean = unused_zero(&shown, o as usize) & unused_zero(&moves, (a * n) as usize);
+        if clean {
+            Checked::Fine
+        } else {
+            Checked::Refused(11, 0)
+        }
+    } else {
+        Checked::Refused(2, 0)
+    }
+}
+
+// Refusals 2, 11, 5, 6 and 7.
+fn check_fields(f: Fields) -> Checked
+    ensures { λ r. ⌜ r ≡ fieldsChecked f ⌝ }
+{
+    match check_slots(f) {
+        Checked::Refused(number, place) => Checked::Refused(number, place),
+        Checked::Fine => match check_masks(f) {
+            Checked::Refused(number, place) => Checked::Refused(number, place),
+            Checked::Fine => check_sets(f),
+        },
+    }
+}
+
+// The word at a place, for fields whose masks are in order.
+fn word_at(f: Fields, p: usize) -> u32
+    requires { ⌜ Limited (f .states) (f .actions) (f .observations) × (masksChecked (gameOf f) ≡ Fine) × (p < wordsLength (gameOf f)) ⌝ }
+    ensures { λ r. ⌜ r ≡ wordAt (gameOf f) p ⌝ }
+{
+    if p == 0 {
+        return 268435456 + f.observations * 65536 + f.actions * 256 + f.states;
+    }
+    bare_word(f.states, f.observations, p) + mask_at(f, p)
+}
+
+// Refusal 10, or the words in front of `out`.
+fn write_words(f: Fields, out: &mut [u32]) -> Written
+    requires { ⌜ Limited (f .states) (f .actions) (f .observations) × (masksChecked (gameOf f) ≡ Fine) ⌝ }
+    ensures { λ r. ⌜ leaves r (now (out .exit)) ≡ writtenTo (gameOf f) (now (out .entry)) ⌝ }
+{
+    let words = words_of(f.states, f.actions, f.observations);
+    if out.len() < words {
+        return Written::Refused(10, words);
+    }
+    let mut p: usize = 0;
+    while p < words {
+        out[p] = word_at(f, p);
+        p += 1;
+    }
+    Written::Words(words)
+}
+
+// Writes the fields as a table's words into the front of `out`; a refusal leaves `out` as it was.
+pub fn write(f: Fields, out: &mut [u32]) -> Written
+    ensures { λ r. ⌜ leaves r (now (out .exit)) ≡ writeOf f (now (out .entry)) ⌝ }
+{
+    match check_fields(f) {
+        Checked::Refused(number, place) => Written::Refused(number, place),
+        Checked::Fine => write_words(f, out),
     }
 }

@@ -1,4 +1,5 @@
-use Rattle.tables.proofs.Checks.{size-sized, size-stops, words-stop, sets-decide}
+use Rattle.tables.proofs.Same.{fields-limited, fields-decide}
+use Rattle.tables.proofs.Checks.{size-sized, size-stops, words-stop}
 use mathlib.Core.Path.{sym, _∙_}
 use borrow.Author.Needs.{needs}
 use Rattle.tables.proofs.check.Statement.{statement}
@@ -8,6 +9,7 @@ use Rattle.tables.proofs.check.Lts as lts
 use Rattle.tables.proofs.check_sets.Reads as check-sets-reads
 use Rattle.tables.proofs.check_size.Reads as check-size-reads
 use Rattle.tables.proofs.check_words.Reads as check-words-reads
+use Rattle.tables.proofs.fields_of.Reads as fields-of-reads
 
 check-size-requires : tie.Need-check-size-requires
 check-size-requires c κs = search needs
@@ -27,8 +29,11 @@ enum-known-number-2 c = search needs
 enum-told-2 : tie.Need-enum-told-2
 enum-told-2 c = search needs
 
+fields-of-requires : tie.Need-fields-of-requires
+fields-of-requires c κs = size-sized (c .before .before .before .before .before .before .before .args .table .now) (cc)
+
 check-sets-requires : tie.Need-check-sets-requires
-check-sets-requires c κs = size-sized (c .before .before .before .before .before .before .before .args .table .now) (cc)
+check-sets-requires c κs = fields-limited (c .before .before .before .before .before .before .before .before .args .table .now) _ (c .fields-of .ensures) (size-sized (c .before .before .before .before .before .before .before .before .args .table .now) (cc))
 
 returns : tie.Need-returns
 returns c = sym (size-stops (c .before .before .before .before .before .args .table .now) _ _ (cc))
@@ -37,7 +42,7 @@ returns-2 : tie.Need-returns-2
 returns-2 c = sym (words-stop (c .before .before .before .before .before .before .before .before .args .table .now) _ _ (cc) (cc))
 
 returns-3 : tie.Need-returns-3
-returns-3 c = c .check-sets .ensures ∙ sym (sets-decide (c .before .before .before .before .before .before .before .before .args .table .now) (cc) (cc))
+returns-3 c = c .check-sets .ensures ∙ fields-decide (c .before .before .before .before .before .before .before .before .before .args .table .now) _ (c .before .fields-of .ensures) (cc) (cc)
 
 pub check-spec : {M : Type 1} → statement M
 check-spec =
@@ -49,6 +54,7 @@ check-spec =
     check-words-requires
     enum-known-number-2
     enum-told-2
+    fields-of-requires
     check-sets-requires
     returns
     returns-2

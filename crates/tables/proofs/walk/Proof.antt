@@ -1,9 +1,10 @@
+use Rattle.tables.specs.Fields.{masksFrom}
 use Prim.Native.Nat.{_+_, _<_}
 use lib.ListN.{length}
 use borrow.Author.Tests.{eq-eqb, ne-eqb}
 use mathlib.Core.Logic.{⊎-elim}
 use mathlib.Core.Path.{_≡_, sym}
-use Rattle.tables.proofs.Walks.{masksFrom, Passed, passed-none, passed-skip, passed-more, walked-post, walked-blocked}
+use Rattle.tables.proofs.Walks.{Passed, passed-none, passed-skip, passed-more, walked-post, walked-blocked}
 use Rattle.tables.proofs.Bounds.{slot-below}
 use Rattle.games.specs.Words.{game, headStates, headActions}
 use lib.ListN.{getD}

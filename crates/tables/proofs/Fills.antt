@@ -1,0 +1,66 @@
+-- A list filled from the front by a function's values, one store a turn.
+-- Assumes nothing.
+use mathlib.Core.Path.{_≡_, refl, sym, ap, ap₂, _∙_, subst}
+use mathlib.Core.List.{List, [], _∷_, _++_, append-assoc}
+use Prim.Native.Nat.{ℕ, zero, suc, _+_, _-_, _≤_, _<_}
+use native.Mathlib.Nat.{le-refl, le-step}
+use native.Mathlib.Numerals.{add-one}
+use native.Mathlib.Omega.{arith}
+use lib.ListN.{length, getD, set, drop, length-append, length-drop, List·getD-append}
+use lib.Seq.{drop-cons, set-at, getD-append-add, getD-drop, getD-at, take-suc}
+use mathlib.Core.Logic.{_⊎_, ⊎-elim}
+use native.Mathlib.Nat.{eq-or-lt-of-le, le-of-suc-le-suc, not-suc-le-zero}
+use Rattle.sets.specs.Bounded.{gather}
+use Rattle.tables.specs.Fields.{filledBy}
+
+module _ (f : ℕ → ℕ) where
+  pub length-values : (k : ℕ) → length (gather k (λ i. f i ∷ [])) ≡ k
+  unfolding gather
+  length-values zero = refl
+  length-values (suc k) = length-append (gather k (λ i. f i ∷ [])) (f k ∷ []) ∙ omega (arith, length-values k)
+
+  pub getD-values : (k i : ℕ) → i < k → getD (gather k (λ i. f i ∷ [])) i 0 ≡ f i
+  unfolding gather
+  getD-values zero i l = absurd (not-suc-le-zero l)
+  getD-values (suc k) i l =
+      ⊎-elim
+      (λ (e : i ≡ k). ap (λ (j : ℕ). getD (gather k (λ i. f i ∷ []) ++ (f k ∷ [])) j 0) e ∙ getD-at (gather k (λ i. f i ∷ [])) (f k) [] 0 k (length-values k) ∙ ap f (sym e))
+      (λ m. List·getD-append (gather k (λ i. f i ∷ [])) (f k ∷ []) 0 i (subst (λ (j : ℕ). i < j) (sym (length-values k)) m) ∙ getD-values k i m)
+      (eq-or-lt-of-le (le-of-suc-le-suc l))
+
+  pub filled-none : (d : List ℕ) → d ≡ filledBy 0 f d
+  unfolding gather
+  filled-none d = refl
+
+  filled-suc : (k : ℕ) (d : List ℕ) → k < length d → set (filledBy k f d) k (f k) ≡ filledBy (suc k) f d
+  unfolding gather
+  filled-suc k d l =
+      ap (λ (r : List ℕ). set (gather k (λ i. f i ∷ []) ++ r) k (f k)) (drop-cons d k 0 l)
+      ∙ set-at (gather k (λ i. f i ∷ [])) (getD d k 0) (drop (suc k) d) (f k) k (length-values k)
+      ∙ sym (append-assoc (gather k (λ i. f i ∷ [])) (f k ∷ []) (drop (suc k) d))
+
+  pub filled-more : (k : ℕ) (d : List ℕ) → k < length d → set (filledBy k f d) k (f k) ≡ filledBy (k + 1) f d
+  filled-more k d l = rw add-one (filled-suc k d l)
+
+  pub length-filled : (k : ℕ) (d : List ℕ) → k ≤ length d → length (filledBy k f d) ≡ length d
+  length-filled k d l = length-append (gather k (λ i. f i ∷ [])) (drop k d) ∙ omega (arith, length-values k, length-drop k d)
+
+  pub getD-filled : (k : ℕ) (d : List ℕ) (i : ℕ) → i < k → getD (filledBy k f d) i 0 ≡ f i
+  getD-filled k d i l = List·getD-append (gather k (λ i. f i ∷ [])) (drop k d) 0 i (subst (λ (j : ℕ). i < j) (sym (length-values k)) l) ∙ getD-values k i l
+
+  pub getD-rest : (k : ℕ) (d : List ℕ) (i : ℕ) → k ≤ i → getD (filledBy k f d) i 0 ≡ getD d i 0
+  getD-rest k d i l =
+      let e : length (gather k (λ i. f i ∷ [])) + (i - k) ≡ i = omega (arith, length-values k) in
+      let m : k + (i - k) ≡ i = omega arith in
+      ap (λ (j : ℕ). getD (filledBy k f d) j 0) (sym e)
+      ∙ getD-append-add (gather k (λ i. f i ∷ [])) (drop k d) (i - k) 0
+      ∙ getD-drop k d (i - k) 0
+      ∙ ap (λ (j : ℕ). getD d j 0) m
+
+pub values-ext : (f g : ℕ → ℕ) (k : ℕ) → ((i : ℕ) → i < k → f i ≡ g i) → gather k (λ i. f i ∷ []) ≡ gather k (λ i. g i ∷ [])
+unfolding gather
+values-ext f g zero h = refl
+values-ext f g (suc k) h = ap₂ (λ (l : List ℕ) (x : ℕ). l ++ (x ∷ [])) (values-ext f g k (λ i l. h i (le-step l))) (h k (le-refl (suc k)))
+
+pub filled-ext : (f g : ℕ → ℕ) (k : ℕ) (d : List ℕ) → ((i : ℕ) → i < k → f i ≡ g i) → filledBy k f d ≡ filledBy k g d
+filled-ext f g k d h = ap (λ (l : List ℕ). l ++ drop k d) (values-ext f g k h)

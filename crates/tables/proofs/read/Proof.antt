@@ -1,0 +1,43 @@
+use Rattle.tables.proofs.Fieldwise.{read-fine, read-refused}
+use Rattle.tables.proofs.Checks.{sized}
+use borrow.Author.Needs.{needs}
+use Rattle.tables.proofs.read.Statement.{statement}
+use Rattle.tables.proofs.read.Tie as tie
+use Rattle.tables.proofs.read.Reads as reads
+use Rattle.tables.proofs.read.Lts as lts
+use Rattle.tables.proofs.check.Reads as check-reads
+use Rattle.tables.proofs.fields_of.Reads as fields-of-reads
+use Rattle.tables.proofs.no_fields.Reads as no-fields-reads
+
+check-requires : tie.Need-check-requires
+check-requires c κs = search needs
+
+enum-known-number : tie.Need-enum-known-number
+enum-known-number c = search needs
+
+no-fields-requires : tie.Need-no-fields-requires
+no-fields-requires c κs = search needs
+
+enum-told : tie.Need-enum-told
+enum-told c = search needs
+
+fields-of-requires : tie.Need-fields-of-requires
+fields-of-requires c κs = sized (c .before .before .before .before .args .table .now) (cc)
+
+returns : tie.Need-returns
+returns c = read-refused (c .before .before .before .before .before .before .args .table .now) _ _ _ (cc) (c .no-fields .ensures)
+
+returns-2 : tie.Need-returns-2
+returns-2 c = read-fine (c .before .before .before .before .before .args .table .now) _ (cc) (c .fields-of .ensures)
+
+pub read-spec : {M : Type 1} → statement M
+read-spec =
+    tie.close
+    (tie.spec
+    check-requires
+    enum-known-number
+    no-fields-requires
+    enum-told
+    fields-of-requires
+    returns
+    returns-2)
