@@ -29,3 +29,29 @@ pub fn subset(s: u32, t: u32) -> bool
 {
     s & t == s
 }
+
+pub fn single(i: u32) -> u32
+    requires { ⌜ i < 32 ⌝ }
+    ensures { λ r. ⌜ r ≡ one i ⌝ }
+{
+    1 << i
+}
+
+pub fn without(s: u32, i: u32) -> u32
+    requires { ⌜ i < 32 ⌝ }
+    ensures { λ r. ⌜ r ≡ lacking s i ⌝ }
+{
+    if member(s, i) { s - single(i) } else { s }
+}
+
+// Sets the first `end` places to v.
+pub fn fill(d: &mut [u32], end: usize, v: u32)
+    requires { ⌜ end ≤ length (now d) ⌝ }
+    ensures { λ _. ⌜ now (d .exit) ≡ filled end v (now (d .entry)) ⌝ }
+{
+    let mut i = 0;
+    while i < end {
+        d[i] = v;
+        i += 1;
+    }
+}

@@ -1,0 +1,3 @@
+pub mod Logic
+pub mod Bounded
+pub mod Mask

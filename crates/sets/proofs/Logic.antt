@@ -1,0 +1,124 @@
+-- Tests: what `&&`, `||`, `not` and `Bool·beq` say of their parts.
+-- Assumes nothing.
+use mathlib.Core.Path.{_≡_, refl, sym, _∙_}
+use mathlib.Core.Logic.{_⊎_, inl, inr}
+use mathlib.Core.Bool.{Bool, true, false, not, _&&_, _||_, Bool·beq, true≢false, false≢true}
+
+-- a test holds or fails
+pub decided : (b : Bool) → (b ≡ true) ⊎ (b ≡ false)
+decided true = inl refl
+decided false = inr refl
+
+-- and not both
+pub clash {ℓ} : {A : Type ℓ} {b : Bool} → b ≡ true → b ≡ false → A
+clash p q = absurd (true≢false (sym p ∙ q))
+
+pub refuted : (b : Bool) → (b ≡ true → ⊥) → b ≡ false
+refuted true h = absurd (h refl)
+refuted false h = refl
+
+pub affirmed : (b : Bool) → (b ≡ false → ⊥) → b ≡ true
+affirmed true h = refl
+affirmed false h = absurd (h refl)
+
+-- two tests that hold together are the same
+pub same-truth : (a b : Bool) → (a ≡ true → b ≡ true) → (b ≡ true → a ≡ true) → a ≡ b
+same-truth true b f g = sym (f refl)
+same-truth false true f g = g refl
+same-truth false false f g = refl
+
+-- ---- and
+
+pub and-left : (a b : Bool) → (a && b) ≡ true → a ≡ true
+and-left true b e = refl
+and-left false b e = e
+
+pub and-right : (a b : Bool) → (a && b) ≡ true → b ≡ true
+and-right true b e = e
+and-right false b e = absurd (false≢true e)
+
+pub and-intro : {a b : Bool} → a ≡ true → b ≡ true → (a && b) ≡ true
+and-intro {a = true} {b} p q = q
+and-intro {a = false} {b} p q = p
+
+pub and-false-cases : (a b : Bool) → (a && b) ≡ false → (a ≡ false) ⊎ (b ≡ false)
+and-false-cases true b e = inr e
+and-false-cases false b e = inl refl
+
+pub and-false-left : {a : Bool} (b : Bool) → a ≡ false → (a && b) ≡ false
+and-false-left {a = true} b e = absurd (true≢false e)
+and-false-left {a = false} b e = refl
+
+pub and-false-right : (a : Bool) {b : Bool} → b ≡ false → (a && b) ≡ false
+and-false-right true e = e
+and-false-right false e = refl
+
+-- ---- or
+
+pub or-cases : (a b : Bool) → (a || b) ≡ true → (a ≡ true) ⊎ (b ≡ true)
+or-cases true b e = inl refl
+or-cases false b e = inr e
+
+pub or-left : {a : Bool} (b : Bool) → a ≡ true → (a || b) ≡ true
+or-left {a = true} b e = refl
+or-left {a = false} b e = absurd (false≢true e)
+
+pub or-right : (a : Bool) {b : Bool} → b ≡ true → (a || b) ≡ true
+or-right true e = refl
+or-right false e = e
+
+pub or-false-left : (a b : Bool) → (a || b) ≡ false → a ≡ false
+or-false-left true b e = e
+or-false-left false b e = refl
+
+pub or-false-right : (a b : Bool) → (a || b) ≡ false → b ≡ false
+or-false-right true b e = absurd (true≢false e)
+or-false-right false b e = e
+
+pub or-false-intro : {a b : Bool} → a ≡ false → b ≡ false → (a || b) ≡ false
+or-false-intro {a = true} {b} p q = p
+or-false-intro {a = false} {b} p q = q
+
+-- ---- not; `not-true` and `not-false` of `borrow.Author.Tests` go the other way
+
+pub true-not : {b : Bool} → b ≡ true → not b ≡ false
+true-not {b = true} e = refl
+true-not {b = false} e = sym e
+
+pub false-not : {b : Bool} → b ≡ false → not b ≡ true
+false-not {b = true} e = sym e
+false-not {b = false} e = refl
+
+-- ---- `not a || b`: where a holds, b does
+
+pub implies-intro : (a b : Bool) → (a ≡ true → b ≡ true) → (not a || b) ≡ true
+implies-intro true b f = f refl
+implies-intro false b f = refl
+
+pub implies-at : (a b : Bool) → (not a || b) ≡ true → a ≡ true → b ≡ true
+implies-at true b e p = e
+implies-at false b e p = absurd (false≢true p)
+
+pub implies-fails : (a b : Bool) → (not a || b) ≡ false → (a ≡ true) × (b ≡ false)
+implies-fails true b e = (refl, e)
+implies-fails false b e = absurd (true≢false e)
+
+-- ---- `Bool·beq`
+
+pub beq-same : (a b : Bool) → Bool·beq a b ≡ true → a ≡ b
+beq-same true true e = refl
+beq-same true false e = sym e
+beq-same false true e = e
+beq-same false false e = refl
+
+pub same-beq : {a b : Bool} → a ≡ b → Bool·beq a b ≡ true
+same-beq {a = true} {b = true} e = refl
+same-beq {a = true} {b = false} e = sym e
+same-beq {a = false} {b = true} e = e
+same-beq {a = false} {b = false} e = refl
+
+pub beq-differ : (a b : Bool) → Bool·beq a b ≡ false → a ≡ b → ⊥
+beq-differ a b e q = clash (same-beq q) e
+
+pub differ-beq : (a b : Bool) → (a ≡ b → ⊥) → Bool·beq a b ≡ false
+differ-beq a b h = refuted (Bool·beq a b) (λ e. h (beq-same a b e))

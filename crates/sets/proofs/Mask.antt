@@ -1,0 +1,384 @@
+-- Laws of sets as masks.
+-- Assumes nothing.
+use mathlib.Core.Path.{_≡_, refl, sym, ap, ap₂, _∙_, subst}
+use mathlib.Core.Logic.{⊎-elim}
+use mathlib.Core.Bool.{Bool, true, false, cond, not, _&&_, _||_, or-false}
+use Prim.Native.Nat.{ℕ, zero, suc, min, max, _+_, _-_, _/_, _%_, _^_, _≤_, _<_, suc-le-suc}
+use native.Mathlib.Nat.{le-refl, le-step, le-of-suc-le-suc, lt-of-lt-of-le, lt-of-le-of-lt, lt-of-not-le, zero-div, div-one, div-eq-of-lt, div-self, div-div-eq-div-mul, pow-succ', mod-lt, zero-lt-suc, zero-min, zero-max, le-add-right, add-comm, sub-add-cancel, div-eq-sub-div}
+use native.Mathlib.Numerals.{add-one}
+use native.Mathlib.Omega.{arith}
+use lib.Dec.{eqb}
+use lib.Pow.{pow-pos, pow-mono, pow-lt}
+use lib.Bits.{bitAnd, bitOr, and-step, or-step, and-shr, or-shr, and-comm, and-self, and-le-l, and-le-r, or-lt, or-disjoint, or-zero-r}
+use borrow.Author.Tests.{eqb-true, eqb-false, eq-eqb, ne-eqb}
+use Rattle.sets.specs.Mask.{member, common, union, subset, without, unionOver}
+use Rattle.sets.specs.Bounded.{all, any}
+use Rattle.sets.proofs.Logic.{decided, clash, refuted, same-truth, and-left, and-right, and-intro, or-cases, or-left, or-right, implies-at, implies-fails}
+use Rattle.sets.proofs.Bounded.{all-at, all-fails, any-found, any-none, any-intro}
+
+-- ---- members
+
+pub member-zero : (i : ℕ) → member 0 i ≡ false
+member-zero i = ap (λ (x : ℕ). eqb (x % 2) 1) (zero-div (2 ^ i))
+
+pub member-first : (s : ℕ) → member s 0 ≡ eqb (s % 2) 1
+member-first s = ap (λ (x : ℕ). eqb (x % 2) 1) (div-one s)
+
+pub member-half : (s i : ℕ) → member s (suc i) ≡ member (s / 2) i
+member-half s i =
+    ap (λ (x : ℕ). eqb (s / x % 2) 1) (pow-succ' 2 i) ∙ ap (λ (x : ℕ). eqb (x % 2) 1) (sym (div-div-eq-div-mul s 2 (2 ^ i)))
+
+-- a set below 2 ^ n has only members below n
+pub member-beyond : (n s i : ℕ) → s < 2 ^ n → n ≤ i → member s i ≡ false
+member-beyond n s i h l = ap (λ (x : ℕ). eqb (x % 2) 1) (div-eq-of-lt (lt-of-lt-of-le h (pow-mono l)))
+
+pub member-below : (n s i : ℕ) → s < 2 ^ n → member s i ≡ true → i < n
+member-below n s i h m = lt-of-not-le (λ l. clash m (member-beyond n s i h l))
+
+-- a set is at least each of its members alone
+pub single-le : (s i : ℕ) → member s i ≡ true → 2 ^ i ≤ s
+single-le s i m = le-of-suc-le-suc (lt-of-not-le (λ l. clash m (member-beyond i s i l (le-refl i))))
+
+-- every number is a set of so many states
+pub enough : (s : ℕ) → s < 2 ^ s
+enough zero = zero-lt-suc 0
+enough (suc s) = omega (arith, enough s, pow-succ' 2 s)
+
+-- ---- common part and union
+
+min-eqb : (x y : ℕ) → x < 2 → y < 2 → eqb (min x y) 1 ≡ (eqb x 1 && eqb y 1)
+min-eqb zero y h k = ap (λ (x : ℕ). eqb x 1) (zero-min y)
+min-eqb (suc zero) zero h k = refl
+min-eqb (suc zero) (suc zero) h k = refl
+min-eqb (suc zero) (suc (suc y)) h k = absurd (omega arith)
+min-eqb (suc (suc x)) y h k = absurd (omega arith)
+
+max-eqb : (x y : ℕ) → x < 2 → y < 2 → eqb (max x y) 1 ≡ (eqb x 1 || eqb y 1)
+max-eqb zero y h k = ap (λ (x : ℕ). eqb x 1) (zero-max y)
+max-eqb (suc zero) zero h k = refl
+max-eqb (suc zero) (suc zero) h k = refl
+max-eqb (suc zero) (suc (suc y)) h k = absurd (omega arith)
+max-eqb (suc (suc x)) y h k = absurd (omega arith)
+
+and-odd : (s t : ℕ) → bitAnd s t % 2 ≡ min (s % 2) (t % 2)
+and-odd s t = omega (arith, and-step s t)
+
+or-odd : (s t : ℕ) → bitOr s t % 2 ≡ max (s % 2) (t % 2)
+or-odd s t = omega (arith, or-step s t)
+
+odd-lt : (s : ℕ) → s % 2 < 2
+odd-lt s = mod-lt s (zero-lt-suc 1)
+
+pub member-and : (s t i : ℕ) → member (common s t) i ≡ (member s i && member t i)
+member-and s t i =
+    ap (λ (x : ℕ). eqb (x % 2) 1) (and-shr s t i) ∙ ap (λ (x : ℕ). eqb x 1) (and-odd (s / 2 ^ i) (t / 2 ^ i))
+    ∙ min-eqb (s / 2 ^ i % 2) (t / 2 ^ i % 2) (odd-lt (s / 2 ^ i)) (odd-lt (t / 2 ^ i))
+
+pub member-or : (s t i : ℕ) → member (union s t) i ≡ (member s i || member t i)
+member-or s t i =
+    ap (λ (x : ℕ). eqb (x % 2) 1) (or-shr s t i) ∙ ap (λ (x : ℕ). eqb x 1) (or-odd (s / 2 ^ i) (t / 2 ^ i))
+    ∙ max-eqb (s / 2 ^ i % 2) (t / 2 ^ i % 2) (odd-lt (s / 2 ^ i)) (odd-lt (t / 2 ^ i))
+
+pub common-lt : (n s t : ℕ) → t < 2 ^ n → common s t < 2 ^ n
+common-lt n s t h = lt-of-le-of-lt (and-le-r s t) h
+
+pub common-lt-left : (n s t : ℕ) → s < 2 ^ n → common s t < 2 ^ n
+common-lt-left n s t h = lt-of-le-of-lt (and-le-l s t) h
+
+pub union-lt : (n s t : ℕ) → s < 2 ^ n → t < 2 ^ n → union s t < 2 ^ n
+union-lt n s t h k = or-lt n s t h k
+
+-- ---- one state
+
+pub member-single : (i : ℕ) → member (2 ^ i) i ≡ true
+member-single i = ap (λ (x : ℕ). eqb (x % 2) 1) (div-self (pow-pos i))
+
+pow-half : (i : ℕ) → 2 ^ suc i / 2 ≡ 2 ^ i
+pow-half i = omega (arith, pow-succ' 2 i)
+
+pub member-single-other : (i j : ℕ) → (j ≡ i → ⊥) → member (2 ^ i) j ≡ false
+member-single-other zero zero h = absurd (h refl)
+member-single-other zero (suc j) h = member-half 1 j ∙ member-zero j
+member-single-other (suc i) zero h = member-first (2 ^ suc i) ∙ ne-eqb (2 ^ suc i % 2) 1 (λ e. omega (arith, pow-succ' 2 i))
+member-single-other (suc i) (suc j) h =
+    member-half (2 ^ suc i) j ∙ ap (λ (x : ℕ). member x j) (pow-half i) ∙ member-single-other i j (λ e. h (ap suc e))
+
+-- ---- equal sets
+
+odd-same : (x y : ℕ) → x < 2 → y < 2 → eqb x 1 ≡ eqb y 1 → x ≡ y
+odd-same x y h k e =
+    ⊎-elim (λ t. omega (arith, eqb-true x 1 t, eqb-true y 1 (sym e ∙ t)))
+    (λ f. omega (arith, eqb-false x 1 f, eqb-false y 1 (sym e ∙ f))) (decided (eqb x 1))
+
+half-lt : (n s : ℕ) → s < 2 ^ suc n → s / 2 < 2 ^ n
+half-lt n s h = omega (arith, pow-succ' 2 n)
+
+-- sets below 2 ^ n with the same members below n are equal
+pub ext : (n s t : ℕ) → s < 2 ^ n → t < 2 ^ n → ((i : ℕ) → i < n → member s i ≡ member t i) → s ≡ t
+ext zero s t h k e = omega arith
+ext (suc n) s t h k e =
+    let p : s / 2 ≡ t / 2 = ext n (s / 2) (t / 2) (half-lt n s h) (half-lt n t k) (λ i l. sym (member-half s i) ∙ e (suc i) (suc-le-suc l) ∙ member-half t i) in
+    let q : s % 2 ≡ t % 2 = odd-same (s % 2) (t % 2) (odd-lt s) (odd-lt t) (sym (member-first s) ∙ e 0 (zero-lt-suc n) ∙ member-first t) in
+    omega arith
+
+either-lt : (s t : ℕ) → s < 2 ^ (s + t)
+either-lt s t = lt-of-lt-of-le (enough s) (pow-mono (le-add-right s t))
+
+-- without a bound
+pub ext-all : (s t : ℕ) → ((i : ℕ) → member s i ≡ member t i) → s ≡ t
+ext-all s t e =
+    ext (s + t) s t (either-lt s t) (subst (λ (k : ℕ). t < 2 ^ k) (add-comm t s) (either-lt t s)) (λ i l. e i)
+
+-- ---- subsets
+
+pub subset-member : (s t : ℕ) → subset s t ≡ true → (i : ℕ) → member s i ≡ true → member t i ≡ true
+subset-member s t h i m =
+    and-right (member s i) (member t i) (sym (member-and s t i) ∙ ap (λ (x : ℕ). member x i) (eqb-true (common s t) s h) ∙ m)
+
+-- what is not in t is not in a subset of t
+pub subset-missing : (s t : ℕ) → subset s t ≡ true → (i : ℕ) → member t i ≡ false → member s i ≡ false
+subset-missing s t h i m = refuted (member s i) (λ k. clash (subset-member s t h i k) m)
+
+pub subset-intro : (n s t : ℕ) → s < 2 ^ n → ((i : ℕ) → i < n → member s i ≡ true → member t i ≡ true) → subset s t ≡ true
+subset-intro n s t h f =
+    eq-eqb (common s t) s
+    (ext n (common s t) s (common-lt-left n s t h) h
+    (λ i l. member-and s t i ∙ same-truth (member s i && member t i) (member s i) (and-left (member s i) (member t i)) (λ m. and-intro m (f i l m))))
+
+-- without a bound
+pub subset-of : (s t : ℕ) → ((i : ℕ) → member s i ≡ true → member t i ≡ true) → subset s t ≡ true
+subset-of s t f = subset-intro s s t (enough s) (λ i l. f i)
+
+-- s is not a subset: this state is in s and not in t
+pub subset-witness : (n s t : ℕ) → s < 2 ^ n → subset s t ≡ false → (i : ℕ) × (i < n) × (member s i ≡ true) × (member t i ≡ false)
+subset-witness n s t h f =
+    ⊎-elim
+    (λ a. clash (subset-intro n s t h (λ i l. implies-at (member s i) (member t i) (all-at n (λ i. not (member s i) || member t i) a i l))) f)
+    (λ a. let w = all-fails n (λ i. not (member s i) || member t i) a in
+    let v = implies-fails (member s (w .0)) (member t (w .0)) (w .2) in
+    (w .0, w .1, v .0, v .1))
+    (decided (all n (λ i. not (member s i) || member t i)))
+
+pub subset-refuted : (s t i : ℕ) → member s i ≡ true → member t i ≡ false → subset s t ≡ false
+subset-refuted s t i m k = refuted (subset s t) (λ h. clash (subset-member s t h i m) k)
+
+pub subset-refl : (s : ℕ) → subset s s ≡ true
+subset-refl s = eq-eqb (common s s) s (and-self s)
+
+pub subset-trans : (s t u : ℕ) → subset s t ≡ true → subset t u ≡ true → subset s u ≡ true
+subset-trans s t u h k = subset-of s u (λ i m. subset-member t u k i (subset-member s t h i m))
+
+pub subset-antisym : (s t : ℕ) → subset s t ≡ true → subset t s ≡ true → s ≡ t
+subset-antisym s t h k = sym (eqb-true (common s t) s h) ∙ and-comm s t ∙ eqb-true (common t s) t k
+
+pub subset-le : (s t : ℕ) → subset s t ≡ true → s ≤ t
+subset-le s t h = subst (λ (x : ℕ). x ≤ t) (eqb-true (common s t) s h) (and-le-r s t)
+
+pub subset-lt : (n s t : ℕ) → subset s t ≡ true → t < 2 ^ n → s < 2 ^ n
+subset-lt n s t h k = lt-of-le-of-lt (subset-le s t h) k
+
+pub subset-zero : (t : ℕ) → subset 0 t ≡ true
+subset-zero t = refl
+
+pub common-subset-left : (s t : ℕ) → subset (common s t) s ≡ true
+common-subset-left s t = subset-of (common s t) s (λ i m. and-left (member s i) (member t i) (sym (member-and s t i) ∙ m))
+
+pub common-subset-right : (s t : ℕ) → subset (common s t) t ≡ true
+common-subset-right s t = subset-of (common s t) t (λ i m. and-right (member s i) (member t i) (sym (member-and s t i) ∙ m))
+
+-- a subset of both is one of the common part
+pub common-greatest : (r s t : ℕ) → subset r s ≡ true → subset r t ≡ true → subset r (common s t) ≡ true
+common-greatest r s t h k =
+    subset-of r (common s t) (λ i m. member-and s t i ∙ and-intro (subset-member r s h i m) (subset-member r t k i m))
+
+pub subset-common-mono : (s s′ t t′ : ℕ) → subset s s′ ≡ true → subset t t′ ≡ true → subset (common s t) (common s′ t′) ≡ true
+subset-common-mono s s′ t t′ h k =
+    common-greatest (common s t) s′ t′
+    (subset-trans (common s t) s s′ (common-subset-left s t) h)
+    (subset-trans (common s t) t t′ (common-subset-right s t) k)
+
+pub union-subset-left : (s t : ℕ) → subset s (union s t) ≡ true
+union-subset-left s t = subset-of s (union s t) (λ i m. member-or s t i ∙ or-left (member t i) m)
+
+pub union-subset-right : (s t : ℕ) → subset t (union s t) ≡ true
+union-subset-right s t = subset-of t (union s t) (λ i m. member-or s t i ∙ or-right (member s i) m)
+
+pub union-least : (s t u : ℕ) → subset s u ≡ true → subset t u ≡ true → subset (union s t) u ≡ true
+union-least s t u h k =
+    subset-of (union s t) u
+    (λ i m. ⊎-elim (λ a. subset-member s u h i a) (λ b. subset-member t u k i b) (or-cases (member s i) (member t i) (sym (member-or s t i) ∙ m)))
+
+-- ---- sets with no state in common
+
+pub common-zero : (s t : ℕ) → common s t ≡ 0 → (i : ℕ) → member s i ≡ true → member t i ≡ false
+common-zero s t e i m =
+    refuted (member t i) (λ k. clash (member-and s t i ∙ and-intro m k) (ap (λ (x : ℕ). member x i) e ∙ member-zero i))
+
+pub common-zero-intro : (n s t : ℕ) → s < 2 ^ n → ((i : ℕ) → i < n → member s i ≡ true → member t i ≡ false) → common s t ≡ 0
+common-zero-intro n s t h f =
+    ext n (common s t) 0 (common-lt-left n s t h) (pow-pos n)
+    (λ i l. member-and s t i
+    ∙ refuted (member s i && member t i) (λ m. clash (and-right (member s i) (member t i) m) (f i l (and-left (member s i) (member t i) m)))
+    ∙ sym (member-zero i))
+
+-- the common part is not empty: this state is in it
+pub common-witness : (n s t : ℕ) → s < 2 ^ n → (common s t ≡ 0 → ⊥) → (i : ℕ) × (i < n) × (member s i ≡ true) × (member t i ≡ true)
+common-witness n s t h f =
+    ⊎-elim
+    (λ a. let w = any-found n (λ i. member s i && member t i) a in
+    (w .0, w .1, and-left (member s (w .0)) (member t (w .0)) (w .2), and-right (member s (w .0)) (member t (w .0)) (w .2)))
+    (λ a. absurd (f (common-zero-intro n s t h
+    (λ i l m. refuted (member t i) (λ k. clash (and-intro m k) (any-none n (λ i. member s i && member t i) a i l))))))
+    (decided (any n (λ i. member s i && member t i)))
+
+pub common-nonzero : (s t i : ℕ) → member s i ≡ true → member t i ≡ true → common s t ≡ 0 → ⊥
+common-nonzero s t i m k e = clash k (common-zero s t e i m)
+
+-- ---- one state put in
+
+module _ (s i : ℕ) (f : member s i ≡ false) where
+  pub union-add : union s (2 ^ i) ≡ s + 2 ^ i
+  union-add =
+      or-disjoint s (2 ^ i)
+      (common-zero-intro s s (2 ^ i) (enough s)
+      (λ j l m. member-single-other i j (λ e. clash (subst (λ (k : ℕ). member s k ≡ true) e m) f)))
+
+  pub add-lt : (n : ℕ) → s < 2 ^ n → i < n → s + 2 ^ i < 2 ^ n
+  add-lt n h l = subst (λ (x : ℕ). x < 2 ^ n) union-add (or-lt n s (2 ^ i) h (pow-lt l))
+
+  pub member-add : (j : ℕ) → member (s + 2 ^ i) j ≡ (member s j || member (2 ^ i) j)
+  member-add j = ap (λ (x : ℕ). member x j) (sym union-add) ∙ member-or s (2 ^ i) j
+
+  pub member-add-same : member (s + 2 ^ i) i ≡ true
+  member-add-same = member-add i ∙ or-right (member s i) (member-single i)
+
+  pub member-add-old : (j : ℕ) → member s j ≡ true → member (s + 2 ^ i) j ≡ true
+  member-add-old j m = member-add j ∙ or-left (member (2 ^ i) j) m
+
+  pub member-add-other : (j : ℕ) → (j ≡ i → ⊥) → member (s + 2 ^ i) j ≡ member s j
+  member-add-other j h = member-add j ∙ ap (λ (b : Bool). member s j || b) (member-single-other i j h) ∙ or-false (member s j)
+
+  pub subset-add : subset s (s + 2 ^ i) ≡ true
+  subset-add = subset-of s (s + 2 ^ i) member-add-old
+
+  -- it is still in any set that holds s and the state
+  pub add-subset : (t : ℕ) → subset s t ≡ true → member t i ≡ true → subset (s + 2 ^ i) t ≡ true
+  add-subset t h m =
+      subst (λ (x : ℕ). subset x t ≡ true) union-add
+      (union-least s (2 ^ i) t h
+      (subset-of (2 ^ i) t
+      (λ j k. ⊎-elim (λ b. subst (λ (x : ℕ). member t x ≡ true) (sym (eqb-true j i b)) m)
+      (λ b. clash k (member-single-other i j (eqb-false j i b))) (decided (eqb j i)))))
+
+-- ---- one state taken out
+
+module _ (s i : ℕ) (m : member s i ≡ true) where
+  pub sub-add : s - 2 ^ i + 2 ^ i ≡ s
+  sub-add = sub-add-cancel (single-le s i m)
+
+  pub member-sub-same : member (s - 2 ^ i) i ≡ false
+  member-sub-same =
+      ne-eqb ((s - 2 ^ i) / 2 ^ i % 2) 1
+      (λ e. omega (arith, div-eq-sub-div (pow-pos i) (single-le s i m), eqb-true (s / 2 ^ i % 2) 1 m))
+
+  pub member-sub-other : (j : ℕ) → (j ≡ i → ⊥) → member (s - 2 ^ i) j ≡ member s j
+  member-sub-other j h =
+      sym (member-add-other (s - 2 ^ i) i member-sub-same j h) ∙ ap (λ (x : ℕ). member x j) sub-add
+
+  pub sub-subset : subset (s - 2 ^ i) s ≡ true
+  sub-subset = subst (λ (x : ℕ). subset (s - 2 ^ i) x ≡ true) sub-add (subset-add (s - 2 ^ i) i member-sub-same)
+
+  pub sub-less : s - 2 ^ i < s
+  sub-less = omega (arith, sub-add, pow-pos i)
+
+pub without-member : (s i : ℕ) → member s i ≡ true → without s i ≡ s - 2 ^ i
+without-member s i m = ap (λ (b : Bool). cond b (s - 2 ^ i) s) m
+
+pub without-other : (s i : ℕ) → member s i ≡ false → without s i ≡ s
+without-other s i f = ap (λ (b : Bool). cond b (s - 2 ^ i) s) f
+
+pub member-without-same : (s i : ℕ) → member (without s i) i ≡ false
+member-without-same s i =
+    ⊎-elim (λ m. ap (λ (x : ℕ). member x i) (without-member s i m) ∙ member-sub-same s i m)
+    (λ f. ap (λ (x : ℕ). member x i) (without-other s i f) ∙ f) (decided (member s i))
+
+pub member-without-other : (s i j : ℕ) → (j ≡ i → ⊥) → member (without s i) j ≡ member s j
+member-without-other s i j h =
+    ⊎-elim (λ m. ap (λ (x : ℕ). member x j) (without-member s i m) ∙ member-sub-other s i m j h)
+    (λ f. ap (λ (x : ℕ). member x j) (without-other s i f)) (decided (member s i))
+
+pub without-subset : (s i : ℕ) → subset (without s i) s ≡ true
+without-subset s i =
+    ⊎-elim (λ m. ap (λ (x : ℕ). subset x s) (without-member s i m) ∙ sub-subset s i m)
+    (λ f. ap (λ (x : ℕ). subset x s) (without-other s i f) ∙ subset-refl s) (decided (member s i))
+
+pub without-lt : (n s i : ℕ) → s < 2 ^ n → without s i < 2 ^ n
+without-lt n s i h = subset-lt n (without s i) s (without-subset s i) h
+
+-- ---- a union over the members
+
+pub unionOver-zero : (s : ℕ) (f : ℕ → ℕ) → unionOver 0 s f ≡ 0
+unfolding unionOver
+unionOver-zero s f = refl
+
+pub unionOver-suc : (n s : ℕ) (f : ℕ → ℕ) → unionOver (suc n) s f ≡ union (unionOver n s f) (cond (member s n) (f n) 0)
+unfolding unionOver
+unionOver-suc n s f = refl
+
+-- as code counts
+pub unionOver-hit : (n s : ℕ) (f : ℕ → ℕ) → member s n ≡ true → unionOver (n + 1) s f ≡ union (unionOver n s f) (f n)
+unionOver-hit n s f m = rw add-one (unionOver-suc n s f ∙ ap (λ (b : Bool). union (unionOver n s f) (cond b (f n) 0)) m)
+
+pub unionOver-skip : (n s : ℕ) (f : ℕ → ℕ) → member s n ≡ false → unionOver (n + 1) s f ≡ unionOver n s f
+unionOver-skip n s f m =
+    rw add-one (unionOver-suc n s f ∙ ap (λ (b : Bool). union (unionOver n s f) (cond b (f n) 0)) m ∙ or-zero-r (unionOver n s f))
+
+picked : (b : Bool) (x j : ℕ) → member (cond b x 0) j ≡ (b && member x j)
+picked true x j = refl
+picked false x j = member-zero j
+
+pub member-unionOver : (n s : ℕ) (f : ℕ → ℕ) (j : ℕ) → member (unionOver n s f) j ≡ any n (λ i. member s i && member (f i) j)
+unfolding unionOver any
+member-unionOver zero s f j = member-zero j
+member-unionOver (suc n) s f j =
+    member-or (unionOver n s f) (cond (member s n) (f n) 0) j ∙ ap₂ _||_ (member-unionOver n s f j) (picked (member s n) (f n) j)
+
+-- a member comes from a member's set, and each of those is one
+pub unionOver-found : (n s : ℕ) (f : ℕ → ℕ) (j : ℕ) → member (unionOver n s f) j ≡ true → (i : ℕ) × (i < n) × (member s i ≡ true) × (member (f i) j ≡ true)
+unionOver-found n s f j h =
+    let w = any-found n (λ i. member s i && member (f i) j) (sym (member-unionOver n s f j) ∙ h) in
+    (w .0, w .1, and-left (member s (w .0)) (member (f (w .0)) j) (w .2), and-right (member s (w .0)) (member (f (w .0)) j) (w .2))
+
+pub unionOver-intro : (n s : ℕ) (f : ℕ → ℕ) (j i : ℕ) → i < n → member s i ≡ true → member (f i) j ≡ true → member (unionOver n s f) j ≡ true
+unionOver-intro n s f j i l m k =
+    member-unionOver n s f j ∙ any-intro n (λ i. member s i && member (f i) j) i l (and-intro m k)
+
+cond-lt : (b : Bool) (k x : ℕ) → x < 2 ^ k → cond b x 0 < 2 ^ k
+cond-lt true k x h = h
+cond-lt false k x h = pow-pos k
+
+pub unionOver-lt : (n s : ℕ) (f : ℕ → ℕ) (k : ℕ) → ((i : ℕ) → i < n → f i < 2 ^ k) → unionOver n s f < 2 ^ k
+unfolding unionOver
+unionOver-lt zero s f k h = pow-pos k
+unionOver-lt (suc n) s f k h =
+    or-lt k (unionOver n s f) (cond (member s n) (f n) 0) (unionOver-lt n s f k (λ i l. h i (le-step l))) (cond-lt (member s n) k (f n) (h n (le-refl (suc n))))
+
+pub unionOver-mono : (n s t : ℕ) (f : ℕ → ℕ) → subset s t ≡ true → subset (unionOver n s f) (unionOver n t f) ≡ true
+unionOver-mono n s t f h =
+    subset-of (unionOver n s f) (unionOver n t f)
+    (λ j m. let w = unionOver-found n s f j m in unionOver-intro n t f j (w .0) (w .1) (subset-member s t h (w .0) (w .2)) (w .3))
+
+-- the union is the least set that holds each
+pub unionOver-above : (n s : ℕ) (f : ℕ → ℕ) (i : ℕ) → i < n → member s i ≡ true → subset (f i) (unionOver n s f) ≡ true
+unionOver-above n s f i l m = subset-of (f i) (unionOver n s f) (λ j k. unionOver-intro n s f j i l m k)
+
+pub unionOver-least : (n s : ℕ) (f : ℕ → ℕ) (t : ℕ) → ((i : ℕ) → i < n → member s i ≡ true → subset (f i) t ≡ true) → subset (unionOver n s f) t ≡ true
+unionOver-least n s f t h =
+    subset-of (unionOver n s f) t
+    (λ j m. let w = unionOver-found n s f j m in subset-member (f (w .0)) t (h (w .0) (w .1) (w .2)) j (w .3))
+
+pub unionOver-ext : (n s : ℕ) (f g : ℕ → ℕ) → ((i : ℕ) → i < n → member s i ≡ true → f i ≡ g i) → unionOver n s f ≡ unionOver n s g
+unionOver-ext n s f g h =
+    subset-antisym (unionOver n s f) (unionOver n s g)
+    (unionOver-least n s f (unionOver n s g) (λ i l m. rw (h i l m) (unionOver-above n s g i l m)))
+    (unionOver-least n s g (unionOver n s f) (λ i l m. rw (← (h i l m)) (unionOver-above n s f i l m)))
