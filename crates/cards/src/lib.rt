@@ -1,0 +1,122 @@
+// The words of a card (document 01, "Words"): its checks, and the run over words and a cell number.
+use games::Action;
+use games::Cell;
+use games::Observation;
+
+ghost use mathlib.Core.Path.{_≡_};
+ghost use Prim.Native.Nat.{_<_, _≤_};
+ghost use lib.ListN.{length};
+ghost use Rattle.games.specs.Words.{lowField, numberField, actionField, word as wordOf};
+ghost use Rattle.cards.specs.Card.{upTo, headFits, cellNamed, cellFits, partFits, wordFits, checked};
+ghost use Rattle.cards.specs.Run.{opened, stepped, cellOr};
+
+// The limits of a card.
+const MAX_CELLS: u32 = 4096;
+const MAX_OBSERVATIONS: u32 = 8;
+const MAX_ACTIONS: u32 = 8;
+const SET_LIMIT: u32 = 4096;
+// The cell number that says: the observation cannot occur here.
+const NO_CELL: u32 = 65535;
+
+pub enum Check {
+    Fine,
+    Refused(u32, usize),
+}
+
+pub enum Move {
+    Entered(Cell, Action),
+    Refused(u32, usize),
+}
+
+fn low_field(w: u32) -> u32
+    ensures { λ r. ⌜ r ≡ lowField w ⌝ }
+{
+    w % 65536
+}
+
+fn number_field(w: u32) -> u32
+    ensures { λ r. ⌜ r ≡ numberField w ⌝ }
+{
+    w / 65536 % 16
+}
+
+fn action_field(w: u32) -> u32
+    ensures { λ r. ⌜ r ≡ actionField w ⌝ }
+{
+    w / 1048576 % 16
+}
+
+fn word(kind: u32, low: u32, number: u32, action: u32) -> u32
+    requires { ⌜ (kind < 16) × (low < 65536) × (number < 16) × (action < 16) ⌝ }
+    ensures { λ r. ⌜ r ≡ wordOf kind low number action ⌝ }
+{
+    kind * 268435456 + action * 1048576 + number * 65536 + low
+}
+
+fn up_to(limit: u32, n: u32) -> bool
+    ensures { λ r. ⌜ r ≡ upTo limit n ⌝ }
+{
+    (1 <= n) & (n <= limit)
+}
+
+fn head_fits(x: u32) -> bool
+    ensures { λ r. ⌜ r ≡ headFits x ⌝ }
+{
+    let low = low_field(x);
+    let number = number_field(x);
+    let action = action_field(x);
+    (x == word(8, low, number, action))
+        & up_to(MAX_CELLS, low)
+        & up_to(MAX_OBSERVATIONS, number)
+        & up_to(MAX_ACTIONS, action)
+}
+
+// A first or next word, by its kind, for observation j: it names a cell below m, or none.
+fn cell_named(kind: u32, m: u32, j: u32, x: u32) -> bool
+    requires { ⌜ (kind < 16) × (j < 16) ⌝ }
+    ensures { λ r. ⌜ r ≡ cellNamed kind m j x ⌝ }
+{
+    let low = low_field(x);
+    (x == word(kind, low, j, 0)) & ((low < m) | (low == NO_CELL))
+}
+
+// A cell's own word: its set is below the limit, its action below a.
+fn cell_fits(a: u32, x: u32) -> bool
+    ensures { λ r. ⌜ r ≡ cellFits a x ⌝ }
+{
+    let low = low_field(x);
+    let action = action_field(x);
+    (x == word(10, low, 0, action)) & (low < SET_LIMIT) & (action < a)
+}
+
+// The word number i behind the first words: each cell has one of its own and one for each observation.
+fn part_fits(m: u32, a: u32, o: u32, i: usize, x: u32) -> bool
+    requires { ⌜ o < 16 ⌝ }
+    ensures { λ r. ⌜ r ≡ partFits m a o i x ⌝ }
+{
+    let part = i % (1 + o as usize);
+    if part == 0 {
+        cell_fits(a, x)
+    } else {
+        cell_named(11, m, (part - 1) as u32, x)
+    }
+}
+
+// The word at place p is right.
+fn word_fits(card: &[u32], p: usize) -> bool
+    requires { ⌜ p < length (now card) ⌝ }
+    ensures { λ r. ⌜ r ≡ wordFits (now (card .entry)) p ⌝ }
+{
+    let head = card[0];
+    let x = card[p];
+    let o = number_field(head);
+    let start = 1 + o as usize;
+    if p == 0 {
+        return head_fits(x);
+    }
+    if p < start {
+        cell_named(9, low_field(head), (p - 1) as u32, x)
+    } else {
+        part_fits(low_field(head), action_field(head), o, p - start, x)
+    }
+}
