@@ -10,8 +10,8 @@ use lib.ListN.{length, getD}
 use Rattle.sets.specs.Bounded.{Found, nothing, found, first}
 use Rattle.games.specs.Automaton.{Automaton, noCell}
 use Rattle.games.specs.Words.{lowField, numberField, actionField, word, cardLength}
-use Rattle.cards.specs.declared.Check.{Check}
-use Rattle.cards.specs.declared.Check.the-variants.{Fine, Refused}
+use Rattle.cards.specs.declared.CardCheck.{CardCheck}
+use Rattle.cards.specs.declared.CardCheck.the-variants.{Fine, Refused}
 
 -- the limits of a card: cells, observations and actions are each from 1 up to these, and a set is below `setLimit`
 abbrev pub maxCells : ℕ
@@ -95,17 +95,20 @@ wordFits w p =
     (partFits (cardCells w) (cardActions w) o (p - firstPlace o) x))
 
 -- the lowest wrong word stops the check
-abbrev pub wrongWord : Found → Check
+abbrev pub wrongWord : Found → CardCheck
 wrongWord nothing = Fine
 wrongWord (found p) = Refused 13 p
 
+unfoldable pub wordsChecked : List ℕ → CardCheck
+wordsChecked w = wrongWord (first (length w) (λ p. not (wordFits w p)))
+
 -- refusal 13: no word, or a wrong head, at place 0; the length; the lowest wrong word
-unfoldable pub checked : List ℕ → Check
+unfoldable pub checked : List ℕ → CardCheck
 checked w =
     cond (eqb (length w) 0) (Refused 13 0)
     (cond (not (headFits (getD w headPlace 0))) (Refused 13 headPlace)
     (cond (not (eqb (length w) (cardLength (cardCells w) (cardObservations w)))) (Refused 13 (length w))
-    (wrongWord (first (length w) (λ p. not (wordFits w p))))))
+    (wordsChecked w)))
 
 -- a first or next cell: one of the automaton's, or none
 abbrev pub Named : Automaton → ℕ → Type 0

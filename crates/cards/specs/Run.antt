@@ -7,8 +7,8 @@ use lib.Dec.{eqb, leb}
 use Rattle.games.specs.Automaton.{Automaton, noCell}
 use Rattle.games.specs.declared.Cell.{Cell}
 use Rattle.games.specs.declared.Action.{Action}
-use Rattle.cards.specs.declared.Check.{Check}
-use Rattle.cards.specs.declared.Check.the-variants.{Fine, Refused as Wrong}
+use Rattle.cards.specs.declared.CardCheck.{CardCheck}
+use Rattle.cards.specs.declared.CardCheck.the-variants.{Fine, Refused as Wrong}
 use Rattle.cards.specs.declared.Move.{Move}
 use Rattle.cards.specs.declared.Move.the-variants.{Entered, Refused}
 use Rattle.cards.specs.Card.{automaton, cardObservations, checked}
@@ -30,7 +30,7 @@ unfoldable pub followed : Automaton → (o c j : ℕ) → Move
 followed A o c j = cond (leb (A .size) c) (Refused 12 c) (cond (leb o j) (Refused 12 j) (enters A (A .next c j) j))
 
 -- the card's own refusal comes first
-abbrev pub past : Check → Move → Move
+abbrev pub past : CardCheck → Move → Move
 past Fine r = r
 past (Wrong n p) r = Refused n p
 

@@ -2,23 +2,25 @@
 use games::Action;
 use games::Cell;
 use games::Observation;
-
 ghost use mathlib.Core.Path.{_≡_};
 ghost use Prim.Native.Nat.{_<_, _≤_};
 ghost use lib.ListN.{length};
-ghost use Rattle.games.specs.Words.{lowField, numberField, actionField, word as wordOf};
-ghost use Rattle.cards.specs.Card.{upTo, headFits, cellNamed, cellFits, partFits, wordFits, checked};
+ghost use Rattle.games.specs.Words.{lowField, numberField, actionField, word as wordOf, cardLength};
+ghost use Rattle.cards.specs.Card.{upTo, headFits, cellNamed, cellFits, partFits, wordFits, wordsChecked, checked};
 ghost use Rattle.cards.specs.Run.{opened, stepped, cellOr};
 
 // The limits of a card.
 const MAX_CELLS: u32 = 4096;
+
 const MAX_OBSERVATIONS: u32 = 8;
+
 const MAX_ACTIONS: u32 = 8;
+
 const SET_LIMIT: u32 = 4096;
 // The cell number that says: the observation cannot occur here.
 const NO_CELL: u32 = 65535;
 
-pub enum Check {
+pub enum CardCheck {
     Fine,
     Refused(u32, usize),
 }
@@ -119,4 +121,44 @@ fn word_fits(card: &[u32], p: usize) -> bool
     } else {
         part_fits(low_field(head), action_field(head), o, p - start, x)
     }
+}
+
+// The length that a head asks for.
+fn card_length(head: u32) -> usize
+    ensures { λ r. ⌜ r ≡ cardLength (lowField head) (numberField head) ⌝ }
+{
+    let m = low_field(head) as usize;
+    let o = number_field(head) as usize;
+    1 + o + m * (1 + o)
+}
+
+// The lowest wrong word stops the check.
+fn check_words(card: &[u32]) -> CardCheck
+    ensures { λ r. ⌜ r ≡ wordsChecked (now (card .entry)) ⌝ }
+{
+    let mut p = 0;
+    while p < card.len() {
+        if !word_fits(card, p) {
+            return CardCheck::Refused(13, p);
+        }
+        p += 1;
+    }
+    CardCheck::Fine
+}
+
+// Refusal 13: the head, the length, the words in order.
+pub fn check(card: &[u32]) -> CardCheck
+    ensures { λ r. ⌜ r ≡ checked (now (card .entry)) ⌝ }
+{
+    if card.len() == 0 {
+        return CardCheck::Refused(13, 0);
+    }
+    let head = card[0];
+    if !head_fits(head) {
+        return CardCheck::Refused(13, 0);
+    }
+    if card.len() != card_length(head) {
+        return CardCheck::Refused(13, card.len());
+    }
+    check_words(card)
 }
