@@ -238,3 +238,17 @@ fitting w e =
   where
     in-card : Sound w → {p : ℕ} → p < cardLength (cardCells w) (cardObservations w) → p < length w
     in-card s {p} l = subst (λ (n : ℕ). p < n) (sym (s .long)) l
+
+-- the places of a checked card lie in it
+module _ (w : List ℕ) (e : checked w ≡ Fine) where
+  pub some-word : 0 < length w
+  some-word = omega (arith, sound w e .long)
+
+  pub first-in : (j : ℕ) → j < cardObservations w → firstPlace j < length w
+  first-in j l = omega (arith, sound w e .long, first-within (cardCells w) (cardObservations w) j l)
+
+  pub cell-in : (c : ℕ) → c < cardCells w → cellPlace (cardObservations w) c < length w
+  cell-in c l = subst (λ (n : ℕ). cellPlace (cardObservations w) c < n) (sym (sound w e .long)) (cell-within (cardCells w) (cardObservations w) c l)
+
+  pub next-in : (c j : ℕ) → c < cardCells w → j < cardObservations w → nextPlace (cardObservations w) c j < length w
+  next-in c j l k = subst (λ (n : ℕ). nextPlace (cardObservations w) c j < n) (sym (sound w e .long)) (next-within (cardCells w) (cardObservations w) c j l k)

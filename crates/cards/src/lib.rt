@@ -6,8 +6,9 @@ ghost use mathlib.Core.Path.{_≡_};
 ghost use Prim.Native.Nat.{_<_, _≤_};
 ghost use lib.ListN.{length};
 ghost use Rattle.games.specs.Words.{lowField, numberField, actionField, word as wordOf, cardLength};
-ghost use Rattle.cards.specs.Card.{upTo, headFits, cellNamed, cellFits, partFits, wordFits, wordsChecked, checked};
-ghost use Rattle.cards.specs.Run.{opened, stepped, cellOr};
+ghost use Rattle.cards.specs.Card.{upTo, headFits, cellNamed, cellFits, partFits, wordFits, wordsChecked, checked, automaton, cardObservations, cellPlace, Named};
+ghost use Rattle.games.specs.Automaton.{noCell};
+ghost use Rattle.cards.specs.Run.{enters, begun, followed, opened, stepped, cellOr};
 
 // The limits of a card.
 const MAX_CELLS: u32 = 4096;
@@ -161,4 +162,92 @@ pub fn check(card: &[u32]) -> CardCheck
         return CardCheck::Refused(13, card.len());
     }
     check_words(card)
+}
+
+fn cell_place(o: u32, c: u32) -> usize
+    requires { ⌜ (o < 16) × (c < 65536) ⌝ }
+    ensures { λ r. ⌜ r ≡ cellPlace o c ⌝ }
+{
+    let each = 1 + o as usize;
+    each + c as usize * each
+}
+
+// The cell that the observation leads to, with its action, or 14.
+fn enter(card: &[u32], cell: Cell, seen: Observation) -> Move
+    requires { ⌜ (checked (now card) ≡ CardCheck.Fine) × Named (automaton (now card)) (cell .0) ⌝ }
+    ensures { λ r. ⌜ r ≡ enters (automaton (now (card .entry))) (cell .0) (seen .0) ⌝ }
+{
+    if cell.0 == NO_CELL {
+        return Move::Refused(14, seen.0 as usize);
+    }
+    let place = cell_place(number_field(card[0]), cell.0);
+    Move::Entered(cell, Action(action_field(card[place])))
+}
+
+// Opening a checked card.
+fn start(card: &[u32], seen: Observation) -> Move
+    requires { ⌜ checked (now card) ≡ CardCheck.Fine ⌝ }
+    ensures { λ r. ⌜ r ≡ begun (automaton (now (card .entry))) (cardObservations (now (card .entry))) (seen .0) ⌝ }
+{
+    if number_field(card[0]) <= seen.0 {
+        return Move::Refused(12, seen.0 as usize);
+    }
+    let place = 1 + seen.0 as usize;
+    enter(card, Cell(low_field(card[place])), seen)
+}
+
+// A step on a checked card.
+fn follow(card: &[u32], cell: Cell, seen: Observation) -> Move
+    requires { ⌜ checked (now card) ≡ CardCheck.Fine ⌝ }
+    ensures { λ r. ⌜ r ≡ followed (automaton (now (card .entry))) (cardObservations (now (card .entry))) (cell .0) (seen .0) ⌝ }
+{
+    if low_field(card[0]) <= cell.0 {
+        return Move::Refused(12, cell.0 as usize);
+    }
+    let o = number_field(card[0]);
+    if o <= seen.0 {
+        return Move::Refused(12, seen.0 as usize);
+    }
+    let place = cell_place(o, cell.0) + 1 + seen.0 as usize;
+    enter(card, Cell(low_field(card[place])), seen)
+}
+
+// Document 01's opening of a card with the first observation.
+pub fn begin(card: &[u32], seen: Observation) -> Move
+    ensures { λ r. ⌜ r ≡ opened (now (card .entry)) (seen .0) ⌝ }
+{
+    match check(card) {
+        CardCheck::Fine => start(card, seen),
+        CardCheck::Refused(number, place) => Move::Refused(number, place),
+    }
+}
+
+// A later observation in a cell.
+pub fn step(card: &[u32], cell: Cell, seen: Observation) -> Move
+    ensures { λ r. ⌜ r ≡ stepped (now (card .entry)) (cell .0) (seen .0) ⌝ }
+{
+    match check(card) {
+        CardCheck::Fine => follow(card, cell, seen),
+        CardCheck::Refused(number, place) => Move::Refused(number, place),
+    }
+}
+
+// The cell that the opening leads to; none where it is refused.
+pub fn first_cell(card: &[u32], seen: Observation) -> Cell
+    ensures { λ r. ⌜ r .0 ≡ cellOr (opened (now (card .entry)) (seen .0)) noCell ⌝ }
+{
+    match begin(card, seen) {
+        Move::Entered(cell, _) => cell,
+        Move::Refused(_, _) => Cell(NO_CELL),
+    }
+}
+
+// The cell that a step leads to; the same where it is refused.
+pub fn next_cell(card: &[u32], cell: Cell, seen: Observation) -> Cell
+    ensures { λ r. ⌜ r .0 ≡ cellOr (stepped (now (card .entry)) (cell .0) (seen .0)) (cell .0) ⌝ }
+{
+    match step(card, cell, seen) {
+        Move::Entered(entered, _) => entered,
+        Move::Refused(_, _) => cell,
+    }
 }
