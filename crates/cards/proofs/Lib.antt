@@ -1,2 +1,4 @@
+pub mod Extra
 pub mod Checked
 pub mod Running
+pub mod Written
