@@ -2,3 +2,4 @@ pub mod Extra
 pub mod Checked
 pub mod Running
 pub mod Written
+pub mod Runs

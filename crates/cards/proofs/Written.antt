@@ -217,10 +217,10 @@ module _ (A : Automaton) (a o : ℕ) (F : Fitting A a o) where
       record {
         size-same = size-of w ∙ written-cells;
         set-same = λ c l. set-of w c ∙ ap (λ (p : ℕ). lowField (getD w (cellPlace p c) 0)) written-observations ∙ ap lowField (cell-at A a o c (out c l))
-        ∙ low-of 10 (A .set c) 0 (A .action c) (omega (arith, F .set-below c (out c l))) (omega arith) (omega (arith, F .action-below c (out c l)));
+            ∙ low-of 10 (A .set c) 0 (A .action c) (omega (arith, F .set-below c (out c l))) (omega arith) (omega (arith, F .action-below c (out c l)));
         action-same = λ c l. action-of w c ∙ ap (λ (p : ℕ). actionField (getD w (cellPlace p c) 0)) written-observations ∙ ap actionField (cell-at A a o c (out c l))
-        ∙ action-of-word 10 (A .set c) 0 (A .action c) (omega (arith, F .set-below c (out c l))) (omega arith) (omega (arith, F .action-below c (out c l)));
+            ∙ action-of-word 10 (A .set c) 0 (A .action c) (omega (arith, F .set-below c (out c l))) (omega arith) (omega (arith, F .action-below c (out c l)));
         begins-same = λ j l. begins-of w j ∙ ap lowField (first-at A a o j l) ∙ low-of 9 (A .begins j) j 0 (cell-small (A .begins j) (F .begins-named j l)) (omega arith) (omega arith);
         next-same = λ c j l k. next-of w c j ∙ ap (λ (p : ℕ). lowField (getD w (nextPlace p c j) 0)) written-observations ∙ ap lowField (next-at A a o c j (out c l) k)
-        ∙ low-of 11 (A .next c j) j 0 (cell-small (A .next c j) (F .next-named c j (out c l) k)) (omega arith) (omega arith);
+            ∙ low-of 11 (A .next c j) j 0 (cell-small (A .next c j) (F .next-named c j (out c l) k)) (omega arith) (omega arith);
       }
