@@ -8,9 +8,6 @@ use lib.ListN.{length}
 use Rattle.cards.proofs.Checked.{Passed, passed-none, passed-more, stopped, passed-all}
 use Rattle.cards.proofs.check_words.Statement.{statement}
 use Rattle.cards.proofs.check_words.Tie as tie
-use Rattle.cards.proofs.check_words.Reads as reads
-use Rattle.cards.proofs.check_words.Lts as lts
-use Rattle.cards.proofs.word_fits.Reads as word-fits-reads
 
 abbrev Inv-loop : tie.InvT-loop
 Inv-loop card p₀ p = Passed card p
@@ -18,31 +15,24 @@ Inv-loop card p₀ p = Passed card p
 abbrev μ-loop : tie.MeasureT-loop
 μ-loop card p₀ p = length card - p
 
--- src/lib.rt:136:5
 loop-holds : tie.Need-loop-holds Inv-loop μ-loop
 loop-holds c = passed-none _
 
--- src/lib.rt:137:13
 word-fits-requires : tie.Need-word-fits-requires Inv-loop μ-loop
 word-fits-requires c κs = omega arith
 
--- src/lib.rt:138:13
 returns : tie.Need-returns Inv-loop μ-loop
 returns c = sym (stopped _ _ (c .before .before .before .loop .inv) (c .before .before .loop-test .taken) (sym (c .before .word-fits .ensures) ∙ not-true (c .before .word-fits .result) (c .if1 .taken)))
 
--- src/lib.rt:140:9
 add-p : tie.Need-add-p Inv-loop μ-loop
 add-p c = omega arith
 
--- src/lib.rt:136:5
 loop-less : tie.Need-loop-less Inv-loop μ-loop
 loop-less c = omega arith
 
--- src/lib.rt:136:5
 loop-again : tie.Need-loop-again Inv-loop μ-loop
 loop-again c = passed-more _ _ (c .before .before .before .loop .inv) (c .before .before .loop-test .taken) (sym (c .before .word-fits .ensures) ∙ not-false (c .before .word-fits .result) (c .if1 .left))
 
--- src/lib.rt:132:1
 returns-2 : tie.Need-returns-2 Inv-loop μ-loop
 returns-2 c = sym (passed-all _ _ (c .before .loop .inv) (c .loop-test .left))
 
