@@ -1,0 +1,5 @@
+pub mod Extra
+pub mod Checked
+pub mod Running
+pub mod Written
+pub mod Runs

@@ -1,0 +1,226 @@
+-- The words that are written of an automaton are a card, and mean that automaton.
+-- Assumes nothing.
+use mathlib.Core.Path.{_≡_, refl, sym, ap, subst, _∙_}
+use mathlib.Core.Logic.{_⊎_, inl, inr, ⊎-elim}
+use mathlib.Core.Bool.{Bool, true, false, not, _&&_, _||_}
+use mathlib.Core.List.{List, [], _∷_, _++_}
+use Prim.Native.Nat.{ℕ, zero, suc, _+_, _*_, _-_, _/_, _%_, _≤_, _<_}
+use native.Mathlib.Nat.{div-div-eq-div-mul, div-add-mod', mod-lt, div-lt-iff-lt-mul}
+use native.Mathlib.Omega.{arith}
+use lib.Dec.{eqb, leb, ltb}
+use lib.ListN.{length, getD, length-append, List·getD-append}
+use lib.Seq.{getD-append-add}
+use borrow.Author.Tests.{eq-eqb, ne-eqb, lt-ltb, le-leb, ltb-true, ltb-false}
+use Rattle.sets.specs.Bounded.{gather}
+use Rattle.sets.proofs.Logic.{decided, and-intro, or-left, or-right, true-not}
+use Rattle.games.specs.Automaton.{Automaton, noCell}
+use Rattle.games.specs.Words.{lowField, numberField, actionField, word, cardLength, cellWords, cardWords}
+use Rattle.cards.specs.declared.CardCheck.{CardCheck}
+use Rattle.cards.specs.declared.CardCheck.the-variants.{Fine, Refused}
+use Rattle.cards.specs.Card.{maxCells, maxObservations, maxActions, setLimit, headPlace, firstPlace, cellPlace, nextPlace, cardCells, cardObservations, cardActions, automaton, upTo, headFits, cellNamed, cellFits, partFits, wordFits, wrongWord, wordsChecked, checked, Named, Fitting}
+use Rattle.sets.proofs.Bounded.{first-none}
+use Rattle.cards.proofs.Extra.{gather-length, gather-at}
+use Rattle.cards.proofs.Checked.{word-head, word-begins, word-cell, word-next, only-words, Passed, passed-all}
+use Rattle.cards.proofs.Running.{size-of, set-of, action-of, begins-of, next-of}
+
+-- the fields of a word
+pub low-of : (k x n y : ℕ) → x < 65536 → n < 16 → y < 16 → lowField (word k x n y) ≡ x
+low-of k x n y a b c = omega arith
+
+pub number-of : (k x n y : ℕ) → x < 65536 → n < 16 → y < 16 → numberField (word k x n y) ≡ n
+number-of k x n y a b c = omega arith
+
+pub action-of-word : (k x n y : ℕ) → x < 65536 → n < 16 → y < 16 → actionField (word k x n y) ≡ y
+action-of-word k x n y a b c = omega arith
+
+-- the words that are written are right
+in-limit : (limit n : ℕ) → 1 ≤ n → n ≤ limit → upTo limit n ≡ true
+in-limit limit n a b = and-intro (le-leb 1 n a) (le-leb n limit b)
+
+pub head-right : (m o a : ℕ) → 1 ≤ m → m ≤ maxCells → 1 ≤ o → o ≤ maxObservations → 1 ≤ a → a ≤ maxActions → headFits (word 8 m o a) ≡ true
+unfolding headFits
+head-right m o a p q r s t u =
+    let x = word 8 m o a in
+    let e : lowField x ≡ m = low-of 8 m o a (omega arith) (omega arith) (omega arith) in
+    let f : numberField x ≡ o = number-of 8 m o a (omega arith) (omega arith) (omega arith) in
+    let g : actionField x ≡ a = action-of-word 8 m o a (omega arith) (omega arith) (omega arith) in
+    and-intro
+    (and-intro
+    (and-intro (eq-eqb x (word 8 (lowField x) (numberField x) (actionField x)) (omega arith)) (in-limit maxCells (lowField x) (omega arith) (omega arith)))
+    (in-limit maxObservations (numberField x) (omega arith) (omega arith)))
+    (in-limit maxActions (actionField x) (omega arith) (omega arith))
+
+one-named : (m x : ℕ) → (x < m) ⊎ (x ≡ noCell) → (ltb x m || eqb x noCell) ≡ true
+one-named m x h = ⊎-elim (λ l. or-left (eqb x noCell) (lt-ltb x m l)) (λ e. or-right (ltb x m) (eq-eqb x noCell e)) h
+
+pub named-right : (k m j x : ℕ) → x < 65536 → j < 16 → (x < m) ⊎ (x ≡ noCell) → cellNamed k m j (word k x j 0) ≡ true
+unfolding cellNamed
+named-right k m j x a b h =
+    let y = word k x j 0 in
+    let e : lowField y ≡ x = low-of k x j 0 a b (omega arith) in
+    and-intro (eq-eqb y (word k (lowField y) j 0) (ap (λ (z : ℕ). word k z j 0) (sym e))) (subst (λ (z : ℕ). (ltb z m || eqb z noCell) ≡ true) (sym e) (one-named m x h))
+
+pub cell-right : (a x y : ℕ) → x < setLimit → y < a → a ≤ maxActions → cellFits a (word 10 x 0 y) ≡ true
+unfolding cellFits
+cell-right a x y p q r =
+    let z = word 10 x 0 y in
+    let e : lowField z ≡ x = low-of 10 x 0 y (omega arith) (omega arith) (omega arith) in
+    let f : actionField z ≡ y = action-of-word 10 x 0 y (omega arith) (omega arith) (omega arith) in
+    and-intro (and-intro (eq-eqb z (word 10 (lowField z) 0 (actionField z)) (omega arith)) (lt-ltb (lowField z) setLimit (omega arith))) (lt-ltb (actionField z) a (omega arith))
+
+-- where the words of an automaton stand
+module _ (A : Automaton) (a o : ℕ) where
+  abbrev firsts : List ℕ
+  firsts = gather o (λ j. word 9 (A .begins j) j 0 ∷ [])
+
+  abbrev cellsOf : List ℕ
+  cellsOf = gather (A .size) (cellWords A o)
+
+  abbrev nexts : ℕ → List ℕ
+  nexts c = gather o (λ j. word 11 (A .next c j) j 0 ∷ [])
+
+  nexts-length : (c : ℕ) → length (nexts c) ≡ o
+  nexts-length c = let l : length (nexts c) ≡ o * 1 = gather-length o 1 (λ j. word 11 (A .next c j) j 0 ∷ []) (λ i b. refl) in omega arith
+
+  firsts-length : length firsts ≡ o
+  firsts-length = let l : length firsts ≡ o * 1 = gather-length o 1 (λ j. word 9 (A .begins j) j 0 ∷ []) (λ i b. refl) in omega arith
+
+  cell-length : (c : ℕ) → length (cellWords A o c) ≡ 1 + o
+  unfolding cellWords
+  cell-length c = omega (arith, nexts-length c)
+
+  cells-length : length cellsOf ≡ A .size * (1 + o)
+  cells-length = gather-length (A .size) (1 + o) (cellWords A o) (λ c l. cell-length c)
+
+  pub card-long : length (cardWords A a o) ≡ cardLength (A .size) o
+  unfolding cardWords
+  card-long = omega (arith, length-append firsts cellsOf, firsts-length, cells-length)
+
+  pub head-at : getD (cardWords A a o) headPlace 0 ≡ word 8 (A .size) o a
+  unfolding cardWords
+  head-at = refl
+
+  -- behind the head
+  tail-at : (p : ℕ) → getD (cardWords A a o) (1 + p) 0 ≡ getD (firsts ++ cellsOf) p 0
+  unfolding cardWords
+  tail-at p = ap (λ (q : ℕ). getD (cardWords A a o) q 0) (let e : 1 + p ≡ suc p = omega arith in e)
+
+  single : (f : ℕ → ℕ) (j : ℕ) → j < o → getD (gather o (λ i. f i ∷ [])) j 0 ≡ f j
+  single f j l = ap (λ (p : ℕ). getD (gather o (λ i. f i ∷ [])) p 0) (let e : j ≡ j * 1 + 0 = omega arith in e) ∙ gather-at o 1 (λ i. f i ∷ []) (λ i b. refl) j 0 l (omega arith)
+
+  pub first-at : (j : ℕ) → j < o → getD (cardWords A a o) (firstPlace j) 0 ≡ word 9 (A .begins j) j 0
+  first-at j l = tail-at j ∙ List·getD-append firsts cellsOf 0 j (omega (arith, firsts-length)) ∙ single (λ i. word 9 (A .begins i) i 0) j l
+
+  -- behind the first words
+  cells-at : (q : ℕ) → getD (cardWords A a o) (1 + o + q) 0 ≡ getD cellsOf q 0
+  cells-at q =
+      ap (λ (p : ℕ). getD (cardWords A a o) p 0) (let e : 1 + o + q ≡ 1 + (length firsts + q) = omega (arith, firsts-length) in e)
+      ∙ tail-at (length firsts + q)
+      ∙ getD-append-add firsts cellsOf q 0
+
+  part-at : (c r : ℕ) → c < A .size → r < 1 + o → getD (cardWords A a o) (1 + o + (c * (1 + o) + r)) 0 ≡ getD (cellWords A o c) r 0
+  part-at c r l k = cells-at (c * (1 + o) + r) ∙ gather-at (A .size) (1 + o) (cellWords A o) (λ i b. cell-length i) c r l k
+
+  pub cell-at : (c : ℕ) → c < A .size → getD (cardWords A a o) (cellPlace o c) 0 ≡ word 10 (A .set c) 0 (A .action c)
+  unfolding cellWords
+  cell-at c l = ap (λ (p : ℕ). getD (cardWords A a o) p 0) (let e : cellPlace o c ≡ 1 + o + (c * (1 + o) + 0) = omega arith in e) ∙ part-at c 0 l (omega arith)
+
+  pub next-at : (c j : ℕ) → c < A .size → j < o → getD (cardWords A a o) (nextPlace o c j) 0 ≡ word 11 (A .next c j) j 0
+  unfolding cellWords
+  next-at c j l k =
+      ap (λ (p : ℕ). getD (cardWords A a o) p 0) (let e : nextPlace o c j ≡ 1 + o + (c * (1 + o) + suc j) = omega arith in e)
+      ∙ part-at c (suc j) l (omega arith)
+      ∙ single (λ i. word 11 (A .next c i) i 0) j k
+
+-- two automata with the same cells, sets and actions, and the same first and next cells for o observations
+pub record Agree (A B : Automaton) (o : ℕ) : Type 0 where
+  pub size-same : A .size ≡ B .size
+  pub set-same : (c : ℕ) → c < A .size → A .set c ≡ B .set c
+  pub action-same : (c : ℕ) → c < A .size → A .action c ≡ B .action c
+  pub begins-same : (j : ℕ) → j < o → A .begins j ≡ B .begins j
+  pub next-same : (c j : ℕ) → c < A .size → j < o → A .next c j ≡ B .next c j
+
+module _ (A : Automaton) (a o : ℕ) (F : Fitting A a o) where
+  cell-small : (c : ℕ) → Named A c → c < 65536
+  cell-small c h = ⊎-elim (λ (l : c < A .size). omega (arith, F .cells)) (λ (e : c ≡ noCell). omega arith) h
+
+  pub written-cells : cardCells (cardWords A a o) ≡ A .size
+  written-cells = ap lowField (head-at A a o) ∙ low-of 8 (A .size) o a (omega arith) (omega arith) (omega arith)
+
+  pub written-observations : cardObservations (cardWords A a o) ≡ o
+  written-observations = ap numberField (head-at A a o) ∙ number-of 8 (A .size) o a (omega arith) (omega arith) (omega arith)
+
+  pub written-actions : cardActions (cardWords A a o) ≡ a
+  written-actions = ap actionField (head-at A a o) ∙ action-of-word 8 (A .size) o a (omega arith) (omega arith) (omega arith)
+
+  written-long : length (cardWords A a o) ≡ cardLength (cardCells (cardWords A a o)) (cardObservations (cardWords A a o))
+  written-long = rw (written-cells, written-observations) (card-long A a o)
+
+  head-word : headFits (getD (cardWords A a o) headPlace 0) ≡ true
+  head-word = ap headFits (head-at A a o) ∙ head-right (A .size) o a (F .some-cell) (F .cells) (F .some-observation) (F .observations) (F .some-action) (F .actions)
+
+  -- each word is right, by its place
+  first-word : (j : ℕ) → j < o → wordFits (cardWords A a o) (firstPlace j) ≡ true
+  first-word j l =
+      word-begins (cardWords A a o) j (omega (arith, written-observations))
+      ∙ ap (cellNamed 9 (cardCells (cardWords A a o)) j) (first-at A a o j l)
+      ∙ ap (λ (m : ℕ). cellNamed 9 m j (word 9 (A .begins j) j 0)) written-cells
+      ∙ named-right 9 (A .size) j (A .begins j) (cell-small (A .begins j) (F .begins-named j l)) (omega (arith, F .observations)) (F .begins-named j l)
+
+  cell-word : (c : ℕ) → c < A .size → wordFits (cardWords A a o) (cellPlace o c) ≡ true
+  cell-word c l =
+      ap (λ (p : ℕ). wordFits (cardWords A a o) (cellPlace p c)) (sym written-observations)
+      ∙ word-cell (cardWords A a o) c
+      ∙ ap (λ (p : ℕ). cellFits (cardActions (cardWords A a o)) (getD (cardWords A a o) (cellPlace p c) 0)) written-observations
+      ∙ ap (cellFits (cardActions (cardWords A a o))) (cell-at A a o c l)
+      ∙ ap (λ (b : ℕ). cellFits b (word 10 (A .set c) 0 (A .action c))) written-actions
+      ∙ cell-right a (A .set c) (A .action c) (F .set-below c l) (F .action-below c l) (F .actions)
+
+  next-word : (c j : ℕ) → c < A .size → j < o → wordFits (cardWords A a o) (nextPlace o c j) ≡ true
+  next-word c j l k =
+      ap (λ (p : ℕ). wordFits (cardWords A a o) (nextPlace p c j)) (sym written-observations)
+      ∙ word-next (cardWords A a o) c j (omega (arith, written-observations))
+      ∙ ap (λ (p : ℕ). cellNamed 11 (cardCells (cardWords A a o)) j (getD (cardWords A a o) (nextPlace p c j) 0)) written-observations
+      ∙ ap (cellNamed 11 (cardCells (cardWords A a o)) j) (next-at A a o c j l k)
+      ∙ ap (λ (m : ℕ). cellNamed 11 m j (word 11 (A .next c j) j 0)) written-cells
+      ∙ named-right 11 (A .size) j (A .next c j) (cell-small (A .next c j) (F .next-named c j l k)) (omega (arith, F .observations)) (F .next-named c j l k)
+
+  -- every place is one of these
+  place-right : (p c r : ℕ) → p ≡ 1 + o + (c * (1 + o) + r) → c < A .size → r < 1 + o → wordFits (cardWords A a o) p ≡ true
+  place-right p c zero e l k = ap (wordFits (cardWords A a o)) (let f : p ≡ cellPlace o c = omega arith in f) ∙ cell-word c l
+  place-right p c (suc j) e l k = ap (wordFits (cardWords A a o)) (let f : p ≡ nextPlace o c j = omega arith in f) ∙ next-word c j l (omega arith)
+
+  later-right : (i : ℕ) → i < A .size * (1 + o) → wordFits (cardWords A a o) (1 + o + i) ≡ true
+  later-right i l =
+      place-right (1 + o + i) (i / (1 + o)) (i % (1 + o)) (ap (λ (k : ℕ). 1 + o + k) (sym (div-add-mod' i (1 + o)))) (div-lt-iff-lt-mul {k = 1 + o} {x = i} {y = A .size} (omega arith) .1 l) (mod-lt i {m = 1 + o} (omega arith))
+
+  early-right : (p : ℕ) → p < 1 + o → wordFits (cardWords A a o) p ≡ true
+  early-right zero l = word-head (cardWords A a o) 0 refl ∙ head-word
+  early-right (suc j) l = ap (wordFits (cardWords A a o)) (let f : suc j ≡ firstPlace j = omega arith in f) ∙ first-word j (omega arith)
+
+  pub every-word : (p : ℕ) → p < length (cardWords A a o) → wordFits (cardWords A a o) p ≡ true
+  every-word p l =
+      ⊎-elim (λ e. early-right p (ltb-true p (1 + o) e))
+      (λ e. let k : 1 + o ≤ p = ltb-false p (1 + o) e in ap (wordFits (cardWords A a o)) (let f : p ≡ 1 + o + (p - (1 + o)) = omega arith in f) ∙ later-right (p - (1 + o)) (omega (arith, card-long A a o)))
+      (decided (ltb p (1 + o)))
+
+  pub written-checked : checked (cardWords A a o) ≡ Fine
+  written-checked =
+      only-words (cardWords A a o) (λ e. omega (arith, card-long A a o)) head-word written-long
+      ∙ passed-all (cardWords A a o) (length (cardWords A a o)) (record { within = omega arith; right = first-none (length (cardWords A a o)) (λ p. not (wordFits (cardWords A a o) p)) (λ p l. true-not (every-word p l)) }) (omega arith)
+
+  -- the card means the automaton that it was written of
+  pub written-agrees : Agree (automaton (cardWords A a o)) A o
+  written-agrees =
+      let w = cardWords A a o in
+      let out : (c : ℕ) → c < automaton w .size → c < A .size = λ c l. subst (λ (n : ℕ). c < n) (size-of w ∙ written-cells) l in
+      record {
+        size-same = size-of w ∙ written-cells;
+        set-same = λ c l. set-of w c ∙ ap (λ (p : ℕ). lowField (getD w (cellPlace p c) 0)) written-observations ∙ ap lowField (cell-at A a o c (out c l))
+            ∙ low-of 10 (A .set c) 0 (A .action c) (omega (arith, F .set-below c (out c l))) (omega arith) (omega (arith, F .action-below c (out c l)));
+        action-same = λ c l. action-of w c ∙ ap (λ (p : ℕ). actionField (getD w (cellPlace p c) 0)) written-observations ∙ ap actionField (cell-at A a o c (out c l))
+            ∙ action-of-word 10 (A .set c) 0 (A .action c) (omega (arith, F .set-below c (out c l))) (omega arith) (omega (arith, F .action-below c (out c l)));
+        begins-same = λ j l. begins-of w j ∙ ap lowField (first-at A a o j l) ∙ low-of 9 (A .begins j) j 0 (cell-small (A .begins j) (F .begins-named j l)) (omega arith) (omega arith);
+        next-same = λ c j l k. next-of w c j ∙ ap (λ (p : ℕ). lowField (getD w (nextPlace p c j) 0)) written-observations ∙ ap lowField (next-at A a o c j (out c l) k)
+            ∙ low-of 11 (A .next c j) j 0 (cell-small (A .next c j) (F .next-named c j (out c l) k)) (omega arith) (omega arith);
+      }

@@ -1,0 +1,128 @@
+-- The words of a card (document 01, "Words"): where each stands, what they mean, and which words are a card (refusal 13).
+-- Assumes nothing.
+use mathlib.Core.Path.{_≡_}
+use mathlib.Core.Logic.{_⊎_}
+use mathlib.Core.Bool.{Bool, true, false, cond, not, _&&_, _||_}
+use mathlib.Core.List.{List}
+use Prim.Native.Nat.{ℕ, _+_, _*_, _-_, _/_, _%_, _≤_, _<_}
+use lib.Dec.{eqb, leb, ltb}
+use lib.ListN.{length, getD}
+use Rattle.sets.specs.Bounded.{Found, nothing, found, first}
+use Rattle.games.specs.Automaton.{Automaton, noCell}
+use Rattle.games.specs.Words.{lowField, numberField, actionField, word, cardLength}
+use Rattle.cards.specs.declared.CardCheck.{CardCheck}
+use Rattle.cards.specs.declared.CardCheck.the-variants.{Fine, Refused}
+
+-- the limits of a card: cells, observations and actions are each from 1 up to these, and a set is below `setLimit`
+abbrev pub maxCells : ℕ
+maxCells = 4096
+
+abbrev pub maxObservations : ℕ
+maxObservations = 8
+
+abbrev pub maxActions : ℕ
+maxActions = 8
+
+abbrev pub setLimit : ℕ
+setLimit = 4096
+
+-- the places of a card's words, for o observations: the head; the first cell by observation; a cell; its next cell by observation
+abbrev pub headPlace : ℕ
+headPlace = 0
+
+abbrev pub firstPlace : ℕ → ℕ
+firstPlace j = 1 + j
+
+abbrev pub cellPlace : (o c : ℕ) → ℕ
+cellPlace o c = 1 + o + c * (1 + o)
+
+abbrev pub nextPlace : (o c j : ℕ) → ℕ
+nextPlace o c j = cellPlace o c + 1 + j
+
+-- the numbers of the head: cells, observations and actions
+abbrev pub cardCells : List ℕ → ℕ
+cardCells w = lowField (getD w headPlace 0)
+
+abbrev pub cardObservations : List ℕ → ℕ
+cardObservations w = numberField (getD w headPlace 0)
+
+abbrev pub cardActions : List ℕ → ℕ
+cardActions w = actionField (getD w headPlace 0)
+
+-- what a card's words mean
+unfoldable pub automaton : List ℕ → Automaton
+automaton w =
+    let o = cardObservations w in
+    record {
+      size = cardCells w;
+      set = λ c. lowField (getD w (cellPlace o c) 0);
+      action = λ c. actionField (getD w (cellPlace o c) 0);
+      begins = λ j. lowField (getD w (firstPlace j) 0);
+      next = λ c j. lowField (getD w (nextPlace o c j) 0);
+    }
+
+-- a number from 1 up to the limit
+abbrev pub upTo : ℕ → ℕ → Bool
+upTo limit n = leb 1 n && leb n limit
+
+-- a head: kind 8, spare bits 0, its three numbers within the limits
+unfoldable pub headFits : ℕ → Bool
+headFits x =
+    eqb x (word 8 (lowField x) (numberField x) (actionField x))
+    && upTo maxCells (lowField x)
+    && upTo maxObservations (numberField x)
+    && upTo maxActions (actionField x)
+
+-- a first or next word (the kind says which) for observation j: its low field names one of the m cells or is `noCell`
+unfoldable pub cellNamed : (kind m j : ℕ) → ℕ → Bool
+cellNamed k m j x = eqb x (word k (lowField x) j 0) && (ltb (lowField x) m || eqb (lowField x) noCell)
+
+-- a cell's own word: its set is below the limit, its action below a
+unfoldable pub cellFits : (a : ℕ) → ℕ → Bool
+cellFits a x = eqb x (word 10 (lowField x) 0 (actionField x)) && ltb (lowField x) setLimit && ltb (actionField x) a
+
+-- the word number i behind the first words of a card for m cells, a actions and o observations: each cell has 1 + o of them
+unfoldable pub partFits : (m a o i : ℕ) → ℕ → Bool
+partFits m a o i x = cond (eqb (i % (1 + o)) 0) (cellFits a x) (cellNamed 11 m (i % (1 + o) - 1) x)
+
+-- the word at place p is right: the head, then a first word for each observation, then the words of the cells
+unfoldable pub wordFits : List ℕ → ℕ → Bool
+wordFits w p =
+    let o = cardObservations w in
+    let x = getD w p 0 in
+    cond (eqb p headPlace) (headFits x)
+    (cond (ltb p (firstPlace o)) (cellNamed 9 (cardCells w) (p - 1) x)
+    (partFits (cardCells w) (cardActions w) o (p - firstPlace o) x))
+
+-- the lowest wrong word stops the check
+abbrev pub wrongWord : Found → CardCheck
+wrongWord nothing = Fine
+wrongWord (found p) = Refused 13 p
+
+unfoldable pub wordsChecked : List ℕ → CardCheck
+wordsChecked w = wrongWord (first (length w) (λ p. not (wordFits w p)))
+
+-- refusal 13: no word, or a wrong head, at place 0; the length; the lowest wrong word
+unfoldable pub checked : List ℕ → CardCheck
+checked w =
+    cond (eqb (length w) 0) (Refused 13 0)
+    (cond (not (headFits (getD w headPlace 0))) (Refused 13 headPlace)
+    (cond (not (eqb (length w) (cardLength (cardCells w) (cardObservations w)))) (Refused 13 (length w))
+    (wordsChecked w)))
+
+-- a first or next cell: one of the automaton's, or none
+abbrev pub Named : Automaton → ℕ → Type 0
+Named A c = (c < A .size) ⊎ (c ≡ noCell)
+
+-- an automaton that a card for a actions and o observations can hold
+pub record Fitting (A : Automaton) (a o : ℕ) : Type 0 where
+  pub some-cell : 1 ≤ A .size
+  pub cells : A .size ≤ maxCells
+  pub some-action : 1 ≤ a
+  pub actions : a ≤ maxActions
+  pub some-observation : 1 ≤ o
+  pub observations : o ≤ maxObservations
+  pub set-below : (c : ℕ) → c < A .size → A .set c < setLimit
+  pub action-below : (c : ℕ) → c < A .size → A .action c < a
+  pub begins-named : (j : ℕ) → j < o → Named A (A .begins j)
+  pub next-named : (c j : ℕ) → c < A .size → j < o → Named A (A .next c j)

@@ -1,0 +1,253 @@
+// The words of a card (document 01, "Words"): its checks, and the run over words and a cell number.
+use games::Action;
+use games::Cell;
+use games::Observation;
+ghost use mathlib.Core.Path.{_≡_};
+ghost use Prim.Native.Nat.{_<_, _≤_};
+ghost use lib.ListN.{length};
+ghost use Rattle.games.specs.Words.{lowField, numberField, actionField, word as wordOf, cardLength};
+ghost use Rattle.cards.specs.Card.{upTo, headFits, cellNamed, cellFits, partFits, wordFits, wordsChecked, checked, automaton, cardObservations, cellPlace, Named};
+ghost use Rattle.games.specs.Automaton.{noCell};
+ghost use Rattle.cards.specs.Run.{enters, begun, followed, opened, stepped, cellOr};
+
+// The limits of a card.
+const MAX_CELLS: u32 = 4096;
+
+const MAX_OBSERVATIONS: u32 = 8;
+
+const MAX_ACTIONS: u32 = 8;
+
+const SET_LIMIT: u32 = 4096;
+// The cell number that says: the observation cannot occur here.
+const NO_CELL: u32 = 65535;
+
+pub enum CardCheck {
+    Fine,
+    Refused(u32, usize),
+}
+
+pub enum Move {
+    Entered(Cell, Action),
+    Refused(u32, usize),
+}
+
+fn low_field(w: u32) -> u32
+    ensures { λ r. ⌜ r ≡ lowField w ⌝ }
+{
+    w % 65536
+}
+
+fn number_field(w: u32) -> u32
+    ensures { λ r. ⌜ r ≡ numberField w ⌝ }
+{
+    w / 65536 % 16
+}
+
+fn action_field(w: u32) -> u32
+    ensures { λ r. ⌜ r ≡ actionField w ⌝ }
+{
+    w / 1048576 % 16
+}
+
+fn word(kind: u32, low: u32, number: u32, action: u32) -> u32
+    requires { ⌜ (kind < 16) × (low < 65536) × (number < 16) × (action < 16) ⌝ }
+    ensures { λ r. ⌜ r ≡ wordOf kind low number action ⌝ }
+{
+    kind * 268435456 + action * 1048576 + number * 65536 + low
+}
+
+fn up_to(limit: u32, n: u32) -> bool
+    ensures { λ r. ⌜ r ≡ upTo limit n ⌝ }
+{
+    (1 <= n) & (n <= limit)
+}
+
+fn head_fits(x: u32) -> bool
+    ensures { λ r. ⌜ r ≡ headFits x ⌝ }
+{
+    let low = low_field(x);
+    let number = number_field(x);
+    let action = action_field(x);
+    (x == word(8, low, number, action))
+        & up_to(MAX_CELLS, low)
+        & up_to(MAX_OBSERVATIONS, number)
+        & up_to(MAX_ACTIONS, action)
+}
+
+// A first or next word, by its kind, for observation j: it names a cell below m, or none.
+fn cell_named(kind: u32, m: u32, j: u32, x: u32) -> bool
+    requires { ⌜ (kind < 16) × (j < 16) ⌝ }
+    ensures { λ r. ⌜ r ≡ cellNamed kind m j x ⌝ }
+{
+    let low = low_field(x);
+    (x == word(kind, low, j, 0)) & ((low < m) | (low == NO_CELL))
+}
+
+// A cell's own word: its set is below the limit, its action below a.
+fn cell_fits(a: u32, x: u32) -> bool
+    ensures { λ r. ⌜ r ≡ cellFits a x ⌝ }
+{
+    let low = low_field(x);
+    let action = action_field(x);
+    (x == word(10, low, 0, action)) & (low < SET_LIMIT) & (action < a)
+}
+
+// The word number i behind the first words: each cell has one of its own and one for each observation.
+fn part_fits(m: u32, a: u32, o: u32, i: usize, x: u32) -> bool
+    requires { ⌜ o < 16 ⌝ }
+    ensures { λ r. ⌜ r ≡ partFits m a o i x ⌝ }
+{
+    let part = i % (1 + o as usize);
+    if part == 0 {
+        cell_fits(a, x)
+    } else {
+        cell_named(11, m, (part - 1) as u32, x)
+    }
+}
+
+// The word at place p is right.
+fn word_fits(card: &[u32], p: usize) -> bool
+    requires { ⌜ p < length (now card) ⌝ }
+    ensures { λ r. ⌜ r ≡ wordFits (now (card .entry)) p ⌝ }
+{
+    let head = card[0];
+    let x = card[p];
+    let o = number_field(head);
+    let start = 1 + o as usize;
+    if p == 0 {
+        return head_fits(x);
+    }
+    if p < start {
+        cell_named(9, low_field(head), (p - 1) as u32, x)
+    } else {
+        part_fits(low_field(head), action_field(head), o, p - start, x)
+    }
+}
+
+// The length that a head asks for.
+fn card_length(head: u32) -> usize
+    ensures { λ r. ⌜ r ≡ cardLength (lowField head) (numberField head) ⌝ }
+{
+    let m = low_field(head) as usize;
+    let o = number_field(head) as usize;
+    1 + o + m * (1 + o)
+}
+
+// The lowest wrong word stops the check.
+fn check_words(card: &[u32]) -> CardCheck
+    ensures { λ r. ⌜ r ≡ wordsChecked (now (card .entry)) ⌝ }
+{
+    let mut p = 0;
+    while p < card.len() {
+        if !word_fits(card, p) {
+            return CardCheck::Refused(13, p);
+        }
+        p += 1;
+    }
+    CardCheck::Fine
+}
+
+// Refusal 13: the head, the length, the words in order.
+pub fn check(card: &[u32]) -> CardCheck
+    ensures { λ r. ⌜ r ≡ checked (now (card .entry)) ⌝ }
+{
+    if card.len() == 0 {
+        return CardCheck::Refused(13, 0);
+    }
+    let head = card[0];
+    if !head_fits(head) {
+        return CardCheck::Refused(13, 0);
+    }
+    if card.len() != card_length(head) {
+        return CardCheck::Refused(13, card.len());
+    }
+    check_words(card)
+}
+
+fn cell_place(o: u32, c: u32) -> usize
+    requires { ⌜ (o < 16) × (c < 65536) ⌝ }
+    ensures { λ r. ⌜ r ≡ cellPlace o c ⌝ }
+{
+    let each = 1 + o as usize;
+    each + c as usize * each
+}
+
+// The cell that the observation leads to, with its action, or 14.
+fn enter(card: &[u32], cell: Cell, seen: Observation) -> Move
+    requires { ⌜ (checked (now card) ≡ CardCheck.Fine) × Named (automaton (now card)) (cell .0) ⌝ }
+    ensures { λ r. ⌜ r ≡ enters (automaton (now (card .entry))) (cell .0) (seen .0) ⌝ }
+{
+    if cell.0 == NO_CELL {
+        return Move::Refused(14, seen.0 as usize);
+    }
+    let place = cell_place(number_field(card[0]), cell.0);
+    Move::Entered(cell, Action(action_field(card[place])))
+}
+
+// Opening a checked card.
+fn start(card: &[u32], seen: Observation) -> Move
+    requires { ⌜ checked (now card) ≡ CardCheck.Fine ⌝ }
+    ensures { λ r. ⌜ r ≡ begun (automaton (now (card .entry))) (cardObservations (now (card .entry))) (seen .0) ⌝ }
+{
+    if number_field(card[0]) <= seen.0 {
+        return Move::Refused(12, seen.0 as usize);
+    }
+    let place = 1 + seen.0 as usize;
+    enter(card, Cell(low_field(card[place])), seen)
+}
+
+// A step on a checked card.
+fn follow(card: &[u32], cell: Cell, seen: Observation) -> Move
+    requires { ⌜ checked (now card) ≡ CardCheck.Fine ⌝ }
+    ensures { λ r. ⌜ r ≡ followed (automaton (now (card .entry))) (cardObservations (now (card .entry))) (cell .0) (seen .0) ⌝ }
+{
+    if low_field(card[0]) <= cell.0 {
+        return Move::Refused(12, cell.0 as usize);
+    }
+    let o = number_field(card[0]);
+    if o <= seen.0 {
+        return Move::Refused(12, seen.0 as usize);
+    }
+    let place = cell_place(o, cell.0) + 1 + seen.0 as usize;
+    enter(card, Cell(low_field(card[place])), seen)
+}
+
+// Document 01's opening of a card with the first observation.
+pub fn begin(card: &[u32], seen: Observation) -> Move
+    ensures { λ r. ⌜ r ≡ opened (now (card .entry)) (seen .0) ⌝ }
+{
+    match check(card) {
+        CardCheck::Fine => start(card, seen),
+        CardCheck::Refused(number, place) => Move::Refused(number, place),
+    }
+}
+
+// A later observation in a cell.
+pub fn step(card: &[u32], cell: Cell, seen: Observation) -> Move
+    ensures { λ r. ⌜ r ≡ stepped (now (card .entry)) (cell .0) (seen .0) ⌝ }
+{
+    match check(card) {
+        CardCheck::Fine => follow(card, cell, seen),
+        CardCheck::Refused(number, place) => Move::Refused(number, place),
+    }
+}
+
+// The cell that the opening leads to; none where it is refused.
+pub fn first_cell(card: &[u32], seen: Observation) -> Cell
+    ensures { λ r. ⌜ r .0 ≡ cellOr (opened (now (card .entry)) (seen .0)) noCell ⌝ }
+{
+    match begin(card, seen) {
+        Move::Entered(cell, _) => cell,
+        Move::Refused(_, _) => Cell(NO_CELL),
+    }
+}
+
+// The cell that a step leads to; the same where it is refused.
+pub fn next_cell(card: &[u32], cell: Cell, seen: Observation) -> Cell
+    ensures { λ r. ⌜ r .0 ≡ cellOr (stepped (now (card .entry)) (cell .0) (seen .0)) (cell .0) ⌝ }
+{
+    match step(card, cell, seen) {
+        Move::Entered(entered, _) => entered,
+        Move::Refused(_, _) => cell,
+    }
+}
