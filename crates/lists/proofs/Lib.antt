@@ -1,0 +1,3 @@
+pub mod Extra
+pub mod Tops
+pub mod Checks
