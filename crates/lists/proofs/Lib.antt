@@ -1,3 +1,4 @@
 pub mod Extra
 pub mod Tops
 pub mod Checks
+pub mod Outcomes
