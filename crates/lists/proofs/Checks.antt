@@ -93,3 +93,15 @@ module _ (k l : List ℕ) (end : ℕ) where
   found-neither e f =
       first-none (length (k ++ l)) (beyond (k ++ l) end)
       (λ i c. in-either (length l) e (first-nothing (length l) (beyond l end) f) i (subst (λ (x : ℕ). i < x) (length-append k l) c))
+
+  -- where both have none, the first has none
+  pub clean-first : first (length (k ++ l)) (beyond (k ++ l) end) ≡ nothing → first (length k) (beyond k end) ≡ nothing
+  clean-first e =
+      first-none (length k) (beyond k end)
+      (λ i h. sym (in-first i h) ∙ first-nothing (length (k ++ l)) (beyond (k ++ l) end) e i (omega (arith, length-append k l)))
+
+  -- and the second has none
+  pub clean-second : first (length (k ++ l)) (beyond (k ++ l) end) ≡ nothing → first (length l) (beyond l end) ≡ nothing
+  clean-second e =
+      first-none (length l) (beyond l end)
+      (λ i h. sym (in-second i) ∙ first-nothing (length (k ++ l)) (beyond (k ++ l) end) e (length k + i) (omega (arith, length-append k l)))
