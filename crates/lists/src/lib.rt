@@ -2,11 +2,12 @@
 ghost use mathlib.Core.Path.{_≡_};
 ghost use mathlib.Core.Bool.{cond};
 ghost use mathlib.Core.List.{_++_};
-ghost use Prim.Native.Nat.{_<_, _≤_, _^_};
+ghost use Prim.Native.Nat.{ℕ, _<_, _≤_, _^_};
 ghost use lib.ListN.{length, take, drop};
 ghost use Rattle.sets.specs.Bounded.{count, select};
 ghost use Rattle.sets.specs.Family.{join as joinOf, meet as meetOf};
 ghost use Rattle.lists.specs.Lists.{leaves, outcome, joined, met};
+ghost use Rattle.lists.specs.Plain.{OfEither, OfBoth, MaximalOf};
 ghost use Rattle.lists.specs.Tops.{around as aroundOf, gathered, inhabited, top, NoneBetween, UnlistedBetween};
 ghost use Rattle.lists.specs.Checks.{firstBeyond};
 
@@ -158,6 +159,7 @@ fn combine(meet: bool, n: u32, first: &[u32], second: &[u32], out: &mut [u32]) -
 // The maximal sets of both lists.
 pub fn join(n: u32, first: &[u32], second: &[u32], out: &mut [u32]) -> Answer
     ensures { λ r. ⌜ leaves r (now (out .exit)) ≡ joined n (now (first .entry)) (now (second .entry)) (now (out .entry)) ⌝ }
+    ensures plain { λ r. ⌜ ((w : ℕ) → r ≡ Answer.Words w → MaximalOf (OfEither (now (first .entry)) (now (second .entry))) (take w (now (out .exit)))) ⌝ }
 {
     combine(false, n, first, second, out)
 }
@@ -165,6 +167,7 @@ pub fn join(n: u32, first: &[u32], second: &[u32], out: &mut [u32]) -> Answer
 // The maximal common parts of one set from each list.
 pub fn meet(n: u32, first: &[u32], second: &[u32], out: &mut [u32]) -> Answer
     ensures { λ r. ⌜ leaves r (now (out .exit)) ≡ met n (now (first .entry)) (now (second .entry)) (now (out .entry)) ⌝ }
+    ensures plain { λ r. ⌜ ((w : ℕ) → r ≡ Answer.Words w → MaximalOf (OfBoth (now (first .entry)) (now (second .entry))) (take w (now (out .exit)))) ⌝ }
 {
     combine(true, n, first, second, out)
 }
