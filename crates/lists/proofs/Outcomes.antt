@@ -1,0 +1,112 @@
+-- The outcome, refusal by refusal.
+-- Assumes nothing.
+use mathlib.Core.Path.{_≡_, refl, sym, ap, ap₂, _∙_, subst}
+use mathlib.Core.Logic.{_⊎_, ⊎-elim}
+use mathlib.Core.Bool.{Bool, true, false, cond, not, _&&_}
+use mathlib.Core.List.{List, _++_}
+use Prim.Native.Nat.{ℕ, _+_, _^_, _≤_, _<_}
+use lib.Dec.{leb, ltb}
+use native.Mathlib.Nat.{le-add-right}
+use lib.Pow.{pow-mono}
+use lib.ListN.{length, length-append, take, drop}
+use lib.Seq.{take-append-seam}
+use borrow.Author.Tests.{lt-ltb, le-ltb, le-leb, lt-leb}
+use Rattle.sets.specs.Bounded.{Found, nothing, found, first, count, select}
+use Rattle.sets.specs.Family.{join, meet}
+use Rattle.sets.proofs.Logic.{and-intro, and-false-left, and-false-right, true-not, false-not}
+use Rattle.sets.proofs.Bounded.{select-length}
+use Rattle.lists.specs.declared.Answer.the-variants.{Words, Refused}
+use Rattle.lists.specs.Lists.{Outcome, leaves, isWidth, foreign, fitted, unlessFound, outcome}
+use Rattle.lists.specs.Tops.{top}
+use Rattle.lists.specs.Checks.{firstBeyond}
+use Rattle.lists.proofs.Tops.{select-top}
+use Rattle.lists.proofs.Checks.{beyond, beyond-found, beyond-none, beyond-within, found-first, found-second, found-neither}
+
+-- the width is right, and `end` is the first mask with a state too many
+pub record Width (n end : ℕ) : Type 0 where
+  pub low : 1 ≤ n
+  pub high : n ≤ 12
+  pub power : end ≡ 2 ^ n
+
+-- the list has no such mask
+abbrev pub Clean : ℕ → List ℕ → Type 0
+Clean end l = first (length l) (beyond l end) ≡ nothing
+
+-- ---- the result and its room
+
+-- a longer result is refused
+fitted-long : (r d : List ℕ) (w : ℕ) → w ≡ length r → length d < w → leaves (Refused 15 w) d ≡ fitted r d
+fitted-long r d w e h =
+    ap (λ (x : ℕ). leaves (Refused 15 x) d) e
+    ∙ sym (ap (λ (b : Bool). cond b (leaves (Refused 15 (length r)) d) (leaves (Words (length r)) (r ++ drop (length r) d))) (lt-ltb (length d) (length r) (subst (λ (x : ℕ). length d < x) e h)))
+
+-- one that fits is written in front
+fitted-fits : (r d q : List ℕ) (w : ℕ) → w ≡ length r → w ≤ length d → leaves (Words w) (take w (r ++ q) ++ drop w d) ≡ fitted r d
+fitted-fits r d q w e h =
+    ap (λ (x : ℕ). leaves (Words x) (take x (r ++ q) ++ drop x d)) e
+    ∙ ap (λ (x : List ℕ). leaves (Words (length r)) (x ++ drop (length r) d)) (take-append-seam r q)
+    ∙ sym (ap (λ (b : Bool). cond b (leaves (Refused 15 (length r)) d) (leaves (Words (length r)) (r ++ drop (length r) d))) (le-ltb (length d) (length r) (subst (λ (x : ℕ). x ≤ length d) e h)))
+
+-- ---- the refusals before it
+
+module _ (op : List ℕ → List ℕ → List ℕ) (n : ℕ) (k l d : List ℕ) where
+  -- the width is wrong
+  pub refused-width : (n < 1) ⊎ (12 < n) → leaves (Refused 2 0) d ≡ outcome op n k l d
+  unfolding outcome
+  refused-width h =
+      let e : isWidth n ≡ false = ⊎-elim (λ a. and-false-left (leb n 12) (lt-leb 1 n a)) (λ a. and-false-right (leb 1 n) (lt-leb n 12 a)) h in
+      sym (ap (λ (b : Bool). cond b (leaves (Refused 2 0) d) (unlessFound (foreign n (k ++ l)) d (fitted (op k l) d))) (false-not e))
+
+  module _ (end : ℕ) (w : Width n end) where
+    -- it is right: what the masks decide
+    checked : (f : Found) → first (length (k ++ l)) (beyond (k ++ l) end) ≡ f → unlessFound f d (fitted (op k l) d) ≡ outcome op n k l d
+    unfolding outcome
+    checked f e =
+        ap (λ (x : Found). unlessFound x d (fitted (op k l) d)) (sym (subst (λ (x : ℕ). first (length (k ++ l)) (beyond (k ++ l) x) ≡ f) (w .power) e))
+        ∙ sym (ap (λ (b : Bool). cond b (leaves (Refused 2 0) d) (unlessFound (foreign n (k ++ l)) d (fitted (op k l) d))) (true-not (and-intro (le-leb 1 n (w .low)) (le-leb n 12 (w .high)))))
+
+    -- a mask of the first list is refused
+    pub refused-first : (i : ℕ) → i ≡ firstBeyond k end → i < length k → leaves (Refused 5 i) d ≡ outcome op n k l d
+    refused-first i e h = checked (found i) (found-first k l end i (beyond-found k end i e h))
+
+    -- one of the second list, counted on
+    pub refused-second : (j : ℕ) → Clean end k → j ≡ firstBeyond l end → j < length l → leaves (Refused 5 (length k + j)) d ≡ outcome op n k l d
+    refused-second j c e h = checked (found (length k + j)) (found-second k l end j c (beyond-found l end j e h))
+
+    -- none is
+    allowed : Clean end k → Clean end l → fitted (op k l) d ≡ outcome op n k l d
+    allowed a b = checked nothing (found-neither k l end a b)
+
+-- ---- the work done
+
+module _ (m : Bool) (n end : ℕ) (k l d : List ℕ) (w : Width n end) (a : Clean end k) (b : Clean end l) where
+  -- what is collected is the join or the meet
+  collected : select end (top m k l) ≡ cond m (meet n) (join n) k l
+  collected =
+      ap (λ (x : ℕ). select x (top m k l)) (w .power)
+      ∙ select-top n k l (beyond-within n k (subst (λ (x : ℕ). Clean x k) (w .power) a)) (beyond-within n l (subst (λ (x : ℕ). Clean x l) (w .power) b)) m
+
+  finished : fitted (select end (top m k l)) d ≡ outcome (cond m (meet n) (join n)) n k l d
+  finished = ap (λ (x : List ℕ). fitted x d) collected ∙ allowed (cond m (meet n) (join n)) n k l d end w a b
+
+  -- it is too long
+  pub refused-long : (r : ℕ) → r ≡ count end (top m k l) → length d < r → leaves (Refused 15 r) d ≡ outcome (cond m (meet n) (join n)) n k l d
+  refused-long r e h = fitted-long (select end (top m k l)) d r (e ∙ sym (select-length end (top m k l))) h ∙ finished
+
+  -- it is written
+  pub written : (r : ℕ) (x y q : List ℕ) → r ≡ count end (top m k l) → r ≤ length d → x ≡ select end (top m k l) ++ q → y ≡ take r x ++ drop r d → leaves (Words r) y ≡ outcome (cond m (meet n) (join n)) n k l d
+  written r x y q e h f g =
+      ap (leaves (Words r)) (g ∙ ap (λ (z : List ℕ). take r z ++ drop r d) f)
+      ∙ fitted-fits (select end (top m k l)) d q r (e ∙ sym (select-length end (top m k l))) h ∙ finished
+
+-- ---- room for what is collected
+
+-- the masks of any width fit
+pub width-room : {n end : ℕ} → Width n end → end ≤ 4096
+width-room w = subst (λ (x : ℕ). x ≤ 4096) (sym (w .power)) (pow-mono (w .high))
+
+-- what is collected is in front of a list at least as long
+pub room-for : (p : ℕ → Bool) (end r : ℕ) (x q : List ℕ) → r ≡ count end p → x ≡ select end p ++ q → r ≤ length x
+room-for p end r x q e f =
+    subst (λ (y : ℕ). r ≤ y) (sym (ap length f ∙ length-append (select end p) q))
+    (subst (λ (y : ℕ). y ≤ length (select end p) + length q) (select-length end p ∙ sym e) (le-add-right (length (select end p)) (length q)))
