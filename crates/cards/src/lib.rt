@@ -49,7 +49,7 @@ fn action_field(w: u32) -> u32
     w / 1048576 % 16
 }
 
-fn word(kind: u32, low: u32, number: u32, action: u32) -> u32
+pub fn word(kind: u32, low: u32, number: u32, action: u32) -> u32
     requires { ⌜ (kind < 16) × (low < 65536) × (number < 16) × (action < 16) ⌝ }
     ensures { λ r. ⌜ r ≡ wordOf kind low number action ⌝ }
 {

@@ -2,3 +2,4 @@ pub mod Ranks
 pub mod Turns
 pub mod Searching
 pub mod Cells
+pub mod Words

@@ -93,8 +93,8 @@ shown-below g A u j l = common-lt (g .states) u (g .shown j) (A .shown-below j l
 -- n is at most 12, so there are few sets
 pub few-states : (w : List ℕ) → Sized w → game w .states ≤ 12
 unfolding game
-few-states w z = z .most-states
+few-states w z = z .limits .most-states
 
 pub sets-few : (w : List ℕ) → Sized w → 2 ^ game w .states ≤ 4096
 unfolding game
-sets-few w z = pow-mono (z .most-states)
+sets-few w z = pow-mono (z .limits .most-states)

@@ -11,9 +11,14 @@ ghost use Rattle.solver.specs.Ranks.{Ranked, Tells, shownGood};
 ghost use Rattle.sets.specs.Family.{isMaximal};
 ghost use Rattle.games.specs.Verdict.{settled};
 ghost use Rattle.solver.specs.Search.{Searched, Kept, Collected};
+ghost use Rattle.games.specs.Automaton.{holding as holdingCell};
+ghost use Rattle.solver.specs.Writing.{Writing, Cell, frontWords, setWords};
 use games::Action;
 use games::Observation;
 use tables::Walked;
+
+// The cell number that says: the observation cannot occur here.
+const NO_CELL: u32 = 65535;
 
 // The number of sets of n states.
 fn set_count(n: u32) -> usize
@@ -155,4 +160,71 @@ fn collect(table: &[u32], work: &mut [u32], k: u32) -> usize
         s += 1;
     }
     m
+}
+
+// The lowest-numbered cell whose set holds s, or NO_CELL if s has no state.
+fn holding(cells: &[u32], s: u32) -> u32
+    requires { ⌜ length (now cells) ≤ 4096 ⌝ }
+    ensures { λ r. ⌜ r ≡ holdingCell (now (cells .entry)) s ⌝ }
+{
+    if s == 0 {
+        return NO_CELL;
+    }
+    let mut i: usize = 0;
+    while i < cells.len() {
+        if s & cells[i] == s {
+            return i as u32;
+        }
+        i += 1;
+    }
+    NO_CELL
+}
+
+// The card's head and first cells.
+fn write_front(table: &[u32], cells: &[u32], out: &mut [u32])
+    requires { ⌜ Writing (now table) (now cells) (now out) ⌝ }
+    ensures { λ _. ⌜ now (out .exit) ≡ frontWords (game (now (table .entry))) ⌝ }
+{
+    let start = tables::start(table);
+    let o = tables::observations(table);
+    let mut j: u32 = 0;
+    while j < o {
+        let first = holding(cells, start & tables::shown(table, Observation(j)));
+        out[1 + j as usize] = cards::word(9, first, j, 0);
+        j += 1;
+    }
+    out[0] = cards::word(8, cells.len() as u32, o, tables::actions(table));
+}
+
+// The words of the cell with the set s. Its action is the lowest that leads, for every observation, into a cell.
+fn write_cell(table: &[u32], cells: &[u32], s: u32, out: &mut [u32])
+    requires { ⌜ Writing (now table) (now cells) (now out) × Cell (game (now table)) s ⌝ }
+    ensures { λ _. ⌜ now (out .exit) ≡ setWords (game (now (table .entry))) s ⌝ }
+{
+    let o = tables::observations(table);
+    'actions: for a in 0..tables::actions(table) {
+        let walked = tables::walk(table, s, Action(a));
+        let Walked::Post(u) = walked else {
+            continue 'actions;
+        };
+        for j in 0..o {
+            let t = u & tables::shown(table, Observation(j));
+            let mut i: usize = 0;
+            let cell = loop {
+                if t == 0 {
+                    break NO_CELL;
+                }
+                if i == cells.len() {
+                    continue 'actions;
+                }
+                if t & cells[i] == t {
+                    break i as u32;
+                }
+                i += 1;
+            };
+            out[1 + j as usize] = cards::word(11, cell, j, 0);
+        }
+        out[0] = cards::word(10, s, 0, a);
+        return;
+    }
 }

@@ -1,0 +1,96 @@
+-- Laws of the words written: the holding cell, and a part that fills.
+-- Assumes nothing.
+use mathlib.Core.Path.{_≡_, refl, sym, ap, ap₂, _∙_, subst}
+use mathlib.Core.Logic.{_⊎_, ⊎-elim}
+use mathlib.Core.Bool.{Bool, true, false, cond, _&&_}
+use mathlib.Core.List.{List, [], _∷_, _++_}
+use Prim.Native.Nat.{ℕ, zero, suc, _+_, _*_, _^_, _≤_, _<_}
+use native.Mathlib.Nat.{le-refl, le-antisymm, not-suc-le-zero}
+use native.Mathlib.Numerals.{add-one}
+use native.Mathlib.Omega.{arith}
+use lib.Dec.{eqb}
+use lib.ListN.{length, getD, take, drop, set, length-set, length-drop}
+use lib.Seq.{drop-set-add, take-suc-set, take-all, set-split}
+use borrow.Author.Tests.{eq-eqb, ne-eqb}
+use Rattle.sets.specs.Mask.{common, subset}
+use Rattle.sets.specs.Bounded.{Found, nothing, found, first, orElse, gather, all}
+use Rattle.sets.specs.Family.{holds}
+use Rattle.sets.proofs.Logic.{refuted, clash, and-intro, and-false-right}
+use Rattle.sets.proofs.Bounded.{first-stop, first-cases, first-nothing, first-skip, first-some, first-found, all-more, all-refuted}
+use Rattle.sets.proofs.Family.{holds-found, holds-intro, maximal-length}
+use Rattle.games.specs.Game.{Game, Accepted}
+use Rattle.games.specs.Step.{after, post, enabledAt, meets, lowest, step, antichain}
+use Rattle.games.specs.Verdict.{settled, cells}
+use Rattle.games.specs.Automaton.{noCell, holding, chosen}
+use Rattle.games.proofs.Winning.{at-mem, mem-at}
+use Rattle.games.proofs.Settling.{cells-hold, settled-step}
+use Rattle.games.proofs.Steps.{good-empty, step-action, after-below}
+
+-- the test of a cell
+abbrev pub holdsAt : List ℕ → ℕ → ℕ → Bool
+holdsAt l s c = subset s (getD l c 0)
+
+module _ (l : List ℕ) (s : ℕ) where
+  pub holding-empty : s ≡ 0 → noCell ≡ holding l s
+  unfolding holding
+  holding-empty e = sym (ap (λ (b : Bool). cond b noCell (orElse (first (length l) (holdsAt l s)) noCell)) (eq-eqb s 0 e))
+
+  module _ (some : s ≡ 0 → ⊥) where
+    pub holding-first : (f : Found) → first (length l) (holdsAt l s) ≡ f → orElse f noCell ≡ holding l s
+    unfolding holding
+    holding-first f h =
+        sym
+        (ap (λ (b : Bool). cond b noCell (orElse (first (length l) (holdsAt l s)) noCell)) (ne-eqb s 0 some) ∙ ap (λ (x : Found). orElse x noCell) h)
+
+    pub holding-at : (c : ℕ) → c < length l → first c (holdsAt l s) ≡ nothing → holdsAt l s c ≡ true → c ≡ holding l s
+    holding-at c b h t = holding-first (found c) (first-stop (length l) (holdsAt l s) c b h t)
+
+-- a cell number fits its field
+pub holding-small : (l : List ℕ) (s : ℕ) → length l ≤ 4096 → holding l s < 65536
+unfolding holding
+holding-small l s b = small (eqb s 0)
+  where
+    found-small : orElse (first (length l) (holdsAt l s)) noCell < 65536
+    found-small =
+        ⊎-elim (λ w. subst (λ (f : Found). orElse f noCell < 65536) (sym (w .0)) (omega arith))
+        (λ w. subst (λ (f : Found). orElse f noCell < 65536) (sym (w .1)) (omega (arith, w .2 .0)))
+        (first-cases (length l) (holdsAt l s))
+
+    small : (e : Bool) → cond e noCell (orElse (first (length l) (holdsAt l s)) noCell) < 65536
+    small true = omega arith
+    small false = found-small
+
+-- there are at most 2 ^ n cells
+pub cells-few : (g : Game) → length (cells g) ≤ 2 ^ g .states
+unfolding cells antichain
+cells-few g = maximal-length (g .states) _
+
+-- a part of one word and o more, of which j are those of f
+pub record Filled (o : ℕ) (f : ℕ → ℕ) (j : ℕ) (out : List ℕ) : Type 0 where
+  pub size : length out ≡ 1 + o
+  pub front : take j (drop 1 out) ≡ gather j (λ i. f i ∷ [])
+
+module _ (o : ℕ) (f : ℕ → ℕ) where
+  pub filled-none : (out : List ℕ) → length out ≡ 1 + o → Filled o f 0 out
+  unfolding gather
+  filled-none out h = record { size = h; front = refl }
+
+  pub filled-more : (j : ℕ) (out : List ℕ) (x : ℕ) → j < o → x ≡ f j → Filled o f j out → Filled o f (j + 1) (set out (1 + j) x)
+  unfolding gather
+  filled-more j out x l e w =
+      record {
+        size = length-set out (1 + j) x ∙ w .size;
+        front =
+            ap (λ (d : List ℕ). take (j + 1) d) (drop-set-add 1 out j x)
+            ∙ ap (λ (n : ℕ). take n (set (drop 1 out) j x)) (add-one j)
+            ∙ take-suc-set (drop 1 out) j x (omega (arith, length-drop 1 out, w .size))
+            ∙ ap₂ (λ (k : List ℕ) (y : ℕ). k ++ (y ∷ [])) (w .front) e
+            ∙ sym (ap (λ (n : ℕ). gather n (λ i. f i ∷ [])) (add-one j));
+      }
+
+  pub filled-end : (j : ℕ) (out : List ℕ) (x : ℕ) → o ≤ j → j ≤ o → Filled o f j out → set out 0 x ≡ x ∷ gather o (λ i. f i ∷ [])
+  filled-end j out x l b w =
+      let e : j ≡ o = le-antisymm b l in
+      set-split out 0 x (omega (arith, w .size))
+      ∙ ap (λ (d : List ℕ). x ∷ d)
+      (sym (take-all j (drop 1 out) (omega (arith, length-drop 1 out, w .size))) ∙ w .front ∙ ap (λ (n : ℕ). gather n (λ i. f i ∷ [])) e)

@@ -1,0 +1,34 @@
+-- The words of the card, by the parts in which they are written.
+-- Assumes nothing.
+use mathlib.Core.Path.{_≡_}
+use mathlib.Core.Bool.{true}
+use mathlib.Core.List.{List, [], _∷_}
+use Prim.Native.Nat.{ℕ, _+_, _^_, _<_}
+use lib.ListN.{length}
+use Rattle.sets.specs.Bounded.{gather}
+use Rattle.games.specs.Game.{Game}
+use Rattle.games.specs.Step.{after}
+use Rattle.games.specs.Verdict.{startSet, settled, cells}
+use Rattle.games.specs.Automaton.{holding, chosen}
+use Rattle.games.specs.Words.{game, word}
+use Rattle.tables.specs.Check.{checked}
+use Rattle.tables.specs.declared.Checked.the-variants.{Fine}
+
+-- an accepted table, its cells, and a part of the card for one word and one for each observation
+pub record Writing (table list out : List ℕ) : Type 0 where
+  pub fine : checked table ≡ Fine
+  pub listed : list ≡ cells (game table)
+  pub room : length out ≡ 1 + game table .observations
+
+-- a settled set
+pub record Cell (g : Game) (s : ℕ) : Type 0 where
+  pub below : s < 2 ^ g .states
+  pub is-settled : settled g s ≡ true
+
+-- the head and the first cells
+unfoldable pub frontWords : Game → List ℕ
+frontWords g = word 8 (length (cells g)) (g .observations) (g .actions) ∷ gather (g .observations) (λ j. word 9 (holding (cells g) (startSet g j)) j 0 ∷ [])
+
+-- a cell's set and action, and its next cells
+unfoldable pub setWords : Game → ℕ → List ℕ
+setWords g s = word 10 s 0 (chosen g s) ∷ gather (g .observations) (λ j. word 11 (holding (cells g) (after g s (chosen g s) j)) j 0 ∷ [])
