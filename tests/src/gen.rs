@@ -78,11 +78,14 @@ pub enum Shape {
     Chain,
     /// The knowledge counter with its states shuffled and sometimes an error in it.
     Counter,
+    /// Every action moves each state one on in a ring; they differ in where they are blocked.
+    /// All states look alike: large antichains.
+    Ring,
     /// Any masks at all.
     Uniform,
 }
 
-pub const SHAPES: [Shape; 9] = [
+pub const SHAPES: [Shape; 10] = [
     Shape::Dense,
     Shape::Sparse,
     Shape::Blocked,
@@ -91,6 +94,7 @@ pub const SHAPES: [Shape; 9] = [
     Shape::Permutations,
     Shape::Chain,
     Shape::Counter,
+    Shape::Ring,
     Shape::Uniform,
 ];
 
@@ -98,6 +102,11 @@ pub const SHAPES: [Shape; 9] = [
 pub fn game(rng: &mut Rng, shape: Shape, n: usize, a: usize, o: usize) -> Game {
     if shape == Shape::Counter && n >= 2 {
         return shaken_counter(rng, n);
+    }
+    if shape == Shape::Ring {
+        let share = rng.pick(&[10, 20, 30, 40]);
+        let blocked: Vec<u32> = (0..a).map(|_| rng.set(n, share)).collect();
+        return ring(n, &blocked, o);
     }
     let moves = (0..a).map(|_| action(rng, shape, n)).collect();
     let shows = observations(rng, shape, n, o);
@@ -220,6 +229,20 @@ fn shaken_counter(rng: &mut Rng, n: usize) -> Game {
     }
     game
 }
+
+/// A ring of n states: each action moves one on, but is blocked at its own set of states. Every
+/// observation is shown by all. A set lasts where, turned to any place, it misses one of the sets.
+pub fn ring(n: usize, blocked: &[u32], o: usize) -> Game {
+    let next = |set: u32, state: usize| match set >> state & 1 {
+        0 => 1 << ((state + 1) % n),
+        _ => 0,
+    };
+    let moves = blocked.iter().map(|&set| (0..n).map(|state| next(set, state)).collect()).collect();
+    Game { n, a: blocked.len(), o, start: 1, bad: 0, shows: vec![(1 << n) - 1; o], moves }
+}
+
+/// Blocked sets found by search for which the ring of twelve states settles at 498 cells.
+pub const WIDE_RING: [u32; 8] = [0x044, 0x089, 0xE00, 0x500, 0x024, 0x070, 0x202, 0x811];
 
 /// The words of a random table with up to these numbers of states, actions and observations.
 pub fn table(rng: &mut Rng, shape: Shape, n: usize, a: usize, o: usize) -> Vec<u32> {

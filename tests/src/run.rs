@@ -26,7 +26,8 @@ pub fn count(divisor: u64) -> u64 {
 
 /// Prints a line past the capture of `cargo test`.
 pub fn report(line: &str) {
-    writeln!(std::io::stderr(), "kirdanzug-tests: {line}").expect("standard error is open");
+    let line = format!("kirdanzug-tests: {line}\n");
+    std::io::stderr().write_all(line.as_bytes()).expect("standard error is open");
 }
 
 /// Runs `work` for every number below `count`, over the machine's processors, and gives what each

@@ -9,6 +9,9 @@ use kirdanzug_tests::oracle::{self, card_length, work_length, Call, Decided, Out
 use kirdanzug_tests::run::{count, report, seed, spread};
 use kirdanzug_tests::stations;
 
+/// How many random inputs are enough for every verdict and refusal to come up.
+const ENOUGH: u64 = 1000;
+
 /// What the comparisons came by: how often each verdict and each refusal was the right answer.
 #[derive(Default, Clone)]
 struct Tally {
@@ -60,6 +63,13 @@ impl Tally {
             seed(),
             refusals.join(", ")
         ));
+    }
+
+    /// The same where so many random inputs were tried that each number must have come up.
+    fn must_have_of(&self, tried: u64, numbers: &[usize]) {
+        if tried >= ENOUGH {
+            self.must_have(numbers);
+        }
     }
 
     fn must_have(&self, numbers: &[usize]) {
@@ -123,17 +133,24 @@ fn check_verdict(game: &Game, verdict: &Verdict) {
     }
 }
 
+/// A number with a bit far above its field set: it must not be cut to the field.
+fn overlong(rng: &mut Rng, number: u32) -> u32 {
+    number | 1 << rng.within(16, 31)
+}
+
 /// Cell numbers that matter for a card of m cells.
 fn some_cell(rng: &mut Rng, m: usize) -> u32 {
-    let (any, wild) = (rng.below(m) as u32, rng.word());
+    let any = rng.below(m) as u32;
+    let (long, wild) = (overlong(rng, any), rng.word());
     let m = m as u32;
-    rng.pick(&[0, any, any, any, m - 1, m, NO_CELL, wild])
+    rng.pick(&[0, any, any, any, m - 1, m, NO_CELL, long, wild])
 }
 
 fn some_observation(rng: &mut Rng, o: usize) -> u32 {
-    let (any, wild) = (rng.below(o) as u32, rng.word());
+    let any = rng.below(o) as u32;
+    let (long, wild) = (overlong(rng, any), rng.word());
     let o = o as u32;
-    rng.pick(&[0, any, any, any, o - 1, o, wild])
+    rng.pick(&[0, any, any, any, any, o - 1, o, o + 1, any + 8, any + 16, long, wild])
 }
 
 /// Opening, steps and showing on a card's words, whatever they are.
@@ -154,9 +171,10 @@ fn try_judge(rng: &mut Rng, tally: &mut Tally, table: &[u32], calls: usize) {
     for _ in 0..calls {
         let share = rng.pick(&[10, 30, 60]);
         let (inside, about, wild) = (rng.set(n, share), rng.set(n + 1, share), rng.word());
-        let mask = rng.pick(&[inside, inside, inside, about, wild]);
-        let wild = rng.word();
-        let k = rng.pick(&[0, 1, 2, 2, 3, 3, 4, 4, 5, wild]);
+        let long = overlong(rng, inside);
+        let mask = rng.pick(&[inside, inside, inside, inside, about, long, wild]);
+        let (long, wild) = (overlong(rng, 2), rng.word());
+        let k = rng.pick(&[0, 1, 2, 2, 3, 3, 3, 4, 4, 4, 5, long, wild]);
         try_call(rng, tally, Call::Judge { table, mask, k });
     }
 }
@@ -270,14 +288,30 @@ fn random_tables(name: &str, tables: u64, least: usize, most: usize) -> Tally {
     };
     let tally = Tally::sum(spread(tables, work));
     tally.report(name, tables);
-    assert!(tally.yes > tables / 5 && tally.no > tables / 5, "a verdict is too seldom");
+    if tables >= ENOUGH {
+        assert!(tally.yes > tables / 5 && tally.no > tables / 5, "a verdict is too seldom");
+    }
     tally
 }
 
 #[test]
 fn random_tables_up_to_six_states() {
     let tally = random_tables("random tables up to 6 states", count(1), 1, 6);
-    tally.must_have(&[1, 2, 3, 4, 5, 6, 7, 8, 9, 10, 12, 13, 14, 16, 17]);
+    tally.must_have_of(count(1), &[1, 2, 3, 4, 5, 6, 7, 8, 9, 10, 12, 13, 14, 16, 17]);
+}
+
+/// The largest games known to us: long counters and wide rings, with every entry.
+#[test]
+fn counters_and_rings() {
+    let mut rng = Rng::new(seed(), 5);
+    let mut tally = Tally::default();
+    for n in 2..=12 {
+        try_table(&mut rng, &mut tally, &oracle::table_words(&gen::counter(n)));
+        let blocked = gen::WIDE_RING.map(|set| set & ((1 << n) - 1));
+        try_table(&mut rng, &mut tally, &oracle::table_words(&gen::ring(n, &blocked, 8)));
+    }
+    tally.report("counters and rings", 22);
+    assert!(tally.longest >= 64 && tally.most_cells >= 498);
 }
 
 #[test]
@@ -353,7 +387,7 @@ fn random_cards() {
     let cards = count(4);
     let tally = Tally::sum(spread(cards, work));
     tally.report("random cards", cards);
-    tally.must_have(&[12, 13, 14, 16]);
+    tally.must_have_of(cards, &[12, 13, 14, 16]);
 }
 
 /// A run of some observations, each step from the cell that the last one entered.
@@ -474,14 +508,15 @@ fn random_lists() {
         try_lists(&mut rng, tally, n as u32, &first, &second);
         let which = rng.percent(50);
         gen::damage(&mut rng, if which { &mut first } else { &mut second });
-        let wild = rng.word();
-        let width = rng.pick(&[n as u32, n as u32, n as u32, 0, 13, 32, u32::MAX, wild]);
+        let n = n as u32;
+        let (long, wild) = (overlong(&mut rng, n), rng.word());
+        let width = rng.pick(&[n, n, n, n, 0, 13, 32, n + 256, u32::MAX, long, wild]);
         try_lists(&mut rng, tally, width, &first, &second);
     };
     let pairs = count(4);
     let tally = Tally::sum(spread(pairs, work));
     tally.report("random lists", pairs);
-    tally.must_have(&[2, 5, 15]);
+    tally.must_have_of(pairs, &[2, 5, 15]);
 }
 
 fn try_lists(rng: &mut Rng, tally: &mut Tally, n: u32, first: &[u32], second: &[u32]) {

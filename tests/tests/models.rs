@@ -121,7 +121,7 @@ fn verdicts_by_literal_strategies_on_three_states() {
         assert!(literal::some_strategy_lasts(&game, rounds - 1), "{game:?}");
     }
     report(&format!("literal strategies on three states: seed {seed}, {tried} games, up to {longest} rounds"));
-    assert!(longest > 3);
+    assert!(tried < 1000 || longest > 3);
 }
 
 /// What a comparison of many games came by.
@@ -181,7 +181,7 @@ fn compare_models(name: &str, games: u64, least: usize, most: usize, by_families
     };
     let tally = Tally::sum(spread(games, work));
     report(&format!("{name}: seed {seed}, {games} games, {tally:?}"));
-    assert!(tally.yes * 5 > games && tally.no * 5 > games, "a verdict is too seldom");
+    assert!(games < 1000 || tally.yes * 5 > games && tally.no * 5 > games, "a verdict is too seldom");
 }
 
 #[test]
@@ -201,6 +201,16 @@ fn counters_count() {
         let game = gen::counter(n);
         assert_eq!(game::verdict(&game), Some(1 << (n / 2)));
     }
+}
+
+/// The ring for the benchmark has a large antichain.
+#[test]
+fn wide_ring_is_wide() {
+    let game = gen::ring(12, &gen::WIDE_RING, 2);
+    let verdict = oracle::decide(&game);
+    check_verdict(&game, &verdict);
+    check_fast(&mut fast::Solver::new(), &game, &verdict);
+    assert!(matches!(verdict, Verdict::Yes { card, .. } if card.cells.len() == 498));
 }
 
 /// Plays one by one, nothing remembered: as the product of states and cells says.
@@ -272,7 +282,7 @@ fn judges_and_refusals_agree() {
         }
     }
     report(&format!("judges: seed {seed}, {good} good, {refused} tables refused"));
-    assert!(good > 0 && refused > 0);
+    assert!(count(20) < 1000 || good > 100 && refused > 100);
 }
 
 /// Searching for a strategy and the families tell the same of every number of rounds.
