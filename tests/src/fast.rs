@@ -1,6 +1,11 @@
-//! A quick independent solver, for the benchmark: a flat array over all sets of states, updated in
-//! place, with passes over the sets that are still good only. Lists are handled as families of
-//! sets, 64 sets to a machine word.
+//! A quick independent solver, for the benchmark, with two searches.
+//!
+//! - Flat: an array over all sets of states, updated in place, with passes over the sets that are
+//!   still good only. The proved solver searches in this way; it is what the ratio is taken to.
+//! - Boundary: families of sets, 64 sets to a machine word. A set that is good settles all its
+//!   subsets, so a pass tests little more than the sets that fall and the maximal ones that stay.
+//!
+//! Lists are handled as families of sets too.
 
 /// The most sets: 2^12.
 const SETS: usize = 4096;
@@ -15,6 +20,13 @@ pub enum Verdict {
     Yes { index: u32, cells: usize },
     No { round: u32 },
     Refused { number: u32, place: usize },
+}
+
+/// How the settled family is found.
+#[derive(Clone, Copy, PartialEq, Eq, Debug)]
+pub enum Search {
+    Flat,
+    Boundary,
 }
 
 /// An accepted table, laid out for the search.
@@ -130,6 +142,31 @@ impl Layout {
     fn post(&self, c: usize, set: u16) -> u16 {
         self.low[c & 7][(set & 63) as usize] | self.high[c & 7][(set >> 6 & 63) as usize]
     }
+
+    fn widest(&self) -> &[u16] {
+        &self.widest[..self.widest_count]
+    }
+
+    /// The lowest action from c up that is open in the whole set and for every observation leads to
+    /// a set that is `fine`; a where there is none.
+    #[inline(always)]
+    fn lowest_action(&self, mut c: usize, set: u16, fine: impl Fn(u16) -> bool) -> usize {
+        while c < self.a {
+            if set & !self.enabled[c & 7] == 0 {
+                let post = self.post(c, set);
+                if self.widest().iter().all(|shows| fine(post & shows)) {
+                    break;
+                }
+            }
+            c += 1;
+        }
+        c
+    }
+
+    /// What is known at the start is `fine`, whatever is observed.
+    fn start_is(&self, fine: impl Fn(u16) -> bool) -> bool {
+        self.widest().iter().all(|shows| fine(self.start & shows))
+    }
 }
 
 fn full(n: usize) -> u16 {
@@ -138,6 +175,7 @@ fn full(n: usize) -> u16 {
 
 /// The solver with its arrays, made once and used for many tables.
 pub struct Solver {
+    search: Search,
     layout: Layout,
     /// How many rounds a set is good for, as far as the passes have come.
     rounds: [u16; SETS],
@@ -149,15 +187,10 @@ pub struct Solver {
     holder: [u16; SETS],
 }
 
-impl Default for Solver {
-    fn default() -> Solver {
-        Solver::new()
-    }
-}
-
 impl Solver {
-    pub fn new() -> Solver {
+    pub fn new(search: Search) -> Solver {
         Solver {
+            search,
             layout: Layout::new(),
             rounds: [0; SETS],
             alive: [0; SETS],
@@ -171,15 +204,19 @@ impl Solver {
         if let Err((number, place)) = self.layout.read(table) {
             return Verdict::Refused { number, place };
         }
-        let (index, alive) = match self.search() {
-            Ok(settled) => settled,
-            Err(round) => return Verdict::No { round },
+        let settled = match self.search {
+            Search::Flat => self.search_flat(),
+            Search::Boundary => self.search_boundary(),
         };
-        self.write_card(index, alive, card)
+        match settled {
+            Ok((index, family)) => self.write_card(index, family.maximal(), card),
+            Err(round) => Verdict::No { round: round.into() },
+        }
     }
 
-    /// The settling count and the number of settled sets, or the round number of a no.
-    fn search(&mut self) -> Result<(u16, usize), u32> {
+    /// The settling count and the settled family, or the round number of a no. The actions of the
+    /// maximal sets stand in `action` afterwards.
+    fn search_flat(&mut self) -> Result<(u16, Family), u16> {
         let sets = 1usize << self.layout.n;
         self.rounds[..sets].fill(0);
         self.action[..sets].fill(0);
@@ -187,15 +224,41 @@ impl Solver {
         let mut before = sets;
         for k in 0.. {
             alive = self.pass(k, alive);
-            if self.start_falls(k + 1) {
-                return Err(u32::from(k) + 1);
+            if !self.layout.start_is(|set| self.rounds[set as usize] > k) {
+                return Err(k + 1);
             }
             if alive == before {
-                return Ok((k, alive));
+                return Ok((k, Family::of(self.layout.n, &self.alive[..alive])));
             }
             before = alive;
         }
         unreachable!("the sets still good become fewer")
+    }
+
+    /// The same by families: good for one round is every set within an action's enabled states.
+    fn search_boundary(&mut self) -> Result<(u16, Family), u16> {
+        let layout = &self.layout;
+        let clear = full(layout.n) & !layout.bad;
+        let mut good = Family::empty(layout.n);
+        layout.enabled[..layout.a].iter().for_each(|enabled| good.insert(enabled & clear));
+        good.close();
+        if !layout.start_is(|set| good.has(set)) {
+            return Err(1);
+        }
+        let mut index = u16::from(good.count() < 1 << layout.n);
+        while index > 0 {
+            let next = layout.boundary_pass(&good);
+            if !layout.start_is(|set| next.has(set)) {
+                return Err(index + 1);
+            }
+            if next.bits == good.bits {
+                break;
+            }
+            (good, index) = (next, index + 1);
+        }
+        let action = &mut self.action;
+        good.maximal().each(|set| action[set as usize] = layout.lowest_action(0, set, |next| good.has(next)) as u8);
+        Ok((index, good))
     }
 
     /// Puts the sets without a bad state in the list, ascending.
@@ -219,7 +282,8 @@ impl Solver {
         for i in 0..count {
             let set = self.alive[i];
             let at = set as usize & (SETS - 1);
-            let c = self.lowest_action(k, set, self.action[at] as usize);
+            let fine = |next: u16| self.rounds[next as usize & (SETS - 1)] >= k;
+            let c = self.layout.lowest_action(self.action[at] as usize, set, fine);
             self.action[at] = c as u8;
             if c < self.layout.a {
                 self.rounds[at] = k + 1;
@@ -230,34 +294,9 @@ impl Solver {
         kept
     }
 
-    /// The lowest action from c up that meets the step, or a.
-    #[inline(always)]
-    fn lowest_action(&self, k: u16, set: u16, mut c: usize) -> usize {
-        let layout = &self.layout;
-        let widest = &layout.widest[..layout.widest_count];
-        while c < layout.a {
-            if set & !layout.enabled[c & 7] == 0 {
-                let post = layout.post(c, set);
-                if widest.iter().all(|shows| self.rounds[(post & shows) as usize & (SETS - 1)] >= k) {
-                    break;
-                }
-            }
-            c += 1;
-        }
-        c
-    }
-
-    fn start_falls(&self, k: u16) -> bool {
-        let layout = &self.layout;
-        layout.widest[..layout.widest_count].iter().any(|shows| self.rounds[(layout.start & shows) as usize] < k)
-    }
-
-    fn write_card(&mut self, index: u16, alive: usize, card: &mut [u32]) -> Verdict {
+    fn write_card(&mut self, index: u16, maximal: Family, card: &mut [u32]) -> Verdict {
         let layout = &self.layout;
         let (a, o) = (layout.a, layout.o);
-        let mut family = Family::empty(layout.n);
-        self.alive[..alive].iter().for_each(|&set| family.insert(set as usize));
-        let maximal = family.maximal();
         let cells = maximal.count();
         let length = 1 + o + cells * (1 + o);
         if card.len() < length {
@@ -266,7 +305,7 @@ impl Solver {
         let masks = &mut self.alive;
         let mut at = 0;
         maximal.each(|set| {
-            masks[at] = set as u16;
+            masks[at] = set;
             at += 1;
         });
         // Looking through the cells for each set, or the holders of all sets beforehand.
@@ -295,6 +334,31 @@ impl Solver {
             }
         }
         Verdict::Yes { index: index.into(), cells }
+    }
+}
+
+impl Layout {
+    /// From good for k to good for k + 1, from the largest sets down.
+    fn boundary_pass(&self, good: &Family) -> Family {
+        let lanes = good.lanes();
+        let mut next = Family::empty(self.n);
+        for lane in (0..lanes).rev() {
+            // Subsets of sets found in the lanes with one state more.
+            let larger = (0..6).map(|i| lane | 1 << i).filter(|&with| with != lane && with < lanes);
+            let mut found = larger.fold(0, |found, with| found | next.bits[with]);
+            let mut open = good.bits[lane] & !found;
+            while open != 0 {
+                let highest = open.ilog2() as usize;
+                let set = (lane << 6 | highest) as u16;
+                open &= !(1 << highest);
+                if self.lowest_action(0, set, |next| good.has(next)) < self.a {
+                    found |= SUBSETS[highest];
+                    open &= !SUBSETS[highest];
+                }
+            }
+            next.bits[lane] = found;
+        }
+        next
     }
 }
 
@@ -329,13 +393,48 @@ const WITH: [u64; 6] = [
     0xFFFF_FFFF_0000_0000,
 ];
 
+/// Within a machine word, the subsets of each set of the states 0 to 5.
+const SUBSETS: [u64; 64] = {
+    let mut subsets = [0; 64];
+    let mut pair = 0;
+    while pair < 64 * 64 {
+        let (set, small) = (pair / 64, pair % 64);
+        if small & !set == 0 {
+            subsets[set] |= 1 << small;
+        }
+        pair += 1;
+    }
+    subsets
+};
+
 impl Family {
     fn empty(n: usize) -> Family {
         Family { n, bits: [0; LANES] }
     }
 
-    fn insert(&mut self, set: usize) {
-        self.bits[set >> 6 & (LANES - 1)] |= 1 << (set & 63);
+    /// The family of these sets.
+    fn of(n: usize, sets: &[u16]) -> Family {
+        let mut family = Family::empty(n);
+        sets.iter().for_each(|&set| family.insert(set));
+        family
+    }
+
+    /// The subsets of the masks of a list; they are known to fit.
+    fn below(n: usize, list: &[u32]) -> Family {
+        let mut family = Family::empty(n);
+        list.iter().for_each(|&mask| family.insert(mask as u16));
+        family.close();
+        family
+    }
+
+    #[inline(always)]
+    fn insert(&mut self, set: u16) {
+        self.bits[set as usize >> 6 & (LANES - 1)] |= 1 << (set & 63);
+    }
+
+    #[inline(always)]
+    fn has(&self, set: u16) -> bool {
+        self.bits[set as usize >> 6 & (LANES - 1)] >> (set & 63) & 1 == 1
     }
 
     fn lanes(&self) -> usize {
@@ -346,11 +445,11 @@ impl Family {
         self.bits[..self.lanes()].iter().map(|lane| lane.count_ones() as usize).sum()
     }
 
-    fn each(&self, mut visit: impl FnMut(usize)) {
+    fn each(&self, mut visit: impl FnMut(u16)) {
         for (lane, &bits) in self.bits[..self.lanes()].iter().enumerate() {
             let mut bits = bits;
             while bits != 0 {
-                visit(lane << 6 | bits.trailing_zeros() as usize);
+                visit((lane << 6) as u16 | bits.trailing_zeros() as u16);
                 bits &= bits - 1;
             }
         }
@@ -390,14 +489,6 @@ impl Family {
         }
         result
     }
-
-    /// The closure of a list whose masks are known to fit.
-    fn of(n: usize, list: &[u32]) -> Family {
-        let mut family = Family::empty(n);
-        list.iter().for_each(|&mask| family.insert(mask as usize));
-        family.close();
-        family
-    }
 }
 
 fn combine(
@@ -413,7 +504,7 @@ fn combine(
     if let Some(place) = first.iter().chain(second).position(|mask| mask >> n != 0) {
         return Err((5, place));
     }
-    let (mut family, other) = (Family::of(n as usize, first), Family::of(n as usize, second));
+    let (mut family, other) = (Family::below(n as usize, first), Family::below(n as usize, second));
     family.bits.iter_mut().zip(other.bits).for_each(|(mine, theirs)| *mine = both(*mine, theirs));
     let maximal = family.maximal();
     let length = maximal.count();
@@ -422,7 +513,7 @@ fn combine(
     }
     let mut at = 0;
     maximal.each(|set| {
-        out[at] = set as u32;
+        out[at] = set.into();
         at += 1;
     });
     Ok(length)
@@ -479,6 +570,6 @@ impl Judge {
 
     fn good_after(&self, post: u16, k: u32) -> bool {
         let layout = &self.layout;
-        k == 0 || layout.widest[..layout.widest_count].iter().all(|shows| self.good(post & shows, k))
+        k == 0 || layout.widest().iter().all(|shows| self.good(post & shows, k))
     }
 }

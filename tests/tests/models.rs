@@ -2,7 +2,7 @@
 //! the checkers and the fast solver.
 
 use kirdanzug_tests::check::{self, keeps_clear, lasts_played, literal, no_holds, Runner};
-use kirdanzug_tests::fast;
+use kirdanzug_tests::fast::{self, Search};
 use kirdanzug_tests::game::{self, Game};
 use kirdanzug_tests::gen::{self, Rng, SHAPES};
 use kirdanzug_tests::oracle::{self, Card, Verdict};
@@ -49,7 +49,20 @@ fn check_verdict(game: &Game, verdict: &Verdict) {
     }
 }
 
-fn check_fast(solver: &mut fast::Solver, game: &Game, verdict: &Verdict) {
+/// Both searches of the fast solver.
+struct Fast([fast::Solver; 2]);
+
+impl Default for Fast {
+    fn default() -> Fast {
+        Fast([Search::Flat, Search::Boundary].map(fast::Solver::new))
+    }
+}
+
+fn check_fast(fast: &mut Fast, game: &Game, verdict: &Verdict) {
+    fast.0.iter_mut().for_each(|solver| check_search(solver, game, verdict));
+}
+
+fn check_search(solver: &mut fast::Solver, game: &Game, verdict: &Verdict) {
     let mut card = vec![0; 1 + 8 + 924 * 9];
     let found = solver.solve(&oracle::table_words(game), &mut card);
     match verdict {
@@ -149,7 +162,7 @@ impl Tally {
         }
     }
 
-    fn sum(parts: Vec<(fast::Solver, Tally)>) -> Tally {
+    fn sum(parts: Vec<(Fast, Tally)>) -> Tally {
         parts.into_iter().map(|part| part.1).fold(Tally::default(), |sum, part| Tally {
             yes: sum.yes + part.yes,
             no: sum.no + part.no,
@@ -162,7 +175,7 @@ impl Tally {
 
 fn compare_models(name: &str, games: u64, least: usize, most: usize, by_families: bool) {
     let seed = seed();
-    let work = |i: u64, (solver, tally): &mut (fast::Solver, Tally)| {
+    let work = |i: u64, (fast, tally): &mut (Fast, Tally)| {
         let mut rng = Rng::new(seed, i);
         let shape = SHAPES[i as usize % SHAPES.len()];
         let (n, a, o) = (rng.within(least, most), rng.within(1, 8), rng.within(1, 8));
@@ -176,7 +189,7 @@ fn compare_models(name: &str, games: u64, least: usize, most: usize, by_families
             assert_eq!(round_by_families(&game), round, "{game:?}");
         }
         check_verdict(&game, &verdict);
-        check_fast(solver, &game, &verdict);
+        check_fast(fast, &game, &verdict);
         tally.add(&verdict);
     };
     let tally = Tally::sum(spread(games, work));
@@ -209,7 +222,7 @@ fn wide_ring_is_wide() {
     let game = gen::ring(12, &gen::WIDE_RING, 2);
     let verdict = oracle::decide(&game);
     check_verdict(&game, &verdict);
-    check_fast(&mut fast::Solver::new(), &game, &verdict);
+    check_fast(&mut Fast::default(), &game, &verdict);
     assert!(matches!(verdict, Verdict::Yes { card, .. } if card.cells.len() == 498));
 }
 
@@ -260,7 +273,7 @@ fn lists_agree() {
 fn judges_and_refusals_agree() {
     let seed = seed();
     let mut judge = fast::Judge::new();
-    let mut solver = fast::Solver::new();
+    let mut solver = fast::Solver::new(Search::Flat);
     let (mut good, mut refused) = (0, 0);
     for i in 0..count(20) {
         let mut rng = Rng::new(seed, i);

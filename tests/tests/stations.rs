@@ -1,7 +1,7 @@
 //! The models against what document 01 itself says: stations, refusals, printed text.
 
 use kirdanzug_tests::check::{keeps_clear, no_holds, Runner};
-use kirdanzug_tests::fast;
+use kirdanzug_tests::fast::{self, Search};
 use kirdanzug_tests::game::{self, Game};
 use kirdanzug_tests::oracle::{self, Call, Refusal};
 use kirdanzug_tests::stations::{self, Row};
@@ -92,7 +92,11 @@ fn writing_fields() {
 /// The fast models give the stations too.
 #[test]
 fn fast_models_give_the_stations() {
-    let mut solver = fast::Solver::new();
+    [Search::Flat, Search::Boundary].into_iter().for_each(fast_model_gives_the_stations);
+}
+
+fn fast_model_gives_the_stations(search: Search) {
+    let mut solver = fast::Solver::new(search);
     let mut judge = fast::Judge::new();
     for Row { name, call, outcome } in stations::stations().into_iter().chain(stations::refusals()) {
         let mut out = vec![0; 64];

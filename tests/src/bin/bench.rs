@@ -1,4 +1,6 @@
 //! The proved solver and the independent one, both built for release, in one run on the same tables.
+//! The ratio is that of the proved solver to the independent one with the same flat search; what the
+//! independent boundary search takes stands beside them.
 //!
 //! `cargo run --release --bin bench [PLOT.svg]` prints a table of medians and ratios and writes a
 //! plot of time against n (docs/benchmark.svg unless named). Both sides read the table's words and
@@ -7,7 +9,7 @@
 //! processor time of the thread, the two sides in turn, so that a busy machine does little harm.
 
 use kirdanzug_tests::archive;
-use kirdanzug_tests::fast;
+use kirdanzug_tests::fast::{self, Search};
 use kirdanzug_tests::gen::{self, Rng, Shape, SHAPES};
 use kirdanzug_tests::oracle::table_words;
 use kirdanzug_tests::run::seed;
@@ -21,12 +23,10 @@ const SAMPLE_TIME: f64 = 2000.0;
 /// Card words that are always enough: 924 cells of 9 words, and the front.
 const CARD_ROOM: usize = 1 + 8 + 924 * 9;
 
-/// Median times per input, in microseconds, of the proved side and the independent one, and the
-/// median of the ratios of neighbouring measurements.
-#[derive(Clone, Copy)]
+/// Median times per input, in microseconds, of the proved side and the independent ones, and the
+/// median of the ratios of neighbouring measurements of the first two.
 struct Medians {
-    rattle: f64,
-    rust: f64,
+    times: Vec<f64>,
     ratio: f64,
 }
 
@@ -47,21 +47,22 @@ fn processor_time() -> f64 {
     time.seconds as f64 * 1e6 + time.nanoseconds as f64 / 1e3
 }
 
-/// Times both sides in turn. Each closure works through all inputs of the row once.
-fn measure(inputs: usize, mut rattle: impl FnMut(), mut rust: impl FnMut()) -> Medians {
-    let (rattle_runs, rust_runs) = (runs(&mut rattle), runs(&mut rust));
-    let (mut rattle_times, mut rust_times) = (Vec::new(), Vec::new());
+/// Times the sides in turn. Each closure works through all inputs of the row once.
+fn measure(inputs: usize, sides: &mut [&mut dyn FnMut()]) -> Medians {
+    let counts: Vec<u32> = sides.iter_mut().map(|side| runs(side)).collect();
+    let mut samples: Vec<Vec<f64>> = vec![Vec::new(); sides.len()];
     for _ in 0..SAMPLES {
-        rattle_times.push(time(rattle_runs, &mut rattle));
-        rust_times.push(time(rust_runs, &mut rust));
+        for (i, side) in sides.iter_mut().enumerate() {
+            samples[i].push(time(counts[i], side));
+        }
     }
-    let ratio = median(rattle_times.iter().zip(&rust_times).map(|(x, y)| x / y).collect());
-    let per_input = |times: Vec<f64>| median(times) / inputs as f64;
-    Medians { rattle: per_input(rattle_times), rust: per_input(rust_times), ratio }
+    let ratio = median(samples[0].iter().zip(&samples[1]).map(|(rattle, rust)| rattle / rust).collect());
+    let times = samples.into_iter().map(|times| median(times) / inputs as f64).collect();
+    Medians { times, ratio }
 }
 
 /// How many runs fill a measurement.
-fn runs(work: &mut impl FnMut()) -> u32 {
+fn runs(work: &mut dyn FnMut()) -> u32 {
     let mut runs = 1;
     loop {
         if time(runs, work) * f64::from(runs) >= SAMPLE_TIME {
@@ -72,7 +73,7 @@ fn runs(work: &mut impl FnMut()) -> u32 {
 }
 
 /// Microseconds for one run.
-fn time(runs: u32, work: &mut impl FnMut()) -> f64 {
+fn time(runs: u32, work: &mut dyn FnMut()) -> f64 {
     let start = processor_time();
     (0..runs).for_each(|_| work());
     (processor_time() - start) / f64::from(runs)
@@ -143,24 +144,29 @@ fn describe(answers: &[[u64; 3]]) -> String {
 }
 
 fn measure_solve(tables: &[Vec<u32>]) -> (Medians, String) {
-    let mut solver = Box::new(fast::Solver::new());
-    let (mut work, mut card) = (vec![0u32; 4 * 4096], vec![0u32; CARD_ROOM]);
-    let answers: Vec<[u64; 3]> =
-        tables.iter().map(|table| compare_answers(table, &mut work, &mut solver)).collect();
-    let mut other_card = vec![0u32; CARD_ROOM];
-    let rattle = || {
+    let (mut flat, mut boundary) = (fast::Solver::new(Search::Flat), fast::Solver::new(Search::Boundary));
+    let mut work = vec![0u32; 4 * 4096];
+    tables.iter().for_each(|table| {
+        compare_answers(table, &mut work, &mut boundary);
+    });
+    let answers: Vec<[u64; 3]> = tables.iter().map(|table| compare_answers(table, &mut work, &mut flat)).collect();
+    let [mut card, mut flat_card, mut boundary_card] = [(); 3].map(|_| vec![0u32; CARD_ROOM]);
+    let mut rattle = || {
         for table in tables {
             let mut answer = [0; 3];
             archive::solve(black_box(table), &mut work, &mut card, &mut answer);
             black_box(answer);
         }
     };
-    let rust = || {
-        for table in tables {
-            black_box(solver.solve(black_box(table), &mut other_card));
-        }
-    };
-    (measure(tables.len(), rattle, rust), describe(&answers))
+    let mut rust = || solve_all(&mut flat, tables, &mut flat_card);
+    let mut other = || solve_all(&mut boundary, tables, &mut boundary_card);
+    (measure(tables.len(), &mut [&mut rattle, &mut rust, &mut other]), describe(&answers))
+}
+
+fn solve_all(solver: &mut fast::Solver, tables: &[Vec<u32>], card: &mut [u32]) {
+    for table in tables {
+        black_box(solver.solve(black_box(table), card));
+    }
 }
 
 // ---- Lists and judge ---------------------------------------------------------------------------
@@ -174,11 +180,11 @@ fn measure_lists(archived: Archived, independent: Independent, first: &[u32], se
     archived(12, first, second, &mut out, &mut answer);
     let length = independent(12, first, second, &mut other).expect("there is room");
     assert_eq!((answer, &out), ([0, length as u64, 0], &other), "the lists differ");
-    let rattle = || archived(12, black_box(first), black_box(second), &mut out, &mut answer);
-    let rust = || {
+    let mut rattle = || archived(12, black_box(first), black_box(second), &mut out, &mut answer);
+    let mut rust = || {
         black_box(independent(12, black_box(first), black_box(second), &mut other)).expect("there is room");
     };
-    let medians = measure(1, rattle, rust);
+    let medians = measure(1, &mut [&mut rattle, &mut rust]);
     (medians, format!("{} and {} sets to {length}", first.len(), second.len()))
 }
 
@@ -192,19 +198,19 @@ fn measure_judge(tables: &[Vec<u32>], masks: &[u32], k: u32) -> (Medians, String
         assert_eq!(answer, [0, expected.into(), 0], "the judges differ on {table:x?}");
         good += u32::from(expected);
     }
-    let rattle = || {
+    let mut rattle = || {
         for (table, &mask) in tables.iter().zip(masks) {
             let mut answer = [0; 3];
             archive::judge(black_box(table), mask, k, &mut answer);
             black_box(answer);
         }
     };
-    let rust = || {
+    let mut rust = || {
         for (table, &mask) in tables.iter().zip(masks) {
             black_box(judge.judge(black_box(table), mask, k)).expect("the table is accepted");
         }
     };
-    (measure(tables.len(), rattle, rust), format!("{good} of {} good", tables.len()))
+    (measure(tables.len(), &mut [&mut rattle, &mut rust]), format!("{good} of {} good", tables.len()))
 }
 
 /// An antichain of so many random sets of six states.
@@ -222,13 +228,14 @@ fn random_antichain(rng: &mut Rng, length: usize) -> Vec<u32> {
 // ---- What is printed ---------------------------------------------------------------------------
 
 fn print_head() {
-    println!("| input | what | Rattle µs | Rust µs | ratio |");
-    println!("|---|---|--:|--:|--:|");
+    println!("| input | what | Rattle µs | Rust µs | ratio | Rust, boundary search µs |");
+    println!("|---|---|--:|--:|--:|--:|");
 }
 
 fn print_row(name: &str, (medians, what): &(Medians, String)) {
-    let Medians { rattle, rust, ratio } = medians;
-    println!("| {name} | {what} | {rattle:.2} | {rust:.2} | {ratio:.2} |");
+    let (times, ratio) = (&medians.times, medians.ratio);
+    let other = times.get(2).map_or(String::new(), |time| format!("{time:.2}"));
+    println!("| {name} | {what} | {:.2} | {:.2} | {ratio:.2} | {other} |", times[0], times[1]);
 }
 
 fn main() {
@@ -236,7 +243,7 @@ fn main() {
         || PathBuf::from(env!("CARGO_MANIFEST_DIR")).join("../docs/benchmark.svg"),
         PathBuf::from,
     );
-    println!("Median of {SAMPLES} measurements, per call; ratio is Rattle over Rust. Seed {}.\n", seed());
+    println!("Median of {SAMPLES} measurements, per call; ratio is Rattle over Rust (flat search). Seed {}.\n", seed());
     print_head();
     let mut ratios = Vec::new();
     for row in rows_at_twelve() {
@@ -318,7 +325,8 @@ fn down(time: f64, least: f64, most: f64) -> f64 {
 }
 
 fn write_plot(path: &PathBuf, curves: &[Curve]) {
-    let times = || curves.iter().flat_map(|curve| &curve.points).flat_map(|(_, medians)| [medians.rattle, medians.rust]);
+    let times = || curves.iter().flat_map(|curve| &curve.points).flat_map(|(_, medians)| &medians.times[..2]);
+    let times = || times().copied();
     let least = times().fold(f64::MAX, f64::min).log10().floor();
     let most = times().fold(f64::MIN, f64::max).log10().ceil();
     let mut svg = format!(
@@ -329,12 +337,12 @@ fn write_plot(path: &PathBuf, curves: &[Curve]) {
     svg += &axes(least, most);
     for (number, curve) in curves.iter().enumerate() {
         let color = ["#0072b2", "#d55e00", "#009e73"][number % 3];
-        let line = |pick: fn(&Medians) -> f64| -> Vec<(f64, f64)> {
-            curve.points.iter().map(|(n, medians)| (across(*n), down(pick(medians), least, most))).collect()
+        let line = |side: usize| -> Vec<(f64, f64)> {
+            curve.points.iter().map(|(n, medians)| (across(*n), down(medians.times[side], least, most))).collect()
         };
         let legend = TOP + 20.0 + number as f64 * 50.0;
-        svg += &drawn(&line(|medians| medians.rattle), color, "none", legend, &format!("{}: Rattle", curve.name));
-        svg += &drawn(&line(|medians| medians.rust), color, "6 4", legend + 20.0, &format!("{}: Rust", curve.name));
+        svg += &drawn(&line(0), color, "none", legend, &format!("{}: Rattle", curve.name));
+        svg += &drawn(&line(1), color, "6 4", legend + 20.0, &format!("{}: Rust", curve.name));
     }
     svg += "</svg>\n";
     std::fs::write(path, svg).unwrap_or_else(|error| panic!("{}: {error}", path.display()));
