@@ -1,0 +1,381 @@
+//! The proved solver and the independent one, both built for release, in one run on the same tables.
+//! The ratio is that of the proved solver to the independent one with the same flat search; what the
+//! independent boundary search takes stands beside them.
+//!
+//! `cargo run --release --bin bench [PLOT.svg]` prints a table of medians and ratios and writes a
+//! plot of time against n (docs/benchmark.svg unless named). Both sides read the table's words and
+//! write the card; the proved side also zeroes its work buffer, as its contract says. Buffers are not
+//! cleared before a call. Answers are compared before anything is timed. What is measured is the
+//! processor time of the thread, the two sides in turn, so that a busy machine does little harm.
+
+use kirdanzug_tests::archive;
+use kirdanzug_tests::fast::{self, Search};
+use kirdanzug_tests::gen::{self, Rng, Shape, SHAPES};
+use kirdanzug_tests::oracle::table_words;
+use kirdanzug_tests::run::seed;
+use std::hint::black_box;
+use std::path::PathBuf;
+
+/// How often each row is measured; the median counts.
+const SAMPLES: usize = 41;
+/// How long one measurement takes at least, in microseconds.
+const SAMPLE_TIME: f64 = 2000.0;
+/// Card words that are always enough: 924 cells of 9 words, and the front.
+const CARD_ROOM: usize = 1 + 8 + 924 * 9;
+
+/// Median times per input, in microseconds, of the proved side and the independent ones, and the
+/// median of the ratios of neighbouring measurements of the first two.
+struct Medians {
+    times: Vec<f64>,
+    ratio: f64,
+}
+
+/// The processor time of this thread so far, in microseconds (Linux).
+fn processor_time() -> f64 {
+    #[repr(C)]
+    struct Timespec {
+        seconds: i64,
+        nanoseconds: i64,
+    }
+    extern "C" {
+        fn clock_gettime(clock: i32, time: *mut Timespec) -> i32;
+    }
+    const THREAD_CPUTIME: i32 = 3;
+    let mut time = Timespec { seconds: 0, nanoseconds: 0 };
+    let status = unsafe { clock_gettime(THREAD_CPUTIME, &mut time) };
+    assert_eq!(status, 0, "the clock cannot be read");
+    time.seconds as f64 * 1e6 + time.nanoseconds as f64 / 1e3
+}
+
+/// Times the sides in turn. Each closure works through all inputs of the row once.
+fn measure(inputs: usize, sides: &mut [&mut dyn FnMut()]) -> Medians {
+    let counts: Vec<u32> = sides.iter_mut().map(|side| runs(side)).collect();
+    let mut samples: Vec<Vec<f64>> = vec![Vec::new(); sides.len()];
+    for _ in 0..SAMPLES {
+        for (i, side) in sides.iter_mut().enumerate() {
+            samples[i].push(time(counts[i], side));
+        }
+    }
+    let ratio = median(samples[0].iter().zip(&samples[1]).map(|(rattle, rust)| rattle / rust).collect());
+    let times = samples.into_iter().map(|times| median(times) / inputs as f64).collect();
+    Medians { times, ratio }
+}
+
+/// How many runs fill a measurement.
+fn runs(work: &mut dyn FnMut()) -> u32 {
+    let mut runs = 1;
+    loop {
+        if time(runs, work) * f64::from(runs) >= SAMPLE_TIME {
+            return runs;
+        }
+        runs *= 2;
+    }
+}
+
+/// Microseconds for one run.
+fn time(runs: u32, work: &mut dyn FnMut()) -> f64 {
+    let start = processor_time();
+    (0..runs).for_each(|_| work());
+    (processor_time() - start) / f64::from(runs)
+}
+
+fn median(mut times: Vec<f64>) -> f64 {
+    times.sort_by(f64::total_cmp);
+    times[times.len() / 2]
+}
+
+// ---- Solve -------------------------------------------------------------------------------------
+
+/// A row of the benchmark: its name and the words of its tables.
+struct Tables {
+    name: String,
+    tables: Vec<Vec<u32>>,
+}
+
+fn random_tables(shape: Shape, n: usize, count: u64) -> Vec<Vec<u32>> {
+    let table = |i| gen::table(&mut Rng::new(seed(), i), shape, n, 8, 8);
+    (0..count).map(table).collect()
+}
+
+fn mixed_tables(n: usize, count: u64) -> Vec<Vec<u32>> {
+    let shapes = SHAPES.iter().filter(|&&shape| shape != Shape::Counter && shape != Shape::Ring);
+    shapes.flat_map(|&shape| random_tables(shape, n, count)).collect()
+}
+
+/// The ring with 498 cells.
+fn wide_ring(o: usize) -> Vec<Vec<u32>> {
+    vec![table_words(&gen::ring(12, &gen::WIDE_RING, o))]
+}
+
+fn rows_at_twelve() -> Vec<Tables> {
+    let mut rows = Vec::new();
+    let mut add = |name: String, tables| rows.push(Tables { name, tables });
+    for shape in [Shape::Dense, Shape::Sparse, Shape::Blocked, Shape::Overlapping, Shape::Permutations, Shape::Uniform] {
+        add(format!("random, {shape:?}, n 12, a 8, o 8"), random_tables(shape, 12, 20));
+    }
+    add("random, mixed, n 12, a 8, o 8".into(), mixed_tables(12, 5));
+    add("knowledge counter, n 12".into(), vec![table_words(&gen::counter(12))]);
+    add("large antichain, n 12, o 1".into(), wide_ring(1));
+    add("large antichain, n 12, o 8".into(), wide_ring(8));
+    rows
+}
+
+/// The words that both sides answer and write must be the same.
+fn compare_answers(table: &[u32], work: &mut [u32], solver: &mut fast::Solver) -> [u64; 3] {
+    let (mut theirs, mut ours) = (vec![0; CARD_ROOM], vec![0; CARD_ROOM]);
+    let mut answer = [9; 3];
+    archive::solve(table, work, &mut theirs, &mut answer);
+    let expected = match solver.solve(table, &mut ours) {
+        fast::Verdict::Yes { index, cells } => [0, index.into(), cells as u64],
+        fast::Verdict::No { round } => [1, round.into(), 0],
+        fast::Verdict::Refused { number, place } => [2, number.into(), place as u64],
+    };
+    assert_eq!(answer, expected, "the solvers differ on {table:x?}");
+    assert_eq!(theirs, ours, "the cards differ on {table:x?}");
+    answer
+}
+
+/// What the tables of a row are: how many yes, the most cells and the largest round number or index.
+fn describe(answers: &[[u64; 3]]) -> String {
+    let yes = answers.iter().filter(|answer| answer[0] == 0).count();
+    let cells = answers.iter().filter(|answer| answer[0] == 0).map(|answer| answer[2]).max().unwrap_or(0);
+    let rounds = answers.iter().map(|answer| answer[1]).max().unwrap_or(0);
+    format!("{yes} of {} yes, cells ≤ {cells}, rounds ≤ {rounds}", answers.len())
+}
+
+fn measure_solve(tables: &[Vec<u32>]) -> (Medians, String) {
+    let (mut flat, mut boundary) = (fast::Solver::new(Search::Flat), fast::Solver::new(Search::Boundary));
+    let mut work = vec![0u32; 4 * 4096];
+    tables.iter().for_each(|table| {
+        compare_answers(table, &mut work, &mut boundary);
+    });
+    let answers: Vec<[u64; 3]> = tables.iter().map(|table| compare_answers(table, &mut work, &mut flat)).collect();
+    let [mut card, mut flat_card, mut boundary_card] = [(); 3].map(|_| vec![0u32; CARD_ROOM]);
+    let mut rattle = || {
+        for table in tables {
+            let mut answer = [0; 3];
+            archive::solve(black_box(table), &mut work, &mut card, &mut answer);
+            black_box(answer);
+        }
+    };
+    let mut rust = || solve_all(&mut flat, tables, &mut flat_card);
+    let mut other = || solve_all(&mut boundary, tables, &mut boundary_card);
+    (measure(tables.len(), &mut [&mut rattle, &mut rust, &mut other]), describe(&answers))
+}
+
+fn solve_all(solver: &mut fast::Solver, tables: &[Vec<u32>], card: &mut [u32]) {
+    for table in tables {
+        black_box(solver.solve(black_box(table), card));
+    }
+}
+
+// ---- Lists and judge ---------------------------------------------------------------------------
+
+type Archived = fn(u32, &[u32], &[u32], &mut [u32], &mut [u64; 3]);
+type Independent = fn(u32, &[u32], &[u32], &mut [u32]) -> Result<usize, (u32, usize)>;
+
+fn measure_lists(archived: Archived, independent: Independent, first: &[u32], second: &[u32]) -> (Medians, String) {
+    let (mut out, mut other) = (vec![0; 4096], vec![0; 4096]);
+    let mut answer = [9; 3];
+    archived(12, first, second, &mut out, &mut answer);
+    let length = independent(12, first, second, &mut other).expect("there is room");
+    assert_eq!((answer, &out), ([0, length as u64, 0], &other), "the lists differ");
+    let mut rattle = || archived(12, black_box(first), black_box(second), &mut out, &mut answer);
+    let mut rust = || {
+        black_box(independent(12, black_box(first), black_box(second), &mut other)).expect("there is room");
+    };
+    let medians = measure(1, &mut [&mut rattle, &mut rust]);
+    (medians, format!("{} and {} sets to {length}", first.len(), second.len()))
+}
+
+fn measure_judge(tables: &[Vec<u32>], masks: &[u32], k: u32) -> (Medians, String) {
+    let mut judge = fast::Judge::new();
+    let mut good = 0;
+    for (table, &mask) in tables.iter().zip(masks) {
+        let mut answer = [9; 3];
+        archive::judge(table, mask, k, &mut answer);
+        let expected = judge.judge(table, mask, k).expect("the table is accepted");
+        assert_eq!(answer, [0, expected.into(), 0], "the judges differ on {table:x?}");
+        good += u32::from(expected);
+    }
+    let mut rattle = || {
+        for (table, &mask) in tables.iter().zip(masks) {
+            let mut answer = [0; 3];
+            archive::judge(black_box(table), mask, k, &mut answer);
+            black_box(answer);
+        }
+    };
+    let mut rust = || {
+        for (table, &mask) in tables.iter().zip(masks) {
+            black_box(judge.judge(black_box(table), mask, k)).expect("the table is accepted");
+        }
+    };
+    (measure(tables.len(), &mut [&mut rattle, &mut rust]), format!("{good} of {} good", tables.len()))
+}
+
+/// An antichain of so many random sets of six states.
+fn random_antichain(rng: &mut Rng, length: usize) -> Vec<u32> {
+    let mut sets: Vec<u32> = (0..4096u32).filter(|set| set.count_ones() == 6).collect();
+    for i in 0..length {
+        let other = rng.within(i, sets.len() - 1);
+        sets.swap(i, other);
+    }
+    sets.truncate(length);
+    sets.sort_unstable();
+    sets
+}
+
+// ---- What is printed ---------------------------------------------------------------------------
+
+fn print_head() {
+    println!("| input | what | Rattle µs | Rust µs | ratio | Rust, boundary search µs |");
+    println!("|---|---|--:|--:|--:|--:|");
+}
+
+fn print_row(name: &str, (medians, what): &(Medians, String)) {
+    let (times, ratio) = (&medians.times, medians.ratio);
+    let other = times.get(2).map_or(String::new(), |time| format!("{time:.2}"));
+    println!("| {name} | {what} | {:.2} | {:.2} | {ratio:.2} | {other} |", times[0], times[1]);
+}
+
+fn main() {
+    let plot = std::env::args().nth(1).map_or_else(
+        || PathBuf::from(env!("CARGO_MANIFEST_DIR")).join("../docs/benchmark.svg"),
+        PathBuf::from,
+    );
+    println!("Median of {SAMPLES} measurements, per call; ratio is Rattle over Rust (flat search). Seed {}.\n", seed());
+    print_head();
+    let mut ratios = Vec::new();
+    for row in rows_at_twelve() {
+        let measured = measure_solve(&row.tables);
+        print_row(&format!("solve: {}", row.name), &measured);
+        ratios.push(measured.0.ratio);
+    }
+    print_lists();
+    print_judges();
+    println!("\nMedian ratio of the solve rows: {:.2}\n", median(ratios));
+    print_head();
+    let curves = growth();
+    write_plot(&plot, &curves);
+}
+
+fn print_lists() {
+    let mut rng = Rng::new(seed(), 1);
+    let of_size = |size| -> Vec<u32> { (0..4096u32).filter(|set| set.count_ones() == size).collect() };
+    let (six, five) = (of_size(6), of_size(5));
+    let (first, second) = (random_antichain(&mut rng, 60), random_antichain(&mut rng, 60));
+    let short: (&[u32], &[u32]) = (&[0x00F, 0x0F0, 0xF00], &[0x333, 0xCCC]);
+    for (name, first, second) in
+        [("all of six, all of five", &six[..], &five[..]), ("sixty random", &first, &second), ("short", short.0, short.1)]
+    {
+        print_row(&format!("join: {name}, n 12"), &measure_lists(archive::join, fast::join, first, second));
+        print_row(&format!("meet: {name}, n 12"), &measure_lists(archive::meet, fast::meet, first, second));
+    }
+}
+
+fn print_judges() {
+    let mut rng = Rng::new(seed(), 2);
+    for shape in [Shape::Sparse, Shape::Blocked, Shape::Overlapping] {
+        let tables = random_tables(shape, 12, 20);
+        let masks: Vec<u32> = tables.iter().map(|_| rng.some_set(12, 15)).collect();
+        print_row(&format!("judge: {shape:?}, n 12, k 4"), &measure_judge(&tables, &masks, 4));
+    }
+}
+
+/// A curve of the plot: its name and, for each n, the medians.
+struct Curve {
+    name: &'static str,
+    points: Vec<(usize, Medians)>,
+}
+
+fn growth() -> Vec<Curve> {
+    let kinds: [(&'static str, fn(usize) -> Vec<Vec<u32>>); 3] = [
+        ("random, a 8, o 8", |n| mixed_tables(n, 5)),
+        ("knowledge counter", |n| vec![table_words(&gen::counter(n))]),
+        ("rings, a 8, o 8", |n| random_tables(Shape::Ring, n, 20)),
+    ];
+    let curve = |(name, tables): (&'static str, fn(usize) -> Vec<Vec<u32>>)| {
+        let point = |n| {
+            let measured = measure_solve(&tables(n));
+            print_row(&format!("growth: {name}, n {n}"), &measured);
+            (n, measured.0)
+        };
+        Curve { name, points: (4..=12).map(point).collect() }
+    };
+    kinds.into_iter().map(curve).collect()
+}
+
+// ---- The plot ----------------------------------------------------------------------------------
+
+const WIDTH: f64 = 760.0;
+const HEIGHT: f64 = 460.0;
+const LEFT: f64 = 80.0;
+const RIGHT: f64 = 540.0;
+const TOP: f64 = 50.0;
+const BOTTOM: f64 = 400.0;
+
+/// The place of n on the x axis, 4 to 12.
+fn across(n: usize) -> f64 {
+    LEFT + (n as f64 - 4.0) / 8.0 * (RIGHT - LEFT)
+}
+
+/// The place of a time on the y axis, in powers of ten from `least` to `most`.
+fn down(time: f64, least: f64, most: f64) -> f64 {
+    BOTTOM - (time.log10() - least) / (most - least) * (BOTTOM - TOP)
+}
+
+fn write_plot(path: &PathBuf, curves: &[Curve]) {
+    let times = || curves.iter().flat_map(|curve| &curve.points).flat_map(|(_, medians)| &medians.times[..2]);
+    let times = || times().copied();
+    let least = times().fold(f64::MAX, f64::min).log10().floor();
+    let most = times().fold(f64::MIN, f64::max).log10().ceil();
+    let mut svg = format!(
+        "<svg xmlns=\"http://www.w3.org/2000/svg\" viewBox=\"0 0 {WIDTH} {HEIGHT}\" \
+         font-family=\"sans-serif\" font-size=\"12\">\n<rect width=\"{WIDTH}\" height=\"{HEIGHT}\" fill=\"white\"/>\n\
+         <text x=\"{LEFT}\" y=\"28\" font-size=\"15\">Time of one solve against the number of states</text>\n"
+    );
+    svg += &axes(least, most);
+    for (number, curve) in curves.iter().enumerate() {
+        let color = ["#0072b2", "#d55e00", "#009e73"][number % 3];
+        let line = |side: usize| -> Vec<(f64, f64)> {
+            curve.points.iter().map(|(n, medians)| (across(*n), down(medians.times[side], least, most))).collect()
+        };
+        let legend = TOP + 20.0 + number as f64 * 50.0;
+        svg += &drawn(&line(0), color, "none", legend, &format!("{}: Rattle", curve.name));
+        svg += &drawn(&line(1), color, "6 4", legend + 20.0, &format!("{}: Rust", curve.name));
+    }
+    svg += "</svg>\n";
+    std::fs::write(path, svg).unwrap_or_else(|error| panic!("{}: {error}", path.display()));
+    println!("\nPlot: {}", path.display());
+}
+
+/// The frame, a line for each power of ten and a mark for each n.
+fn axes(least: f64, most: f64) -> String {
+    let mut svg = String::new();
+    for power in least as i32..=most as i32 {
+        let y = down(10f64.powi(power), least, most);
+        let label = 10f64.powi(power);
+        svg += &format!("<line x1=\"{LEFT}\" y1=\"{y:.1}\" x2=\"{RIGHT}\" y2=\"{y:.1}\" stroke=\"#dddddd\"/>\n");
+        svg += &format!("<text x=\"{}\" y=\"{:.1}\" text-anchor=\"end\">{label} µs</text>\n", LEFT - 8.0, y + 4.0);
+    }
+    for n in 4..=12 {
+        let x = across(n);
+        svg += &format!("<text x=\"{x:.1}\" y=\"{}\" text-anchor=\"middle\">{n}</text>\n", BOTTOM + 18.0);
+    }
+    let middle = (LEFT + RIGHT) / 2.0;
+    svg += &format!("<text x=\"{middle}\" y=\"{}\" text-anchor=\"middle\">states n</text>\n", BOTTOM + 40.0);
+    svg
+}
+
+/// A line with its entry in the legend.
+fn drawn(points: &[(f64, f64)], color: &str, dashes: &str, legend: f64, name: &str) -> String {
+    let path: Vec<String> = points.iter().map(|(x, y)| format!("{x:.1},{y:.1}")).collect();
+    let style = format!("fill=\"none\" stroke=\"{color}\" stroke-width=\"2\" stroke-dasharray=\"{dashes}\"");
+    let (from, to, label) = (RIGHT + 15.0, RIGHT + 45.0, RIGHT + 52.0);
+    format!(
+        "<polyline points=\"{}\" {style}/>\n<line x1=\"{from}\" y1=\"{legend}\" x2=\"{to}\" y2=\"{legend}\" {style}/>\n\
+         <text x=\"{label}\" y=\"{}\">{name}</text>\n",
+        path.join(" "),
+        legend + 4.0
+    )
+}

@@ -1,0 +1,220 @@
+//! Independent checkers of verdicts, straight from plays and strategies.
+
+use crate::game::{members, Game};
+use std::collections::{HashMap, HashSet};
+
+/// What moves a play on: opening with the first observation, then one step for each later one.
+/// Each gives the cell entered and its action, or nothing where it refuses.
+pub trait Runner {
+    fn open(&mut self, observation: usize) -> Option<(u32, u32)>;
+    fn step(&mut self, cell: u32, observation: usize) -> Option<(u32, u32)>;
+}
+
+/// The observations that a state shows.
+fn shown(game: &Game, state: usize) -> impl Iterator<Item = usize> + '_ {
+    (0..game.o).filter(move |&r| game.showing(r, state))
+}
+
+/// The state is not bad and the action is open in it: the round is survived.
+fn survived(game: &Game, state: usize, action: u32) -> bool {
+    !game.is_bad(state) && (action as usize) < game.a && game.open(action as usize, state)
+}
+
+/// Plays every play, of any length, under the runner's actions: each round must be survived and no
+/// step refused. Whether a round is survived depends on state and cell alone, so each pair is
+/// looked at once.
+pub fn keeps_clear(game: &Game, runner: &mut impl Runner) -> Result<(), String> {
+    let mut seen = HashSet::new();
+    let mut waiting = Vec::new();
+    for state in members(game.start) {
+        for r in shown(game, state) {
+            let entered = runner.open(r).ok_or(format!("opening refuses observation {r}"))?;
+            waiting.push((state, entered));
+        }
+    }
+    while let Some((state, (cell, action))) = waiting.pop() {
+        if !seen.insert((state, cell)) {
+            continue;
+        }
+        if !survived(game, state, action) {
+            return Err(format!("state {state} in cell {cell} does not survive action {action}"));
+        }
+        for successor in members(game.moves[action as usize][state]) {
+            for r in shown(game, successor) {
+                let refusal = || format!("cell {cell} refuses observation {r}");
+                waiting.push((successor, runner.step(cell, r).ok_or_else(refusal)?));
+            }
+        }
+    }
+    Ok(())
+}
+
+/// Plays every play of at most `rounds` rounds one by one, with nothing remembered.
+pub fn lasts_played(game: &Game, runner: &mut impl Runner, rounds: usize) -> bool {
+    members(game.start).all(|state| {
+        shown(game, state).all(|r| match runner.open(r) {
+            Some(entered) => play_on(game, runner, state, entered, rounds),
+            None => false,
+        })
+    })
+}
+
+fn play_on(game: &Game, runner: &mut impl Runner, state: usize, entered: (u32, u32), rounds: usize) -> bool {
+    let (cell, action) = entered;
+    rounds == 0
+        || survived(game, state, action)
+            && members(game.moves[action as usize][state]).all(|successor| {
+                shown(game, successor).all(|r| match runner.step(cell, r) {
+                    Some(entered) => play_on(game, runner, successor, entered, rounds - 1),
+                    None => false,
+                })
+            })
+}
+
+/// A search over knowledge sets for a strategy that lasts a number of rounds.
+pub struct Search<'a> {
+    game: &'a Game,
+    /// For a knowledge set and a number of rounds: the action that lasts them, if there is one.
+    found: HashMap<(u32, u32), Option<usize>>,
+}
+
+impl<'a> Search<'a> {
+    pub fn new(game: &'a Game) -> Search<'a> {
+        Search { game, found: HashMap::new() }
+    }
+
+    /// Some strategy lasts this many rounds from the start.
+    pub fn some_strategy_lasts(&mut self, rounds: u32) -> bool {
+        self.game.start_sets().into_iter().all(|set| self.lasts(set, rounds))
+    }
+
+    fn lasts(&mut self, set: u32, rounds: u32) -> bool {
+        set == 0 || rounds == 0 || self.action(set, rounds).is_some()
+    }
+
+    fn action(&mut self, set: u32, rounds: u32) -> Option<usize> {
+        if let Some(&known) = self.found.get(&(set, rounds)) {
+            return known;
+        }
+        let game = self.game;
+        let clear = members(set).all(|state| !game.is_bad(state));
+        let action = (0..game.a).filter(|_| clear).find(|&action| {
+            game.enabled(action, set)
+                && game.after(action, set).into_iter().all(|next| self.lasts(next, rounds - 1))
+        });
+        self.found.insert((set, rounds), action);
+        action
+    }
+
+    /// Plays the strategy found: every play under it survives rounds 1 to `rounds`.
+    pub fn strategy_survives(&mut self, rounds: u32) -> bool {
+        let mut seen = HashSet::new();
+        let mut waiting = Vec::new();
+        for (r, known) in self.game.start_sets().into_iter().enumerate() {
+            let states = members(self.game.start).filter(|&state| self.game.showing(r, state));
+            waiting.extend(states.map(|state| (state, known, rounds)));
+        }
+        while let Some((state, known, left)) = waiting.pop() {
+            if left == 0 || !seen.insert((state, known, left)) {
+                continue;
+            }
+            let Some(action) = self.action(known, left) else {
+                return false;
+            };
+            if !survived(self.game, state, action as u32) {
+                return false;
+            }
+            let after = self.game.after(action, known);
+            for successor in members(self.game.moves[action][state]) {
+                waiting.extend(shown(self.game, successor).map(|r| (successor, after[r], left - 1)));
+            }
+        }
+        true
+    }
+}
+
+/// A no with k: k is at least 1 and below 2^n, every strategy loses by k, and one survives k - 1.
+pub fn no_holds(game: &Game, k: u32) -> Result<(), String> {
+    let mut search = Search::new(game);
+    if k == 0 || k >= 1 << game.n {
+        return Err(format!("round number {k} is out of range"));
+    }
+    if search.some_strategy_lasts(k) {
+        return Err(format!("a strategy lasts {k} rounds"));
+    }
+    if !search.some_strategy_lasts(k - 1) || !search.strategy_survives(k - 1) {
+        return Err(format!("no strategy lasts {} rounds", k - 1));
+    }
+    Ok(())
+}
+
+/// All strategies on lists of at most `rounds` observations, one by one, for the smallest games.
+pub mod literal {
+    use super::{members, shown, survived, Game};
+
+    /// An action for every list of observations; `choices` at the list's number.
+    struct Strategy {
+        o: usize,
+        choices: Vec<u32>,
+    }
+
+    impl Strategy {
+        /// Lists are numbered by length, then by their observations as digits to base o.
+        fn action(&self, history: &[usize]) -> u32 {
+            let shorter: usize = (1..history.len()).map(|length| self.o.pow(length as u32)).sum();
+            self.choices[shorter + history.iter().fold(0, |number, r| number * self.o + r)]
+        }
+
+        /// The next strategy in the count through all of them; false after the last.
+        fn advance(&mut self, a: usize) -> bool {
+            for choice in &mut self.choices {
+                *choice += 1;
+                if *choice < a as u32 {
+                    return true;
+                }
+                *choice = 0;
+            }
+            false
+        }
+    }
+
+    /// Whether some strategy lasts this many rounds: each one is tried on every play.
+    pub fn some_strategy_lasts(game: &Game, rounds: u32) -> bool {
+        let lists = (1..=rounds).map(|length| game.o.pow(length)).sum();
+        let mut strategy = Strategy { o: game.o, choices: vec![0; lists] };
+        loop {
+            if lasts(game, &strategy, rounds as usize) {
+                return true;
+            }
+            if !strategy.advance(game.a) {
+                return false;
+            }
+        }
+    }
+
+    fn lasts(game: &Game, strategy: &Strategy, rounds: usize) -> bool {
+        rounds == 0
+            || members(game.start).all(|state| {
+                shown(game, state).all(|r| play(game, strategy, state, &mut vec![r], rounds))
+            })
+    }
+
+    /// The round of this state and every later one up to `rounds` is survived.
+    fn play(game: &Game, strategy: &Strategy, state: usize, history: &mut Vec<usize>, rounds: usize) -> bool {
+        let action = strategy.action(history);
+        if !survived(game, state, action) {
+            return false;
+        }
+        if history.len() == rounds {
+            return true;
+        }
+        members(game.moves[action as usize][state]).all(|successor| {
+            shown(game, successor).all(|r| {
+                history.push(r);
+                let on = play(game, strategy, successor, history, rounds);
+                history.pop();
+                on
+            })
+        })
+    }
+}

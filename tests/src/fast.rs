@@ -1,0 +1,575 @@
+//! A quick independent solver, for the benchmark, with two searches.
+//!
+//! - Flat: an array over all sets of states, updated in place, with passes over the sets that are
+//!   still good only. The proved solver searches in this way; it is what the ratio is taken to.
+//! - Boundary: families of sets, 64 sets to a machine word. A set that is good settles all its
+//!   subsets, so a pass tests little more than the sets that fall and the maximal ones that stay.
+//!
+//! Lists are handled as families of sets too.
+
+/// The most sets: 2^12.
+const SETS: usize = 4096;
+/// How many machine words hold a family of sets.
+const LANES: usize = SETS / 64;
+/// The cell number that means "cannot occur".
+const NO_CELL: u32 = 65_535;
+
+/// What solve answers.
+#[derive(Clone, Copy, PartialEq, Eq, Debug)]
+pub enum Verdict {
+    Yes { index: u32, cells: usize },
+    No { round: u32 },
+    Refused { number: u32, place: usize },
+}
+
+/// How the settled family is found.
+#[derive(Clone, Copy, PartialEq, Eq, Debug)]
+pub enum Search {
+    Flat,
+    Boundary,
+}
+
+/// An accepted table, laid out for the search.
+struct Layout {
+    n: usize,
+    a: usize,
+    o: usize,
+    start: u16,
+    bad: u16,
+    shows: [u16; 8],
+    /// The observations that are not within another: they decide the step.
+    widest: [u16; 8],
+    widest_count: usize,
+    /// For each action the states where it is open.
+    enabled: [u16; 8],
+    /// For each action the successors of a set of the states 0 to 5, and of the states 6 to 11.
+    low: [[u16; 64]; 8],
+    high: [[u16; 64]; 8],
+}
+
+impl Layout {
+    fn new() -> Layout {
+        Layout {
+            n: 0,
+            a: 0,
+            o: 0,
+            start: 0,
+            bad: 0,
+            shows: [0; 8],
+            widest: [0; 8],
+            widest_count: 0,
+            enabled: [0; 8],
+            low: [[0; 64]; 8],
+            high: [[0; 64]; 8],
+        }
+    }
+
+    /// The table checks in their order.
+    fn read(&mut self, table: &[u32]) -> Result<(), (u32, usize)> {
+        let &head = table.first().ok_or((1, 0))?;
+        let [n, a, o, top] = head.to_le_bytes().map(usize::from);
+        let fits = top == 0x10 && n.wrapping_sub(1) < 12 && a.wrapping_sub(1) < 8 && o.wrapping_sub(1) < 8;
+        if !fits {
+            return Err((2, 0));
+        }
+        if table.len() != 3 + o + a * n {
+            return Err((3, table.len()));
+        }
+        (self.n, self.a, self.o) = (n, a, o);
+        self.start = self.mask(table, 1, 0x2000)?;
+        self.bad = self.mask(table, 2, 0x3000)?;
+        let mut shown = 0;
+        for r in 0..o {
+            self.shows[r] = self.mask(table, 3 + r, 0x4000 | r as u32)?;
+            shown |= self.shows[r];
+        }
+        for c in 0..a {
+            self.read_action(table, c)?;
+        }
+        if self.start == 0 {
+            return Err((6, 1));
+        }
+        if shown != full(n) {
+            return Err((7, shown.trailing_ones() as usize));
+        }
+        self.find_widest();
+        Ok(())
+    }
+
+    /// The mask of a word whose upper half must be as given.
+    fn mask(&self, table: &[u32], place: usize, upper: u32) -> Result<u16, (u32, usize)> {
+        let word = table[place];
+        if word >> 16 != upper {
+            return Err((4, place));
+        }
+        if word & 0xFFFF & !u32::from(full(self.n)) != 0 {
+            return Err((5, place));
+        }
+        Ok(word as u16)
+    }
+
+    fn read_action(&mut self, table: &[u32], c: usize) -> Result<(), (u32, usize)> {
+        let mut row = [0u16; 12];
+        self.enabled[c] = 0;
+        for state in 0..self.n {
+            let place = 3 + self.o + c * self.n + state;
+            row[state] = self.mask(table, place, 0x5000 | (c as u32) << 4 | state as u32)?;
+            self.enabled[c] |= u16::from(row[state] != 0) << state;
+        }
+        for half in 1..64usize {
+            let (rest, lowest) = (half & (half - 1), half.trailing_zeros() as usize);
+            self.low[c][half] = self.low[c][rest] | row[lowest];
+            self.high[c][half] = self.high[c][rest] | row[lowest + 6];
+        }
+        Ok(())
+    }
+
+    /// Successors that show less are good where those that show more are.
+    fn find_widest(&mut self) {
+        self.widest_count = 0;
+        for r in 0..self.o {
+            let within = |other: usize| {
+                self.shows[r] & !self.shows[other] == 0 && (self.shows[r] != self.shows[other] || other < r)
+            };
+            if !(0..self.o).any(|other| other != r && within(other)) {
+                self.widest[self.widest_count] = self.shows[r];
+                self.widest_count += 1;
+            }
+        }
+    }
+
+    #[inline(always)]
+    fn post(&self, c: usize, set: u16) -> u16 {
+        self.low[c & 7][(set & 63) as usize] | self.high[c & 7][(set >> 6 & 63) as usize]
+    }
+
+    fn widest(&self) -> &[u16] {
+        &self.widest[..self.widest_count]
+    }
+
+    /// The lowest action from c up that is open in the whole set and for every observation leads to
+    /// a set that is `fine`; a where there is none.
+    #[inline(always)]
+    fn lowest_action(&self, mut c: usize, set: u16, fine: impl Fn(u16) -> bool) -> usize {
+        while c < self.a {
+            if set & !self.enabled[c & 7] == 0 {
+                let post = self.post(c, set);
+                if self.widest().iter().all(|shows| fine(post & shows)) {
+                    break;
+                }
+            }
+            c += 1;
+        }
+        c
+    }
+
+    /// What is known at the start is `fine`, whatever is observed.
+    fn start_is(&self, fine: impl Fn(u16) -> bool) -> bool {
+        self.widest().iter().all(|shows| fine(self.start & shows))
+    }
+}
+
+fn full(n: usize) -> u16 {
+    ((1u32 << n) - 1) as u16
+}
+
+/// The solver with its arrays, made once and used for many tables.
+pub struct Solver {
+    search: Search,
+    layout: Layout,
+    /// How many rounds a set is good for, as far as the passes have come.
+    rounds: [u16; SETS],
+    /// The sets still good.
+    alive: [u16; SETS],
+    /// For each set the lowest action that has not failed yet: what fails once fails ever after.
+    action: [u8; SETS],
+    /// The lowest cell that holds a set.
+    holder: [u16; SETS],
+}
+
+impl Solver {
+    pub fn new(search: Search) -> Solver {
+        Solver {
+            search,
+            layout: Layout::new(),
+            rounds: [0; SETS],
+            alive: [0; SETS],
+            action: [0; SETS],
+            holder: [0; SETS],
+        }
+    }
+
+    /// Decides a table and, where the answer is yes, writes the card to the front of its room.
+    pub fn solve(&mut self, table: &[u32], card: &mut [u32]) -> Verdict {
+        if let Err((number, place)) = self.layout.read(table) {
+            return Verdict::Refused { number, place };
+        }
+        let settled = match self.search {
+            Search::Flat => self.search_flat(),
+            Search::Boundary => self.search_boundary(),
+        };
+        match settled {
+            Ok((index, family)) => self.write_card(index, family.maximal(), card),
+            Err(round) => Verdict::No { round: round.into() },
+        }
+    }
+
+    /// The settling count and the settled family, or the round number of a no. The actions of the
+    /// maximal sets stand in `action` afterwards.
+    fn search_flat(&mut self) -> Result<(u16, Family), u16> {
+        let sets = 1usize << self.layout.n;
+        self.rounds[..sets].fill(0);
+        self.action[..sets].fill(0);
+        let mut alive = self.clear_sets();
+        let mut before = sets;
+        for k in 0.. {
+            alive = self.pass(k, alive);
+            if !self.layout.start_is(|set| self.rounds[set as usize] > k) {
+                return Err(k + 1);
+            }
+            if alive == before {
+                return Ok((k, Family::of(self.layout.n, &self.alive[..alive])));
+            }
+            before = alive;
+        }
+        unreachable!("the sets still good become fewer")
+    }
+
+    /// The same by families: good for one round is every set within an action's enabled states.
+    fn search_boundary(&mut self) -> Result<(u16, Family), u16> {
+        let layout = &self.layout;
+        let clear = full(layout.n) & !layout.bad;
+        let mut good = Family::empty(layout.n);
+        layout.enabled[..layout.a].iter().for_each(|enabled| good.insert(enabled & clear));
+        good.close();
+        if !layout.start_is(|set| good.has(set)) {
+            return Err(1);
+        }
+        let mut index = u16::from(good.count() < 1 << layout.n);
+        while index > 0 {
+            let next = layout.boundary_pass(&good);
+            if !layout.start_is(|set| next.has(set)) {
+                return Err(index + 1);
+            }
+            if next.bits == good.bits {
+                break;
+            }
+            (good, index) = (next, index + 1);
+        }
+        let action = &mut self.action;
+        good.maximal().each(|set| action[set as usize] = layout.lowest_action(0, set, |next| good.has(next)) as u8);
+        Ok((index, good))
+    }
+
+    /// Puts the sets without a bad state in the list, ascending.
+    fn clear_sets(&mut self) -> usize {
+        let clear = full(self.layout.n) & !self.layout.bad;
+        let (mut count, mut set) = (0, 0u16);
+        loop {
+            self.alive[count] = set;
+            count += 1;
+            // The next subset of the clear states.
+            set = set.wrapping_sub(clear) & clear;
+            if set == 0 {
+                return count;
+            }
+        }
+    }
+
+    /// From good for k to good for k + 1; the sets that stay are moved together.
+    fn pass(&mut self, k: u16, count: usize) -> usize {
+        let mut kept = 0;
+        for i in 0..count {
+            let set = self.alive[i];
+            let at = set as usize & (SETS - 1);
+            let fine = |next: u16| self.rounds[next as usize & (SETS - 1)] >= k;
+            let c = self.layout.lowest_action(self.action[at] as usize, set, fine);
+            self.action[at] = c as u8;
+            if c < self.layout.a {
+                self.rounds[at] = k + 1;
+                self.alive[kept] = set;
+                kept += 1;
+            }
+        }
+        kept
+    }
+
+    fn write_card(&mut self, index: u16, maximal: Family, card: &mut [u32]) -> Verdict {
+        let layout = &self.layout;
+        let (a, o) = (layout.a, layout.o);
+        let cells = maximal.count();
+        let length = 1 + o + cells * (1 + o);
+        if card.len() < length {
+            return Verdict::Refused { number: 9, place: length };
+        }
+        let masks = &mut self.alive;
+        let mut at = 0;
+        maximal.each(|set| {
+            masks[at] = set;
+            at += 1;
+        });
+        // Looking through the cells for each set, or the holders of all sets beforehand.
+        let all_at_once = cells * cells * o > layout.n << layout.n;
+        if all_at_once {
+            find_holders(layout.n, &masks[..cells], &mut self.holder);
+        }
+        let masks = &self.alive[..cells];
+        let holder = &self.holder;
+        let holding = |set: u16| match set {
+            0 => NO_CELL,
+            _ if all_at_once => holder[set as usize].into(),
+            _ => masks.iter().position(|mask| set & !mask == 0).expect("a settled set lies in a cell") as u32,
+        };
+        let shows = &layout.shows[..o];
+        card[0] = 0x8000_0000 | (a as u32) << 20 | (o as u32) << 16 | cells as u32;
+        for (r, shows) in shows.iter().enumerate() {
+            card[1 + r] = 0x9000_0000 | (r as u32) << 16 | holding(layout.start & shows);
+        }
+        for (&mask, words) in masks.iter().zip(card[1 + o..length].chunks_exact_mut(1 + o)) {
+            let c = self.action[mask as usize] as usize;
+            let post = layout.post(c, mask);
+            words[0] = 0xA000_0000 | (c as u32) << 20 | u32::from(mask);
+            for (r, shows) in shows.iter().enumerate() {
+                words[1 + r] = 0xB000_0000 | (r as u32) << 16 | holding(post & shows);
+            }
+        }
+        Verdict::Yes { index: index.into(), cells }
+    }
+}
+
+impl Layout {
+    /// From good for k to good for k + 1, from the largest sets down.
+    fn boundary_pass(&self, good: &Family) -> Family {
+        let lanes = good.lanes();
+        let mut next = Family::empty(self.n);
+        for lane in (0..lanes).rev() {
+            // Subsets of sets found in the lanes with one state more.
+            let larger = (0..6).map(|i| lane | 1 << i).filter(|&with| with != lane && with < lanes);
+            let mut found = larger.fold(0, |found, with| found | next.bits[with]);
+            let mut open = good.bits[lane] & !found;
+            while open != 0 {
+                let highest = open.ilog2() as usize;
+                let set = (lane << 6 | highest) as u16;
+                open &= !(1 << highest);
+                if self.lowest_action(0, set, |next| good.has(next)) < self.a {
+                    found |= SUBSETS[highest];
+                    open &= !SUBSETS[highest];
+                }
+            }
+            next.bits[lane] = found;
+        }
+        next
+    }
+}
+
+/// For every set the lowest cell that holds it: its own, or the lowest of the sets one state larger.
+fn find_holders(n: usize, cells: &[u16], holder: &mut [u16; SETS]) {
+    holder[..1 << n].fill(u16::MAX);
+    cells.iter().zip(0..).for_each(|(&mask, cell)| holder[mask as usize] = cell);
+    for state in 0..n {
+        let bit = 1 << state;
+        for block in holder[..1 << n].chunks_exact_mut(2 * bit) {
+            let (without, with) = block.split_at_mut(bit);
+            without.iter_mut().zip(with).for_each(|(small, large)| *small = (*small).min(*large));
+        }
+    }
+}
+
+// ---- Families and lists ------------------------------------------------------------------------
+
+/// A family of sets below 2^n, one bit for each.
+struct Family {
+    n: usize,
+    bits: [u64; LANES],
+}
+
+/// Within a machine word, the sets that have state i.
+const WITH: [u64; 6] = [
+    0xAAAA_AAAA_AAAA_AAAA,
+    0xCCCC_CCCC_CCCC_CCCC,
+    0xF0F0_F0F0_F0F0_F0F0,
+    0xFF00_FF00_FF00_FF00,
+    0xFFFF_0000_FFFF_0000,
+    0xFFFF_FFFF_0000_0000,
+];
+
+/// Within a machine word, the subsets of each set of the states 0 to 5.
+const SUBSETS: [u64; 64] = {
+    let mut subsets = [0; 64];
+    let mut pair = 0;
+    while pair < 64 * 64 {
+        let (set, small) = (pair / 64, pair % 64);
+        if small & !set == 0 {
+            subsets[set] |= 1 << small;
+        }
+        pair += 1;
+    }
+    subsets
+};
+
+impl Family {
+    fn empty(n: usize) -> Family {
+        Family { n, bits: [0; LANES] }
+    }
+
+    /// The family of these sets.
+    fn of(n: usize, sets: &[u16]) -> Family {
+        let mut family = Family::empty(n);
+        sets.iter().for_each(|&set| family.insert(set));
+        family
+    }
+
+    /// The subsets of the masks of a list; they are known to fit.
+    fn below(n: usize, list: &[u32]) -> Family {
+        let mut family = Family::empty(n);
+        list.iter().for_each(|&mask| family.insert(mask as u16));
+        family.close();
+        family
+    }
+
+    #[inline(always)]
+    fn insert(&mut self, set: u16) {
+        self.bits[set as usize >> 6 & (LANES - 1)] |= 1 << (set & 63);
+    }
+
+    #[inline(always)]
+    fn has(&self, set: u16) -> bool {
+        self.bits[set as usize >> 6 & (LANES - 1)] >> (set & 63) & 1 == 1
+    }
+
+    fn lanes(&self) -> usize {
+        (1usize << self.n).div_ceil(64)
+    }
+
+    fn count(&self) -> usize {
+        self.bits[..self.lanes()].iter().map(|lane| lane.count_ones() as usize).sum()
+    }
+
+    fn each(&self, mut visit: impl FnMut(u16)) {
+        for (lane, &bits) in self.bits[..self.lanes()].iter().enumerate() {
+            let mut bits = bits;
+            while bits != 0 {
+                visit((lane << 6) as u16 | bits.trailing_zeros() as u16);
+                bits &= bits - 1;
+            }
+        }
+    }
+
+    /// Adds every subset of a member.
+    fn close(&mut self) {
+        let lanes = self.lanes();
+        for state in 0..self.n.min(6) {
+            for lane in &mut self.bits[..lanes] {
+                *lane |= (*lane & WITH[state]) >> (1 << state);
+            }
+        }
+        for state in 6..self.n {
+            let bit = 1 << (state - 6);
+            for block in self.bits[..lanes].chunks_exact_mut(2 * bit) {
+                let (without, with) = block.split_at_mut(bit);
+                without.iter_mut().zip(with).for_each(|(small, large)| *small |= *large);
+            }
+        }
+    }
+
+    /// The maximal members of a family that holds every subset of its members.
+    fn maximal(&self) -> Family {
+        let lanes = self.lanes();
+        let mut result = Family { n: self.n, bits: self.bits };
+        for state in 0..self.n.min(6) {
+            for (lane, &all) in result.bits[..lanes].iter_mut().zip(&self.bits) {
+                *lane &= !((all & WITH[state]) >> (1 << state));
+            }
+        }
+        for state in 6..self.n {
+            let bit = 1 << (state - 6);
+            for lane in (0..lanes).filter(|lane| lane & bit == 0) {
+                result.bits[lane] &= !self.bits[lane | bit];
+            }
+        }
+        result
+    }
+}
+
+fn combine(
+    n: u32,
+    first: &[u32],
+    second: &[u32],
+    out: &mut [u32],
+    both: impl Fn(u64, u64) -> u64,
+) -> Result<usize, (u32, usize)> {
+    if !(1..=12).contains(&n) {
+        return Err((2, 0));
+    }
+    if let Some(place) = first.iter().chain(second).position(|mask| mask >> n != 0) {
+        return Err((5, place));
+    }
+    let (mut family, other) = (Family::below(n as usize, first), Family::below(n as usize, second));
+    family.bits.iter_mut().zip(other.bits).for_each(|(mine, theirs)| *mine = both(*mine, theirs));
+    let maximal = family.maximal();
+    let length = maximal.count();
+    if out.len() < length {
+        return Err((15, length));
+    }
+    let mut at = 0;
+    maximal.each(|set| {
+        out[at] = set.into();
+        at += 1;
+    });
+    Ok(length)
+}
+
+/// The maximal sets of both lists; the length, or number and place of a refusal.
+pub fn join(n: u32, first: &[u32], second: &[u32], out: &mut [u32]) -> Result<usize, (u32, usize)> {
+    combine(n, first, second, out, |x, y| x | y)
+}
+
+/// The maximal intersections of one set from each list.
+pub fn meet(n: u32, first: &[u32], second: &[u32], out: &mut [u32]) -> Result<usize, (u32, usize)> {
+    combine(n, first, second, out, |x, y| x & y)
+}
+
+// ---- Judge -------------------------------------------------------------------------------------
+
+/// Judges sets with the layout of a table at hand.
+pub struct Judge {
+    layout: Layout,
+}
+
+impl Default for Judge {
+    fn default() -> Judge {
+        Judge::new()
+    }
+}
+
+impl Judge {
+    pub fn new() -> Judge {
+        Judge { layout: Layout::new() }
+    }
+
+    /// Whether the set is good for k, or number and place of a refusal.
+    pub fn judge(&mut self, table: &[u32], mask: u32, k: u32) -> Result<bool, (u32, usize)> {
+        self.layout.read(table)?;
+        if k > 4 {
+            return Err((17, k as usize));
+        }
+        if mask >> self.layout.n != 0 {
+            return Err((5, table.len()));
+        }
+        Ok(self.good(mask as u16, k))
+    }
+
+    fn good(&self, set: u16, k: u32) -> bool {
+        let layout = &self.layout;
+        if k == 0 || set == 0 {
+            return true;
+        }
+        set & layout.bad == 0
+            && (0..layout.a).any(|c| set & !layout.enabled[c] == 0 && self.good_after(layout.post(c, set), k - 1))
+    }
+
+    fn good_after(&self, post: u16, k: u32) -> bool {
+        let layout = &self.layout;
+        k == 0 || layout.widest().iter().all(|shows| self.good(post & shows, k))
+    }
+}

@@ -1,0 +1,299 @@
+//! Random numbers, tables of several shapes, lists, cards, and damage to words.
+
+use crate::game::Game;
+use crate::oracle::{card_words, table_words, Card, Cell, NO_CELL};
+
+/// splitmix64.
+#[derive(Clone)]
+pub struct Rng(u64);
+
+impl Rng {
+    /// A generator of its own for every seed and number.
+    pub fn new(seed: u64, number: u64) -> Rng {
+        let mut rng = Rng(seed ^ number.wrapping_mul(0xD6E8_FEB8_6659_FD93));
+        rng.next();
+        rng
+    }
+
+    pub fn next(&mut self) -> u64 {
+        self.0 = self.0.wrapping_add(0x9E37_79B9_7F4A_7C15);
+        let z = (self.0 ^ self.0 >> 30).wrapping_mul(0xBF58_476D_1CE4_E5B9);
+        let z = (z ^ z >> 27).wrapping_mul(0x94D0_49BB_1331_11EB);
+        z ^ z >> 31
+    }
+
+    pub fn word(&mut self) -> u32 {
+        (self.next() >> 32) as u32
+    }
+
+    /// A number below the bound.
+    pub fn below(&mut self, bound: usize) -> usize {
+        (self.next() % bound as u64) as usize
+    }
+
+    /// A number from the first to the last.
+    pub fn within(&mut self, first: usize, last: usize) -> usize {
+        first + self.below(last - first + 1)
+    }
+
+    /// True in so many of a hundred cases.
+    pub fn percent(&mut self, share: usize) -> bool {
+        self.below(100) < share
+    }
+
+    pub fn pick<T: Copy>(&mut self, from: &[T]) -> T {
+        from[self.below(from.len())]
+    }
+
+    /// A set of states below n, each in it with this share of a hundred.
+    pub fn set(&mut self, n: usize, share: usize) -> u32 {
+        (0..n).fold(0, |set, i| set | (self.percent(share) as u32) << i)
+    }
+
+    /// Such a set that is not empty.
+    pub fn some_set(&mut self, n: usize, share: usize) -> u32 {
+        match self.set(n, share) {
+            0 => 1 << self.below(n),
+            set => set,
+        }
+    }
+}
+
+/// The shapes of random tables.
+#[derive(Clone, Copy, PartialEq, Eq, Debug)]
+pub enum Shape {
+    /// Many successors, observations that divide the states.
+    Dense,
+    /// One or two successors, seldom blocked.
+    Sparse,
+    /// Actions blocked in many states.
+    Blocked,
+    /// Each state shows about half of the observations.
+    Overlapping,
+    /// Most observations are shown by no state.
+    EmptyReadings,
+    /// One successor each, the actions permutations with gaps: long games.
+    Permutations,
+    /// States in a row, with shortcuts: round numbers near n.
+    Chain,
+    /// The knowledge counter with its states shuffled and sometimes an error in it.
+    Counter,
+    /// Every action moves each state one on in a ring; they differ in where they are blocked.
+    /// All states look alike: large antichains.
+    Ring,
+    /// Any masks at all.
+    Uniform,
+}
+
+pub const SHAPES: [Shape; 10] = [
+    Shape::Dense,
+    Shape::Sparse,
+    Shape::Blocked,
+    Shape::Overlapping,
+    Shape::EmptyReadings,
+    Shape::Permutations,
+    Shape::Chain,
+    Shape::Counter,
+    Shape::Ring,
+    Shape::Uniform,
+];
+
+/// A random game of this shape with at most this many states, actions and observations.
+pub fn game(rng: &mut Rng, shape: Shape, n: usize, a: usize, o: usize) -> Game {
+    if shape == Shape::Counter && n >= 2 {
+        return shaken_counter(rng, n);
+    }
+    if shape == Shape::Ring {
+        let share = rng.pick(&[10, 20, 30, 40]);
+        let blocked: Vec<u32> = (0..a).map(|_| rng.set(n, share)).collect();
+        return ring(n, &blocked, o);
+    }
+    let moves = (0..a).map(|_| action(rng, shape, n)).collect();
+    let shows = observations(rng, shape, n, o);
+    let bad_share = rng.pick(&[0, 5, 10, 20, 30]);
+    let bad = match shape {
+        Shape::Uniform => rng.set(n, 50),
+        _ => rng.set(n, bad_share),
+    };
+    let start_share = rng.pick(&[1, 15, 40]);
+    let start = rng.some_set(n, start_share);
+    // A bad start says little: mostly it is kept clear, where that leaves anything.
+    let start = match start & !bad {
+        0 => start,
+        clear if rng.percent(90) => clear,
+        _ => start,
+    };
+    Game { n, a, o, start, bad, shows, moves }
+}
+
+/// The successors of every state under one action.
+fn action(rng: &mut Rng, shape: Shape, n: usize) -> Vec<u32> {
+    let shuffled = permutation(rng, n);
+    let blocked = match shape {
+        Shape::Blocked => 35,
+        Shape::Permutations => 15,
+        Shape::Dense => 2,
+        _ => 8,
+    };
+    (0..n)
+        .map(|state| match shape {
+            Shape::Uniform => rng.set(n, 50),
+            _ if rng.percent(blocked) => 0,
+            Shape::Dense => rng.some_set(n, 45),
+            Shape::Permutations => 1 << shuffled[state],
+            Shape::Chain => chain_move(rng, n, state),
+            _ => 1 << rng.below(n) | (rng.percent(30) as u32) << rng.below(n),
+        })
+        .collect()
+}
+
+/// Mostly one state on; the last is blocked.
+fn chain_move(rng: &mut Rng, n: usize, state: usize) -> u32 {
+    match state + 1 {
+        next if next == n => 0,
+        next if rng.percent(80) => 1 << next,
+        next => 1 << next | 1 << rng.within(next, n - 1),
+    }
+}
+
+fn observations(rng: &mut Rng, shape: Shape, n: usize, o: usize) -> Vec<u32> {
+    let used = match shape {
+        Shape::EmptyReadings => rng.within(1, o.div_ceil(2)),
+        _ => o,
+    };
+    let overlap = match shape {
+        Shape::Overlapping => 50,
+        Shape::Uniform => 60,
+        _ if rng.percent(50) => 0,
+        _ => 10,
+    };
+    let mut shows: Vec<u32> = (0..used).map(|_| rng.set(n, overlap)).collect();
+    for state in 0..n {
+        if shows.iter().all(|set| set >> state & 1 == 0) {
+            shows[rng.below(used)] |= 1 << state;
+        }
+    }
+    // The unused observations stand anywhere among the used ones.
+    while shows.len() < o {
+        shows.insert(rng.within(0, shows.len()), 0);
+    }
+    shows
+}
+
+fn permutation(rng: &mut Rng, n: usize) -> Vec<usize> {
+    let mut order: Vec<usize> = (0..n).collect();
+    for i in (1..n).rev() {
+        order.swap(i, rng.below(i + 1));
+    }
+    order
+}
+
+/// The knowledge counter: bit i is state 2i where it is 0 and state 2i+1 where it is 1; the action c
+/// increments with carry at bit c and is blocked unless exactly the bits below c are 1 up to there.
+/// All states show the one observation, so the states known hold the number. No with 2^(n/2).
+pub fn counter(n: usize) -> Game {
+    let bits = n / 2;
+    let moves = (0..bits).map(|c| (0..n).map(|state| counter_move(c, state / 2, state % 2, state)).collect());
+    let moves: Vec<Vec<u32>> = moves.collect();
+    let start = (0..bits).fold(0, |set, i| set | 1 << (2 * i));
+    Game { n, a: bits, o: 1, start, bad: 0, shows: vec![(1 << n) - 1], moves }
+}
+
+fn counter_move(c: usize, bit: usize, value: usize, state: usize) -> u32 {
+    match (bit.cmp(&c), value) {
+        (std::cmp::Ordering::Less, 1) => 1 << (state - 1),
+        (std::cmp::Ordering::Equal, 0) => 1 << (state + 1),
+        (std::cmp::Ordering::Greater, _) => 1 << state,
+        _ => 0,
+    }
+}
+
+/// The counter with its states renumbered, another start and sometimes one move replaced.
+fn shaken_counter(rng: &mut Rng, n: usize) -> Game {
+    let plain = counter(n);
+    let order = permutation(rng, n);
+    let renamed = |set: u32| (0..n).fold(0, |sum, i| sum | (set >> i & 1) << order[i]);
+    let mut game = plain.clone();
+    game.start = renamed(plain.start);
+    for (action, row) in plain.moves.iter().enumerate() {
+        for (state, &set) in row.iter().enumerate() {
+            game.moves[action][order[state]] = renamed(set);
+        }
+    }
+    if rng.percent(40) {
+        let (action, state) = (rng.below(game.a), rng.below(n));
+        game.moves[action][state] = rng.set(n, 25);
+    }
+    if rng.percent(30) {
+        game.start = rng.some_set(n, 30);
+    }
+    game
+}
+
+/// A ring of n states: each action moves one on, but is blocked at its own set of states. Every
+/// observation is shown by all. A set lasts where, turned to any place, it misses one of the sets.
+pub fn ring(n: usize, blocked: &[u32], o: usize) -> Game {
+    let next = |set: u32, state: usize| match set >> state & 1 {
+        0 => 1 << ((state + 1) % n),
+        _ => 0,
+    };
+    let moves = blocked.iter().map(|&set| (0..n).map(|state| next(set, state)).collect()).collect();
+    Game { n, a: blocked.len(), o, start: 1, bad: 0, shows: vec![(1 << n) - 1; o], moves }
+}
+
+/// Blocked sets found by search for which the ring of twelve states settles at 498 cells.
+pub const WIDE_RING: [u32; 8] = [0x044, 0x089, 0xE00, 0x500, 0x024, 0x070, 0x202, 0x811];
+
+/// The words of a random table with up to these numbers of states, actions and observations.
+pub fn table(rng: &mut Rng, shape: Shape, n: usize, a: usize, o: usize) -> Vec<u32> {
+    table_words(&game(rng, shape, n, a, o))
+}
+
+/// A random list of masks below 2^n; repeats and masks within others come up.
+pub fn list(rng: &mut Rng, n: usize, longest: usize) -> Vec<u32> {
+    let share = rng.pick(&[15, 50, 50, 85]);
+    (0..rng.within(0, longest)).map(|_| rng.set(n, share)).collect()
+}
+
+/// The words of a random card of good shape, drawn by nobody's solver.
+pub fn card(rng: &mut Rng, cells: usize, a: usize, o: usize) -> Vec<u32> {
+    let targets = |rng: &mut Rng| -> Vec<Option<usize>> {
+        (0..o).map(|_| (!rng.percent(25)).then(|| rng.below(cells))).collect()
+    };
+    let first = targets(rng);
+    let mut cell = |_| Cell { mask: rng.set(12, 40), action: rng.below(a), next: targets(rng) };
+    card_words(&Card { a, o, first, cells: (0..cells).map(&mut cell).collect() })
+}
+
+/// Damages words: a bit flipped, a word cut, added, replaced, swapped or pushed by a little.
+pub fn damage(rng: &mut Rng, words: &mut Vec<u32>) {
+    if words.is_empty() {
+        words.push(rng.word());
+        return;
+    }
+    let place = rng.below(words.len());
+    match rng.below(12) {
+        0..=4 => words[place] ^= 1 << rng.below(32),
+        5 => {
+            words.remove(place);
+        }
+        6 => words.truncate(place),
+        7 => {
+            let extra = match rng.percent(50) {
+                true => rng.word(),
+                false => words[place],
+            };
+            words.insert(rng.within(0, words.len()), extra);
+        }
+        8 => {
+            let wild = rng.word();
+            words[place] = rng.pick(&[wild, 0, u32::MAX, words[place] & 0xFFFF_0000, words[place] | NO_CELL]);
+        }
+        9 => {
+            let other = rng.below(words.len());
+            words.swap(place, other);
+        }
+        10 => words[place] = words[place].wrapping_add(rng.pick(&[1, u32::MAX, 1 << 16, 1 << 20, 1 << 24, 1 << 28])),
+        _ => words[0] = words[0].wrapping_add(rng.pick(&[1, u32::MAX, 1 << 8, 1 << 16, 1 << 20, 1 << 24])),
+    }
+}

@@ -1,0 +1,165 @@
+//! Calls of the archive with guard words before and behind every buffer and random contents in it.
+//! After each call every word of every buffer is compared.
+
+use crate::archive;
+use crate::check::Runner;
+use crate::gen::Rng;
+use crate::oracle::{Call, Outcome};
+use std::fmt::Debug;
+
+/// Words of either width, drawn at random.
+pub trait Draw: Copy + PartialEq + Debug {
+    fn draw(rng: &mut Rng) -> Self;
+}
+
+impl Draw for u32 {
+    fn draw(rng: &mut Rng) -> u32 {
+        rng.word()
+    }
+}
+
+impl Draw for u64 {
+    fn draw(rng: &mut Rng) -> u64 {
+        rng.next()
+    }
+}
+
+/// A lent buffer between guard words.
+struct Lent<T> {
+    all: Vec<T>,
+    /// What all of it must be after the call.
+    expected: Vec<T>,
+    from: usize,
+    length: usize,
+}
+
+impl<T: Draw> Lent<T> {
+    /// A buffer of random contents.
+    fn room(rng: &mut Rng, length: usize) -> Lent<T> {
+        let (from, behind) = (rng.within(1, 8), rng.within(1, 8));
+        let all: Vec<T> = (0..from + length + behind).map(|_| T::draw(rng)).collect();
+        Lent { expected: all.clone(), all, from, length }
+    }
+
+    /// A buffer that holds these words.
+    fn holding(rng: &mut Rng, words: &[T]) -> Lent<T> {
+        let mut lent = Lent::room(rng, words.len());
+        lent.part_mut().copy_from_slice(words);
+        lent.expect(words);
+        lent
+    }
+
+    fn part(&self) -> &[T] {
+        &self.all[self.from..self.from + self.length]
+    }
+
+    fn part_mut(&mut self) -> &mut [T] {
+        &mut self.all[self.from..self.from + self.length]
+    }
+
+    /// The front of the buffer must be these words.
+    fn expect(&mut self, front: &[T]) {
+        self.expected[self.from..self.from + front.len()].copy_from_slice(front);
+    }
+
+    fn check(&self, what: &str, call: &Call) {
+        if let Some(i) = (0..self.all.len()).find(|&i| self.all[i] != self.expected[i]) {
+            let (place, held, wanted) = (i as i64 - self.from as i64, self.all[i], self.expected[i]);
+            panic!("{what}: word {place} of {} is {held:x?}, not {wanted:x?}\n{call:?}", self.length);
+        }
+    }
+}
+
+impl Lent<u64> {
+    fn array(&mut self) -> &mut [u64; 3] {
+        self.part_mut().try_into().expect("the answer has three words")
+    }
+}
+
+/// The buffers of one call: those read, the work buffer and the one for the result.
+struct Buffers {
+    inputs: Vec<Lent<u32>>,
+    work: Lent<u32>,
+    out: Lent<u32>,
+    answer: Lent<u64>,
+}
+
+impl Buffers {
+    fn new(rng: &mut Rng, inputs: &[&[u32]], work: usize, out: usize) -> Buffers {
+        Buffers {
+            inputs: inputs.iter().map(|words| Lent::holding(rng, words)).collect(),
+            work: Lent::room(rng, work),
+            out: Lent::room(rng, out),
+            answer: Lent::room(rng, 3),
+        }
+    }
+
+    fn for_call(rng: &mut Rng, call: &Call) -> Buffers {
+        match *call {
+            Call::Solve { table, work, card } => Buffers::new(rng, &[table], work, card),
+            Call::Judge { table, .. } => Buffers::new(rng, &[table], 0, 0),
+            Call::Join { first, second, out, .. } | Call::Meet { first, second, out, .. } => {
+                Buffers::new(rng, &[first, second], 0, out)
+            }
+            Call::Rewrite { table, out } => Buffers::new(rng, &[table], 0, out),
+            Call::Open { card, .. } | Call::Step { card, .. } => Buffers::new(rng, &[card], 0, 0),
+            Call::Show { table, card, .. } => Buffers::new(rng, &[table, card], 0, 0),
+        }
+    }
+
+    fn run(&mut self, call: &Call) {
+        let Buffers { inputs, work, out, answer } = self;
+        let (work, out, answer) = (work.part_mut(), out.part_mut(), answer.array());
+        let input = |i: usize| inputs[i].part();
+        match *call {
+            Call::Solve { .. } => archive::solve(input(0), work, out, answer),
+            Call::Judge { mask, k, .. } => archive::judge(input(0), mask, k, answer),
+            Call::Join { n, .. } => archive::join(n, input(0), input(1), out, answer),
+            Call::Meet { n, .. } => archive::meet(n, input(0), input(1), out, answer),
+            Call::Rewrite { .. } => archive::rewrite(input(0), out, answer),
+            Call::Open { observation, .. } => archive::open(input(0), observation, answer),
+            Call::Step { cell, observation, .. } => archive::step(input(0), cell, observation, answer),
+            Call::Show { cell, .. } => archive::show(input(0), input(1), cell, answer),
+        }
+    }
+
+    fn check(&mut self, call: &Call, expected: &Outcome) {
+        self.answer.expect(&expected.answer);
+        self.work.expect(&vec![0; expected.zeroed]);
+        self.out.expect(&expected.written);
+        self.answer.check("answer", call);
+        self.inputs.iter().for_each(|input| input.check("input", call));
+        self.work.check("work", call);
+        self.out.check("result", call);
+    }
+}
+
+/// Runs the call on the archive; panics where a word differs from what is expected.
+pub fn compare(rng: &mut Rng, call: &Call, expected: &Outcome) {
+    let mut buffers = Buffers::for_call(rng, call);
+    buffers.run(call);
+    buffers.check(call, expected);
+}
+
+/// The archive's runner over a card's words.
+pub struct ArchiveRunner<'a> {
+    pub card: &'a [u32],
+}
+
+fn taken(answer: [u64; 3]) -> Option<(u32, u32)> {
+    (answer[0] == 0).then_some((answer[1] as u32, answer[2] as u32))
+}
+
+impl Runner for ArchiveRunner<'_> {
+    fn open(&mut self, observation: usize) -> Option<(u32, u32)> {
+        let mut answer = [u64::MAX; 3];
+        archive::open(self.card, observation as u32, &mut answer);
+        taken(answer)
+    }
+
+    fn step(&mut self, cell: u32, observation: usize) -> Option<(u32, u32)> {
+        let mut answer = [u64::MAX; 3];
+        archive::step(self.card, cell, observation as u32, &mut answer);
+        taken(answer)
+    }
+}

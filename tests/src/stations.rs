@@ -1,0 +1,230 @@
+//! What document 01 itself gives: its stations with their answers, and every row of the table of
+//! refusals with its small input. The answers here are copied from the document, not computed.
+
+use crate::oracle::{Call, Outcome};
+
+pub const A: [u32; 10] = [
+    0x10010203, 0x20000001, 0x30000004, 0x40000007, 0x50000002, 0x50010000, 0x50020004, 0x50100004, 0x50110001,
+    0x50120004,
+];
+pub const A_CARD: [u32; 6] = [0x80210002, 0x90000000, 0xA0000001, 0xB0000001, 0xA0100002, 0xB0000000];
+pub const A_TEXT: &str = "yes 2 2\nfirst 0 0\ncell 0 1 0\nnext 0 0 1\ncell 1 2 1\nnext 1 0 0\n";
+/// A with start {0,1}.
+pub const B: [u32; 10] = with(A, 1, 0x20000003);
+/// B with two observations, {0} and {1,2}.
+pub const C: [u32; 11] = [
+    0x10020203, 0x20000003, 0x30000004, 0x40000001, 0x40010006, 0x50000002, 0x50010000, 0x50020004, 0x50100004,
+    0x50110001, 0x50120004,
+];
+pub const C_CARD: [u32; 9] = [
+    0x80220002, 0x90000000, 0x90010001, 0xA0000001, 0xB000FFFF, 0xB0010001, 0xA0100002, 0xB0000000, 0xB001FFFF,
+];
+pub const C_TEXT: &str = "yes 2 2\nfirst 0 0\nfirst 1 1\ncell 0 1 0\nnext 0 0 -\nnext 0 1 1\n\
+                          cell 1 2 1\nnext 1 0 0\nnext 1 1 -\n";
+/// One state, bad, moving to itself.
+pub const D: [u32; 5] = [0x10010101, 0x20000001, 0x30000001, 0x40000001, 0x50000001];
+/// Not bad, blocked.
+pub const E: [u32; 5] = [0x10010101, 0x20000001, 0x30000000, 0x40000001, 0x50000000];
+/// Not bad, moving to itself.
+pub const F: [u32; 5] = [0x10010101, 0x20000001, 0x30000000, 0x40000001, 0x50000001];
+pub const F_CARD: [u32; 4] = [0x80110001, 0x90000000, 0xA0000001, 0xB0000000];
+/// Four states in a row, the last blocked.
+pub const G: [u32; 8] = [
+    0x10010104, 0x20000001, 0x30000000, 0x4000000F, 0x50000002, 0x50010004, 0x50020008, 0x50030000,
+];
+/// C with observations {0,1} and {1,2}.
+pub const H: [u32; 11] = with(with(C, 3, 0x40000003), 4, 0x40010006);
+
+/// Twelve states, each moving to itself: the most that is accepted.
+pub const TWELVE: [u32; 16] = [
+    0x1001010C, 0x20000FFF, 0x30000000, 0x40000FFF, 0x50000001, 0x50010002, 0x50020004, 0x50030008, 0x50040010,
+    0x50050020, 0x50060040, 0x50070080, 0x50080100, 0x50090200, 0x500A0400, 0x500B0800,
+];
+pub const TWELVE_CARD: [u32; 4] = [0x80110001, 0x90000000, 0xA0000FFF, 0xB0000000];
+/// The same with a thirteenth.
+pub const THIRTEEN: [u32; 17] = [
+    0x1001010D, 0x20001FFF, 0x30000000, 0x40001FFF, 0x50000001, 0x50010002, 0x50020004, 0x50030008, 0x50040010,
+    0x50050020, 0x50060040, 0x50070080, 0x50080100, 0x50090200, 0x500A0400, 0x500B0800, 0x500C1000,
+];
+
+/// The words with one replaced.
+pub const fn with<const N: usize>(mut words: [u32; N], place: usize, word: u32) -> [u32; N] {
+    words[place] = word;
+    words
+}
+
+const A_KIND: [u32; 10] = with(A, 1, 0x30000001);
+const A_MASK: [u32; 10] = with(A, 2, 0x30000008);
+const A_NO_START: [u32; 10] = with(A, 1, 0x20000000);
+const A_UNSHOWN: [u32; 10] = with(A, 3, 0x40000003);
+const A_CARD_HEAD: [u32; 6] = with(A_CARD, 0, 0x80210003);
+const A_CARD_ACTION: [u32; 6] = with(A_CARD, 4, 0xA0200002);
+const A_CARD_CELL: [u32; 6] = with(A_CARD, 3, 0xB0000002);
+const A_CARD_KIND: [u32; 6] = with(A_CARD, 1, 0xB0000000);
+const A_CARD_MASK: [u32; 6] = with(A_CARD, 2, 0xA0001000);
+const A_CARD_SPARE: [u32; 6] = with(A_CARD, 5, 0xB1000000);
+// Two things wrong at once, for the order of the refusals.
+const A_KIND_AND_MASK: [u32; 10] = with(with(A, 1, 0x20000008), 2, 0x20000004);
+const A_KIND_BEFORE_MASK: [u32; 10] = with(A, 1, 0x30000008);
+const A_NO_START_UNSHOWN: [u32; 10] = with(A_NO_START, 3, 0x40000003);
+const A_NO_START_MASK: [u32; 10] = with(A_NO_START, 9, 0x50120008);
+
+/// A call and the outcome that document 01 gives it.
+pub struct Row {
+    pub name: &'static str,
+    pub call: Call<'static>,
+    pub outcome: Outcome,
+}
+
+fn row(name: &'static str, call: Call<'static>, outcome: Outcome) -> Row {
+    Row { name, call, outcome }
+}
+
+fn solve(table: &'static [u32]) -> Call<'static> {
+    Call::Solve { table, work: 4 * 4096, card: 64 }
+}
+
+fn yes(index: u64, cells: u64, zeroed: usize, card: &[u32]) -> Outcome {
+    Outcome { answer: [0, index, cells], zeroed, written: card.to_vec() }
+}
+
+fn no(round: u64, zeroed: usize) -> Outcome {
+    Outcome { answer: [1, round, 0], zeroed, written: Vec::new() }
+}
+
+fn list(words: &[u32]) -> Outcome {
+    Outcome { answer: [0, words.len() as u64, 0], zeroed: 0, written: words.to_vec() }
+}
+
+fn refused(number: u32, place: u64) -> Outcome {
+    Outcome::refused(number, place)
+}
+
+/// "Stations to try".
+pub fn stations() -> Vec<Row> {
+    let judge = |k| Call::Judge { table: &A, mask: 3, k };
+    vec![
+        row("A", solve(&A), yes(2, 2, 32, &A_CARD)),
+        row("A, exact rooms", Call::Solve { table: &A, work: 32, card: 6 }, yes(2, 2, 32, &A_CARD)),
+        row("B", solve(&B), no(2, 32)),
+        row("C", solve(&C), yes(2, 2, 32, &C_CARD)),
+        row("D", solve(&D), no(1, 8)),
+        row("E", solve(&E), no(1, 8)),
+        row("F", solve(&F), yes(0, 1, 8, &F_CARD)),
+        row("G", solve(&G), no(4, 64)),
+        row("H", solve(&H), no(2, 32)),
+        row("J", Call::Join { n: 2, first: &[1, 2], second: &[3], out: 2 }, list(&[3])),
+        row("K", Call::Meet { n: 3, first: &[3], second: &[1, 6], out: 2 }, list(&[1, 2])),
+        row("L, 1", judge(1), Outcome::done(1, 0)),
+        row("L, 2", judge(2), Outcome::done(0, 0)),
+        row("n 12", solve(&TWELVE), yes(0, 1, 16_384, &TWELVE_CARD)),
+        row("n 13", solve(&THIRTEEN), refused(2, 0)),
+        row("A again", Call::Rewrite { table: &A, out: 10 }, list(&A)),
+        row("A opened", Call::Open { card: &A_CARD, observation: 0 }, Outcome::done(0, 0)),
+        row("A stepped", Call::Step { card: &A_CARD, cell: 0, observation: 0 }, Outcome::done(1, 1)),
+        row("A shown, 0", Call::Show { table: &A, card: &A_CARD, cell: 0 }, Outcome::done(4, 3)),
+        row("A shown, 1", Call::Show { table: &A, card: &A_CARD, cell: 1 }, Outcome::done(7, 3)),
+        row("meeting the empty list", Call::Meet { n: 3, first: &[3], second: &[], out: 0 }, list(&[])),
+        row("joining empty lists", Call::Join { n: 12, first: &[], second: &[], out: 3 }, list(&[])),
+    ]
+}
+
+/// "Numbered refusals", row by row (11 is the write's alone, see `tests/stations.rs`), and their order.
+pub fn refusals() -> Vec<Row> {
+    let a_work = |work| Call::Solve { table: &A, work, card: 6 };
+    let step = |card, cell, observation| Call::Step { card, cell, observation };
+    let run = |card| step(card, 0, 0);
+    let join = |n, first, second, out| Call::Join { n, first, second, out };
+    let judge = |mask, k| Call::Judge { table: &A, mask, k };
+    let show = |table, card, cell| Call::Show { table, card, cell };
+    let open = |card, observation| Call::Open { card, observation };
+    vec![
+        row("1", solve(&[]), refused(1, 0)),
+        row("2", solve(&[0x10010200]), refused(2, 0)),
+        row("2, width 0", join(0, &[], &[], 0), refused(2, 0)),
+        row("2, width 13", join(13, &[1], &[2], 9), refused(2, 0)),
+        row("3", solve(&[0x10010203]), refused(3, 1)),
+        row("4", solve(&A_KIND), refused(4, 1)),
+        row("5", solve(&A_MASK), refused(5, 2)),
+        row("5, judge", judge(8, 4), refused(5, 10)),
+        row("5, second list", join(2, &[1], &[2, 4], 9), refused(5, 2)),
+        row("6", solve(&A_NO_START), refused(6, 1)),
+        row("7", solve(&A_UNSHOWN), refused(7, 2)),
+        row("8", a_work(31), refused(8, 32)),
+        row(
+            "9",
+            Call::Solve { table: &A, work: 40, card: 5 },
+            Outcome { answer: [2, 9, 6], zeroed: 32, written: Vec::new() },
+        ),
+        row("10", Call::Rewrite { table: &A, out: 9 }, refused(10, 10)),
+        row("12", step(&A_CARD, 2, 0), refused(12, 2)),
+        row("12, observation", step(&A_CARD, 1, 1), refused(12, 1)),
+        row("12, opening", open(&A_CARD, 1), refused(12, 1)),
+        row("12, cell first", step(&A_CARD, 2, 3), refused(12, 2)),
+        row("12, show", show(&A, &A_CARD, 2), refused(12, 2)),
+        row("12, the cell of a refused opening", step(&A_CARD, 65_535, 0), refused(12, 65_535)),
+        row("13", run(&A_CARD_HEAD), refused(13, 6)),
+        row("13, no words", run(&[]), refused(13, 0)),
+        row("13, opening", open(&A_CARD_HEAD, 9), refused(13, 6)),
+        row("13, action", run(&A_CARD_ACTION), refused(13, 4)),
+        row("13, cell", run(&A_CARD_CELL), refused(13, 3)),
+        row("13, kind", run(&A_CARD_KIND), refused(13, 1)),
+        row("13, mask", run(&A_CARD_MASK), refused(13, 2)),
+        row("13, spare bit", run(&A_CARD_SPARE), refused(13, 5)),
+        row("14", step(&C_CARD, 0, 0), refused(14, 0)),
+        row("14, the other", step(&C_CARD, 1, 1), refused(14, 1)),
+        row("15", join(2, &[1], &[2], 1), refused(15, 2)),
+        row("16", show(&C, &A_CARD, 0), refused(16, 0)),
+        row("17", judge(1, 5), refused(17, 5)),
+        row("order: 2 before 3", solve(&[0x10010200, 0]), refused(2, 0)),
+        row("order: 5 of an earlier word before 4", solve(&A_KIND_AND_MASK), refused(5, 1)),
+        row("order: 4 before 5 within a word", solve(&A_KIND_BEFORE_MASK), refused(4, 1)),
+        row("order: 6 before 7", solve(&A_NO_START_UNSHOWN), refused(6, 1)),
+        row("order: 5 of any word before 6", solve(&A_NO_START_MASK), refused(5, 9)),
+        row("order: table before 8", Call::Solve { table: &A_UNSHOWN, work: 0, card: 0 }, refused(7, 2)),
+        row("order: 8 before 9", Call::Solve { table: &A, work: 0, card: 0 }, refused(8, 32)),
+        row("order: no card room on a no", Call::Solve { table: &B, work: 32, card: 0 }, no(2, 32)),
+        row("order: table before 17", Call::Judge { table: &A_MASK, mask: 8, k: 9 }, refused(5, 2)),
+        row("order: 17 before 5", judge(8, 5), refused(17, 5)),
+        row("order: 2 before 5", join(13, &[1 << 20], &[], 0), refused(2, 0)),
+        row("order: 5 before 15", join(2, &[1, 2], &[4], 0), refused(5, 2)),
+        row("order: 13 before 12", step(&A_CARD_SPARE, 2, 1), refused(13, 5)),
+        row("order: 12 before 14", step(&C_CARD, 0, 2), refused(12, 2)),
+        row("order: table before 13", show(&A_MASK, &[], 7), refused(5, 2)),
+        row("order: 13 before 16", show(&C, &A_CARD_HEAD, 7), refused(13, 6)),
+        row("order: 16 before 12", show(&C, &A_CARD, 7), refused(16, 0)),
+        row("order: table before 10", Call::Rewrite { table: &A_UNSHOWN, out: 0 }, refused(7, 2)),
+    ]
+}
+
+/// The words as the program reads them.
+pub fn bytes(words: &[u32]) -> Vec<u8> {
+    words.iter().flat_map(|word| word.to_le_bytes()).collect()
+}
+
+/// Inputs of the solving program and all that it prints.
+pub fn printed() -> Vec<(Vec<u8>, &'static str)> {
+    let cut = |words: &[u32], length: usize| bytes(words)[..length].to_vec();
+    vec![
+        (bytes(&A), A_TEXT),
+        (bytes(&B), "no 2\n"),
+        (bytes(&C), C_TEXT),
+        (bytes(&D), "no 1\n"),
+        (bytes(&E), "no 1\n"),
+        (bytes(&F), "yes 0 1\nfirst 0 0\ncell 0 1 0\nnext 0 0 0\n"),
+        (bytes(&G), "no 4\n"),
+        (bytes(&H), "no 2\n"),
+        (Vec::new(), "refused 1 0\n"),
+        (bytes(&THIRTEEN), "refused 2 0\n"),
+        (bytes(&A_UNSHOWN), "refused 7 2\n"),
+        (cut(&A, 1), "refused 3 0\n"),
+        (cut(&A, 36), "refused 3 9\n"),
+        (cut(&A, 39), "refused 3 9\n"),
+        // The length comes before the words: the head of these is wrong too.
+        (vec![0; 4096], "refused 2 0\n"),
+        (vec![0; 4095], "refused 3 1023\n"),
+        (vec![0; 4097], "refused 3 1025\n"),
+        (vec![0; 4100], "refused 3 1025\n"),
+        (vec![7; 100_000], "refused 3 1025\n"),
+    ]
+}

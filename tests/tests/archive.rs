@@ -1,0 +1,555 @@
+//! The proved archive against the models, every entry, with guard words around every buffer.
+#![cfg(feature = "archive")]
+
+use kirdanzug_tests::check::{keeps_clear, lasts_played, no_holds};
+use kirdanzug_tests::game::Game;
+use kirdanzug_tests::gen::{self, Rng, SHAPES};
+use kirdanzug_tests::guard::{compare, ArchiveRunner};
+use kirdanzug_tests::oracle::{self, card_length, work_length, Call, Decided, Outcome, Verdict, NO_CELL};
+use kirdanzug_tests::run::{count, report, seed, spread};
+use kirdanzug_tests::stations;
+
+/// How many random inputs are enough for every verdict and refusal to come up.
+const ENOUGH: u64 = 1000;
+
+/// What the comparisons came by: how often each verdict and each refusal was the right answer.
+#[derive(Default, Clone)]
+struct Tally {
+    calls: u64,
+    yes: u64,
+    no: u64,
+    longest: u64,
+    most_cells: u64,
+    refusals: [u64; 18],
+}
+
+impl Tally {
+    fn add(&mut self, call: &Call, outcome: &Outcome) {
+        self.calls += 1;
+        let [tag, first, second] = outcome.answer;
+        match (call, tag) {
+            (Call::Solve { .. }, 0) => {
+                self.yes += 1;
+                self.most_cells = self.most_cells.max(second);
+            }
+            (_, 1) => {
+                self.no += 1;
+                self.longest = self.longest.max(first);
+            }
+            (_, 2) => self.refusals[first as usize] += 1,
+            _ => (),
+        }
+    }
+
+    fn sum(parts: Vec<Tally>) -> Tally {
+        parts.into_iter().fold(Tally::default(), |mut sum, part| {
+            sum.calls += part.calls;
+            sum.yes += part.yes;
+            sum.no += part.no;
+            sum.longest = sum.longest.max(part.longest);
+            sum.most_cells = sum.most_cells.max(part.most_cells);
+            sum.refusals.iter_mut().zip(part.refusals).for_each(|(mine, theirs)| *mine += theirs);
+            sum
+        })
+    }
+
+    fn report(&self, name: &str, tried: u64) {
+        let Tally { calls, yes, no, longest, most_cells, refusals } = self;
+        let refusals: Vec<String> =
+            (1..18).filter(|&i| refusals[i] > 0).map(|i| format!("{i}: {}", refusals[i])).collect();
+        report(&format!(
+            "{name}: seed {}, {tried} inputs, {calls} calls, solve yes {yes} (up to {most_cells} cells), \
+             no {no} (up to {longest} rounds), refusals {{{}}}",
+            seed(),
+            refusals.join(", ")
+        ));
+    }
+
+    /// The same where so many random inputs were tried that each number must have come up.
+    fn must_have_of(&self, tried: u64, numbers: &[usize]) {
+        if tried >= ENOUGH {
+            self.must_have(numbers);
+        }
+    }
+
+    fn must_have(&self, numbers: &[usize]) {
+        for &number in numbers {
+            assert!(self.refusals[number] > 0, "refusal {number} never came up");
+        }
+    }
+}
+
+/// Compares one call with the oracle.
+fn try_call(rng: &mut Rng, tally: &mut Tally, call: Call) {
+    let expected = oracle::outcome(&call);
+    compare(rng, &call, &expected);
+    tally.add(&call, &expected);
+}
+
+/// Lengths for a buffer of which so many words are needed: short, exact, long, none.
+fn lengths(rng: &mut Rng, needed: usize) -> [usize; 4] {
+    let short = match rng.percent(50) {
+        true => needed.saturating_sub(1),
+        false => rng.below(needed.max(1)),
+    };
+    [needed, short, needed + rng.within(1, 40), 0]
+}
+
+/// Solve on any words.
+fn try_solve(rng: &mut Rng, tally: &mut Tally, table: &[u32]) {
+    try_decided(rng, tally, table, &oracle::decided(table));
+}
+
+/// Solve with short, exact and long work and card buffers, on a table already decided.
+fn try_decided(rng: &mut Rng, tally: &mut Tally, table: &[u32], decided: &Decided) {
+    let (work, card) = match decided {
+        Ok((n, Verdict::Yes { card, .. })) => (work_length(*n), card_length(card.cells.len(), card.o)),
+        Ok((n, Verdict::No { .. })) => (work_length(*n), 16),
+        Err(_) => (32, 16),
+    };
+    let mut one = |rng: &mut Rng, work, card| {
+        let call = Call::Solve { table, work, card };
+        let expected = oracle::solve_outcome(decided, work, card);
+        compare(rng, &call, &expected);
+        tally.add(&call, &expected);
+    };
+    let works = lengths(rng, work);
+    let cards = lengths(rng, card);
+    one(rng, works[0], cards[0]);
+    one(rng, works[2], cards[2]);
+    one(rng, works[2], cards[1]);
+    let either = rng.pick(&[cards[1], cards[2]]);
+    one(rng, works[1], either);
+}
+
+/// Every play under the card's actions stays clear, run by the archive; a no holds.
+fn check_verdict(game: &Game, verdict: &Verdict) {
+    match verdict {
+        Verdict::Yes { card, .. } => {
+            let words = oracle::card_words(card);
+            assert_eq!(keeps_clear(game, &mut ArchiveRunner { card: &words }), Ok(()), "{game:?}");
+        }
+        Verdict::No { round } => assert_eq!(no_holds(game, *round), Ok(()), "{game:?}"),
+    }
+}
+
+/// A number with a bit far above its field set: it must not be cut to the field.
+fn overlong(rng: &mut Rng, number: u32) -> u32 {
+    number | 1 << rng.within(16, 31)
+}
+
+/// Cell numbers that matter for a card of m cells.
+fn some_cell(rng: &mut Rng, m: usize) -> u32 {
+    let any = rng.below(m) as u32;
+    let (long, wild) = (overlong(rng, any), rng.word());
+    let m = m as u32;
+    rng.pick(&[0, any, any, any, m - 1, m, NO_CELL, long, wild])
+}
+
+fn some_observation(rng: &mut Rng, o: usize) -> u32 {
+    let any = rng.below(o) as u32;
+    let (long, wild) = (overlong(rng, any), rng.word());
+    let o = o as u32;
+    rng.pick(&[0, any, any, any, any, o - 1, o, o + 1, any + 8, any + 16, long, wild])
+}
+
+/// Opening, steps and showing on a card's words, whatever they are.
+fn try_card(rng: &mut Rng, tally: &mut Tally, table: &[u32], card: &[u32], calls: usize) {
+    let head = card.first().copied().unwrap_or(0);
+    let (m, o) = ((head & 0xFFFF).max(1) as usize, (head >> 16 & 15).max(1) as usize);
+    for _ in 0..calls {
+        let (cell, observation) = (some_cell(rng, m), some_observation(rng, o));
+        try_call(rng, tally, Call::Open { card, observation });
+        try_call(rng, tally, Call::Step { card, cell, observation });
+        try_call(rng, tally, Call::Show { table, card, cell });
+    }
+}
+
+/// Judging some masks, one of them from n up at times, and k from 0 to 5 or anything.
+fn try_judge(rng: &mut Rng, tally: &mut Tally, table: &[u32], calls: usize) {
+    let n = (table.first().copied().unwrap_or(3) & 15).max(1) as usize;
+    for _ in 0..calls {
+        let share = rng.pick(&[10, 30, 60]);
+        let (inside, about, wild) = (rng.set(n, share), rng.set(n + 1, share), rng.word());
+        let long = overlong(rng, inside);
+        let mask = rng.pick(&[inside, inside, inside, inside, about, long, wild]);
+        let (long, wild) = (overlong(rng, 2), rng.word());
+        let k = rng.pick(&[0, 1, 2, 2, 3, 3, 3, 4, 4, 4, 5, long, wild]);
+        try_call(rng, tally, Call::Judge { table, mask, k });
+    }
+}
+
+/// Every entry on one table: as it is, then damaged, then its card damaged.
+fn try_table(rng: &mut Rng, tally: &mut Tally, table: &[u32]) {
+    let decided = oracle::decided(table);
+    try_decided(rng, tally, table, &decided);
+    let (_, verdict) = decided.as_ref().expect("the table is accepted");
+    let game = oracle::read_table(table).expect("the table is accepted");
+    check_verdict(&game, verdict);
+    try_judge(rng, tally, table, 2);
+    for out in lengths(rng, table.len()) {
+        try_call(rng, tally, Call::Rewrite { table, out });
+    }
+    if let Verdict::Yes { card, .. } = verdict {
+        let mut card = oracle::card_words(card);
+        try_card(rng, tally, table, &card, 2);
+        gen::damage(rng, &mut card);
+        try_card(rng, tally, table, &card, 1);
+    }
+    try_damaged(rng, tally, table);
+}
+
+fn try_damaged(rng: &mut Rng, tally: &mut Tally, table: &[u32]) {
+    let mut damaged = table.to_vec();
+    for _ in 0..rng.within(1, 2) {
+        gen::damage(rng, &mut damaged);
+    }
+    try_solve(rng, tally, &damaged);
+    try_judge(rng, tally, &damaged, 1);
+    try_call(rng, tally, Call::Rewrite { table: &damaged, out: table.len() });
+    let card = gen::card(rng, 2, 2, 2);
+    try_call(rng, tally, Call::Show { table: &damaged, card: &card, cell: 1 });
+}
+
+#[test]
+fn stations_of_document_01() {
+    let mut rng = Rng::new(seed(), 0);
+    for row in stations::stations().into_iter().chain(stations::refusals()) {
+        for _ in 0..10 {
+            compare(&mut rng, &row.call, &row.outcome);
+        }
+    }
+}
+
+/// All tables of one and two states with one or two actions and observations, those that are refused
+/// for an empty start or a state that shows nothing among them; on each, every mask, k, cell and
+/// observation, and one beyond.
+#[test]
+fn all_small_tables() {
+    for (n, a, o) in [(1, 1, 1), (1, 1, 2), (1, 2, 1), (1, 2, 2), (2, 1, 1), (2, 1, 2), (2, 2, 1), (2, 2, 2)] {
+        let masks = 2 + o + a * n;
+        let tables = 1u64 << (n * masks);
+        let work = |number: u64, tally: &mut Tally| {
+            let mut rng = Rng::new(seed(), number);
+            let digit = |i: usize| (number >> (i * n) & ((1 << n) - 1)) as u32;
+            let moves = (0..a).map(|c| (0..n).map(|state| digit(2 + o + c * n + state)).collect()).collect();
+            let shows = (0..o).map(|r| digit(2 + r)).collect();
+            let game = Game { n, a, o, start: digit(0), bad: digit(1), shows, moves };
+            try_whole(&mut rng, tally, &game);
+        };
+        let tally = Tally::sum(spread(tables, work));
+        tally.report(&format!("all tables of n {n}, a {a}, o {o}"), tables);
+        tally.must_have(&[5, 6, 7, 8, 9, 12, 17]);
+    }
+}
+
+/// Every entry with every small number on one small table.
+fn try_whole(rng: &mut Rng, tally: &mut Tally, game: &Game) {
+    let table = oracle::table_words(game);
+    let decided = oracle::decided(&table);
+    try_decided(rng, tally, &table, &decided);
+    for mask in 0..=1 << game.n {
+        for k in 0..=5 {
+            try_call(rng, tally, Call::Judge { table: &table, mask, k });
+        }
+    }
+    for out in [0, table.len() - 1, table.len(), table.len() + 1] {
+        try_call(rng, tally, Call::Rewrite { table: &table, out });
+    }
+    let Ok((_, verdict)) = decided else {
+        return;
+    };
+    check_verdict(game, &verdict);
+    if let Verdict::Yes { card, .. } = verdict {
+        try_whole_card(rng, tally, game, &table, &oracle::card_words(&card), card.cells.len() as u32);
+    }
+}
+
+fn try_whole_card(rng: &mut Rng, tally: &mut Tally, game: &Game, table: &[u32], card: &[u32], cells: u32) {
+    assert!(lasts_played(game, &mut ArchiveRunner { card }, 4), "{game:?}");
+    for observation in 0..=game.o as u32 {
+        try_call(rng, tally, Call::Open { card, observation });
+        for cell in (0..=cells).chain([NO_CELL]) {
+            try_call(rng, tally, Call::Step { card, cell, observation });
+        }
+    }
+    for cell in (0..=cells).chain([NO_CELL]) {
+        try_call(rng, tally, Call::Show { table, card, cell });
+    }
+}
+
+fn random_tables(name: &str, tables: u64, least: usize, most: usize) -> Tally {
+    let work = |i: u64, tally: &mut Tally| {
+        let mut rng = Rng::new(seed(), i);
+        let shape = SHAPES[i as usize % SHAPES.len()];
+        let (n, a, o) = (rng.within(least, most), rng.within(1, 8), rng.within(1, 8));
+        let table = gen::table(&mut rng, shape, n, a, o);
+        try_table(&mut rng, tally, &table);
+    };
+    let tally = Tally::sum(spread(tables, work));
+    tally.report(name, tables);
+    if tables >= ENOUGH {
+        assert!(tally.yes > tables / 5 && tally.no > tables / 5, "a verdict is too seldom");
+    }
+    tally
+}
+
+#[test]
+fn random_tables_up_to_six_states() {
+    let tally = random_tables("random tables up to 6 states", count(1), 1, 6);
+    tally.must_have_of(count(1), &[1, 2, 3, 4, 5, 6, 7, 8, 9, 10, 12, 13, 14, 16, 17]);
+}
+
+/// The largest games known to us: long counters and wide rings, with every entry.
+#[test]
+fn counters_and_rings() {
+    let mut rng = Rng::new(seed(), 5);
+    let mut tally = Tally::default();
+    for n in 2..=12 {
+        try_table(&mut rng, &mut tally, &oracle::table_words(&gen::counter(n)));
+        let blocked = gen::WIDE_RING.map(|set| set & ((1 << n) - 1));
+        try_table(&mut rng, &mut tally, &oracle::table_words(&gen::ring(n, &blocked, 8)));
+    }
+    tally.report("counters and rings", 22);
+    assert!(tally.longest >= 64 && tally.most_cells >= 498);
+}
+
+#[test]
+fn random_tables_up_to_twelve_states() {
+    random_tables("random tables up to 12 states", count(25), 7, 12);
+}
+
+/// Every bit of every word of the stations' tables and cards flipped, and each word cut or doubled.
+#[test]
+fn every_single_damage_to_the_stations() {
+    let mut rng = Rng::new(seed(), 1);
+    let mut tally = Tally::default();
+    let tables: [&[u32]; 8] = [
+        &stations::A, &stations::B, &stations::C, &stations::D, &stations::E, &stations::F, &stations::G, &stations::H,
+    ];
+    for table in tables {
+        for damaged in all_damages(table) {
+            try_solve(&mut rng, &mut tally, &damaged);
+            try_call(&mut rng, &mut tally, Call::Judge { table: &damaged, mask: 1, k: 2 });
+            try_call(&mut rng, &mut tally, Call::Rewrite { table: &damaged, out: table.len() });
+            try_call(&mut rng, &mut tally, Call::Show { table: &damaged, card: &stations::A_CARD, cell: 1 });
+        }
+    }
+    let cards: [(&[u32], &[u32]); 3] =
+        [(&stations::A, &stations::A_CARD), (&stations::C, &stations::C_CARD), (&stations::F, &stations::F_CARD)];
+    for (table, card) in cards {
+        for damaged in all_damages(card) {
+            for observation in 0..2 {
+                try_call(&mut rng, &mut tally, Call::Open { card: &damaged, observation });
+                try_call(&mut rng, &mut tally, Call::Step { card: &damaged, cell: observation, observation: 0 });
+            }
+            try_call(&mut rng, &mut tally, Call::Show { table, card: &damaged, cell: 0 });
+        }
+    }
+    tally.report("every single damage", 11);
+    tally.must_have(&[1, 2, 3, 4, 5, 6, 7, 13, 14, 16]);
+}
+
+fn all_damages(words: &[u32]) -> Vec<Vec<u32>> {
+    let mut damages = vec![Vec::new()];
+    for place in 0..words.len() {
+        for bit in 0..32 {
+            let mut flipped = words.to_vec();
+            flipped[place] ^= 1 << bit;
+            damages.push(flipped);
+        }
+        let mut cut = words.to_vec();
+        cut.remove(place);
+        damages.push(cut);
+        let mut doubled = words.to_vec();
+        doubled.insert(place, words[place]);
+        damages.push(doubled);
+        damages.push(words[..place].to_vec());
+    }
+    damages
+}
+
+/// Cards that no solver drew, small and as large as allowed, whole and damaged, run at random and in
+/// a row as a robot would.
+#[test]
+fn random_cards() {
+    let work = |i: u64, tally: &mut Tally| {
+        let mut rng = Rng::new(seed(), i);
+        let (cells, a, o) = (rng.pick(&[1, 2, 3, 5, 17, 60]), rng.within(1, 8), rng.within(1, 8));
+        let (shape, n) = (rng.pick(&SHAPES), rng.within(1, 4));
+        let table = gen::table(&mut rng, shape, n, a, o);
+        let mut card = gen::card(&mut rng, cells, a, o);
+        try_card(&mut rng, tally, &table, &card, 3);
+        try_run(&mut rng, tally, &card, o);
+        gen::damage(&mut rng, &mut card);
+        try_card(&mut rng, tally, &table, &card, 3);
+    };
+    let cards = count(4);
+    let tally = Tally::sum(spread(cards, work));
+    tally.report("random cards", cards);
+    tally.must_have_of(cards, &[12, 13, 14, 16]);
+}
+
+/// A run of some observations, each step from the cell that the last one entered.
+fn try_run(rng: &mut Rng, tally: &mut Tally, card: &[u32], o: usize) {
+    let first = rng.below(o) as u32;
+    try_call(rng, tally, Call::Open { card, observation: first });
+    let mut cell = oracle::open(card, first).map_or(NO_CELL, |entered| entered.0);
+    for _ in 0..6 {
+        let observation = rng.below(o) as u32;
+        try_call(rng, tally, Call::Step { card, cell, observation });
+        // A refused runner stays in its cell.
+        cell = oracle::step(card, cell, observation).map_or(cell, |entered| entered.0);
+    }
+}
+
+/// The limits of a card's head: 4,096 cells are taken, 4,097 are not; mask 4,095, action and cell too.
+#[test]
+fn cards_at_the_limits() {
+    let mut rng = Rng::new(seed(), 2);
+    let mut tally = Tally::default();
+    for (cells, a, o) in [(4096, 8, 8), (4096, 1, 1), (4095, 3, 2), (1, 8, 8)] {
+        let card = gen::card(&mut rng, cells, a, o);
+        try_card(&mut rng, &mut tally, &stations::A, &card, 20);
+        for change in 0..32 {
+            let mut changed = card.clone();
+            changed[0] ^= 1 << change;
+            try_card(&mut rng, &mut tally, &stations::A, &changed, 2);
+            let place = rng.within(1, card.len() - 1);
+            let mut changed = card.clone();
+            changed[place] ^= 1 << change;
+            try_card(&mut rng, &mut tally, &stations::A, &changed, 2);
+        }
+    }
+    // A card of the right length for its head, with one cell too many.
+    let mut over = gen::card(&mut rng, 4096, 2, 1);
+    over[0] += 1;
+    over.extend([0xA000_0000, 0xB000_0000]);
+    try_call(&mut rng, &mut tally, Call::Open { card: &over, observation: 0 });
+    tally.report("cards at the limits", 4);
+    tally.must_have(&[12, 13, 14]);
+}
+
+/// Every n, a and o about the limits, with the right length, and lengths one off.
+#[test]
+fn tables_at_the_limits() {
+    let mut rng = Rng::new(seed(), 3);
+    let mut tally = Tally::default();
+    for n in [0, 1, 2, 11, 12, 13, 16, 255] {
+        for a in [0, 1, 7, 8, 9, 255] {
+            for o in [0, 1, 7, 8, 9, 255] {
+                try_size(&mut rng, &mut tally, n, a, o);
+            }
+        }
+    }
+    tally.report("tables at the limits", 8 * 6 * 6);
+    tally.must_have(&[2, 3, 8]);
+}
+
+fn try_size(rng: &mut Rng, tally: &mut Tally, n: usize, a: usize, o: usize) {
+    let shows = vec![(1u64 << n.min(16)) as u32 - 1; o];
+    let moves = vec![vec![1; n]; a];
+    let game = Game { n, a, o, start: 1, bad: 0, shows, moves };
+    // The words fit where the numbers do; elsewhere only the head counts.
+    let fits = n <= 12 && a <= 8 && o <= 8;
+    let mut table = match fits && n > 0 {
+        true => oracle::table_words(&game),
+        false => vec![0x1000_0000 | (o as u32) << 16 | (a as u32) << 8 | n as u32; 3 + o + a * n],
+    };
+    try_solve(rng, tally, &table);
+    table.push(table[table.len() - 1]);
+    try_solve(rng, tally, &table);
+    table.truncate(table.len() - 2);
+    try_solve(rng, tally, &table);
+    try_call(rng, tally, Call::Judge { table: &table, mask: 0, k: 0 });
+}
+
+/// Join and meet of all short lists of width 1 and 2, masks from n up among them, with every room.
+#[test]
+fn all_small_lists() {
+    for (n, masks, longest) in [(1, 3, 3), (2, 5, 2), (2, 4, 3)] {
+        let lists = all_lists(masks, longest);
+        let pairs = (lists.len() * lists.len()) as u64;
+        let work = |number: u64, tally: &mut Tally| {
+            let mut rng = Rng::new(seed(), number);
+            let first = &lists[number as usize / lists.len()];
+            let second = &lists[number as usize % lists.len()];
+            for out in 0..=4 {
+                try_call(&mut rng, tally, Call::Join { n, first, second, out });
+                try_call(&mut rng, tally, Call::Meet { n, first, second, out });
+            }
+        };
+        let tally = Tally::sum(spread(pairs, work));
+        tally.report(&format!("all lists of width {n} up to length {longest}"), pairs);
+        tally.must_have(&[15]);
+    }
+}
+
+/// All lists of masks below the bound, up to a length.
+fn all_lists(masks: u32, longest: usize) -> Vec<Vec<u32>> {
+    if longest == 0 {
+        return vec![Vec::new()];
+    }
+    let shorter = all_lists(masks, longest - 1);
+    let full = shorter.iter().filter(|list| list.len() == longest - 1);
+    let longer = full.flat_map(|list| (0..masks).map(move |mask| [&list[..], &[mask]].concat()));
+    let longer: Vec<Vec<u32>> = longer.collect();
+    [shorter, longer].concat()
+}
+
+/// Join and meet of random lists of any width, with short, exact and long rooms, and damage.
+#[test]
+fn random_lists() {
+    let work = |i: u64, tally: &mut Tally| {
+        let mut rng = Rng::new(seed(), i);
+        let n = rng.within(1, 12);
+        let longest = rng.pick(&[3, 8, 30]);
+        let (mut first, mut second) = (gen::list(&mut rng, n, longest), gen::list(&mut rng, n, longest));
+        try_lists(&mut rng, tally, n as u32, &first, &second);
+        let which = rng.percent(50);
+        gen::damage(&mut rng, if which { &mut first } else { &mut second });
+        let n = n as u32;
+        let (long, wild) = (overlong(&mut rng, n), rng.word());
+        let width = rng.pick(&[n, n, n, n, 0, 13, 32, n + 256, u32::MAX, long, wild]);
+        try_lists(&mut rng, tally, width, &first, &second);
+    };
+    let pairs = count(4);
+    let tally = Tally::sum(spread(pairs, work));
+    tally.report("random lists", pairs);
+    tally.must_have_of(pairs, &[2, 5, 15]);
+}
+
+fn try_lists(rng: &mut Rng, tally: &mut Tally, n: u32, first: &[u32], second: &[u32]) {
+    let join = oracle::join(n, first, second, usize::MAX).map_or(4, |list| list.len());
+    for out in lengths(rng, join) {
+        try_call(rng, tally, Call::Join { n, first, second, out });
+    }
+    let meet = oracle::meet(n, first, second, usize::MAX).map_or(4, |list| list.len());
+    for out in lengths(rng, meet) {
+        try_call(rng, tally, Call::Meet { n, first, second, out });
+    }
+}
+
+/// The longest lists there are: all sets of six of twelve states, and all sets.
+#[test]
+fn long_lists() {
+    let mut rng = Rng::new(seed(), 4);
+    let mut tally = Tally::default();
+    let of_size = |size| -> Vec<u32> { (0..4096u32).filter(|set| set.count_ones() == size).collect() };
+    let (six, five, seven) = (of_size(6), of_size(5), of_size(7));
+    let all: Vec<u32> = (0..4096).rev().collect();
+    for (first, second) in [(&six, &five), (&five, &six), (&six, &seven), (&all, &six)] {
+        let (joined, met) = (oracle::join(12, first, second, 4096), oracle::meet(12, first, second, 4096));
+        for (call, list) in [
+            (Call::Join { n: 12, first, second, out: 1000 }, joined),
+            (Call::Meet { n: 12, first, second, out: 1000 }, met),
+        ] {
+            let list = list.expect("there is room");
+            let answer = [0, list.len() as u64, 0];
+            let expected = Outcome { answer, zeroed: 0, written: list };
+            compare(&mut rng, &call, &expected);
+            tally.add(&call, &expected);
+        }
+    }
+    tally.report("long lists", 4);
+}

@@ -1,0 +1,316 @@
+//! The models against each other, without the archive: knowledge sets, families, literal strategies,
+//! the checkers and the fast solver.
+
+use kirdanzug_tests::check::{self, keeps_clear, lasts_played, literal, no_holds, Runner};
+use kirdanzug_tests::fast::{self, Search};
+use kirdanzug_tests::game::{self, Game};
+use kirdanzug_tests::gen::{self, Rng, SHAPES};
+use kirdanzug_tests::oracle::{self, Card, Verdict};
+use kirdanzug_tests::run::{count, report, seed, spread};
+
+/// A runner over a card as the oracle has it.
+struct CardRunner<'a>(&'a Card);
+
+impl CardRunner<'_> {
+    fn enter(&self, cell: Option<usize>) -> Option<(u32, u32)> {
+        cell.map(|cell| (cell as u32, self.0.cells[cell].action as u32))
+    }
+}
+
+impl Runner for CardRunner<'_> {
+    fn open(&mut self, observation: usize) -> Option<(u32, u32)> {
+        self.enter(self.0.first[observation])
+    }
+    fn step(&mut self, cell: u32, observation: usize) -> Option<(u32, u32)> {
+        self.enter(self.0.cells[cell as usize].next[observation])
+    }
+}
+
+/// The round number by the families: the least k for which a start set is not good for k.
+fn round_by_families(game: &Game) -> Option<u32> {
+    let mut family = vec![true; 1 << game.n];
+    for k in 1..1 << game.n {
+        family = (0..1 << game.n).map(|set| game::step(game, &family, set).is_some()).collect();
+        if game.start_sets().iter().any(|&set| !family[set as usize]) {
+            return Some(k);
+        }
+    }
+    None
+}
+
+fn check_verdict(game: &Game, verdict: &Verdict) {
+    match verdict {
+        Verdict::Yes { card, .. } => {
+            assert_eq!(keeps_clear(game, &mut CardRunner(card)), Ok(()), "{game:?}");
+            let words = oracle::card_words(card);
+            assert_eq!(oracle::read_card(&words).as_ref(), Ok(card), "{game:?}");
+        }
+        Verdict::No { round } => assert_eq!(no_holds(game, *round), Ok(()), "{game:?}"),
+    }
+}
+
+/// Both searches of the fast solver.
+struct Fast([fast::Solver; 2]);
+
+impl Default for Fast {
+    fn default() -> Fast {
+        Fast([Search::Flat, Search::Boundary].map(fast::Solver::new))
+    }
+}
+
+fn check_fast(fast: &mut Fast, game: &Game, verdict: &Verdict) {
+    fast.0.iter_mut().for_each(|solver| check_search(solver, game, verdict));
+}
+
+fn check_search(solver: &mut fast::Solver, game: &Game, verdict: &Verdict) {
+    let mut card = vec![0; 1 + 8 + 924 * 9];
+    let found = solver.solve(&oracle::table_words(game), &mut card);
+    match verdict {
+        Verdict::No { round } => assert_eq!(found, fast::Verdict::No { round: *round }, "{game:?}"),
+        Verdict::Yes { index, card: expected } => {
+            let cells = expected.cells.len();
+            assert_eq!(found, fast::Verdict::Yes { index: *index, cells }, "{game:?}");
+            let words = oracle::card_words(expected);
+            assert_eq!(card[..words.len()], words, "{game:?}");
+        }
+    }
+}
+
+/// All accepted games of n states with a actions and o observations.
+fn all_games(n: usize, a: usize, o: usize) -> impl Iterator<Item = Game> {
+    let sets = 1usize << n;
+    let masks = 2 + o + a * n;
+    (0..sets.pow(masks as u32)).filter_map(move |number| {
+        let digits: Vec<u32> = (0..masks).map(|i| (number >> (i * n) & (sets - 1)) as u32).collect();
+        let moves = digits[2 + o..].chunks(n).map(|row| row.to_vec()).collect();
+        let game = Game { n, a, o, start: digits[0], bad: digits[1], shows: digits[2..2 + o].to_vec(), moves };
+        oracle::read_table(&oracle::table_words(&game)).is_ok().then_some(game)
+    })
+}
+
+/// Every strategy and every play, one by one, on all the smallest games.
+#[test]
+fn verdicts_by_literal_strategies() {
+    let (mut yes, mut no) = (0, [0; 4]);
+    for (n, a, o) in [(1, 1, 1), (1, 1, 2), (1, 2, 1), (1, 2, 2), (2, 1, 1), (2, 1, 2), (2, 2, 1), (2, 2, 2)] {
+        for game in all_games(n, a, o) {
+            match game::verdict(&game) {
+                None => {
+                    // A no has k below 2^n, so lasting 2^n - 1 rounds is enough.
+                    assert!(literal::some_strategy_lasts(&game, (1 << n) - 1), "{game:?}");
+                    yes += 1;
+                }
+                Some(k) => {
+                    assert!(!literal::some_strategy_lasts(&game, k), "{game:?}");
+                    assert!(literal::some_strategy_lasts(&game, k - 1), "{game:?}");
+                    no[k as usize] += 1;
+                }
+            }
+        }
+    }
+    report(&format!("literal strategies: {yes} yes, no with 1, 2, 3 rounds: {:?}", &no[1..]));
+    assert!(yes > 1000 && no[1..].iter().all(|&number| number > 10));
+}
+
+/// The same on random games of three states, where the number of strategies allows it.
+#[test]
+fn verdicts_by_literal_strategies_on_three_states() {
+    let seed = seed();
+    let (mut tried, mut longest) = (0, 0);
+    for i in 0..count(50) {
+        let mut rng = Rng::new(seed, i);
+        let shape = rng.pick(&SHAPES);
+        let (a, o) = (rng.within(1, 2), rng.within(1, 2));
+        let game = gen::game(&mut rng, shape, 3, a, o);
+        let verdict = game::verdict(&game);
+        let rounds = verdict.unwrap_or(3);
+        // At most 2^14 strategies.
+        if game.o == 2 && rounds > 3 {
+            continue;
+        }
+        tried += 1;
+        longest = longest.max(rounds);
+        assert_eq!(literal::some_strategy_lasts(&game, rounds), verdict.is_none(), "{game:?}");
+        assert!(literal::some_strategy_lasts(&game, rounds - 1), "{game:?}");
+    }
+    report(&format!("literal strategies on three states: seed {seed}, {tried} games, up to {longest} rounds"));
+    assert!(tried < 1000 || longest > 3);
+}
+
+/// What a comparison of many games came by.
+#[derive(Default, Debug)]
+struct Tally {
+    yes: u64,
+    no: u64,
+    longest: u32,
+    most_cells: usize,
+    latest_index: u32,
+}
+
+impl Tally {
+    fn add(&mut self, verdict: &Verdict) {
+        match verdict {
+            Verdict::Yes { index, card } => {
+                self.yes += 1;
+                self.most_cells = self.most_cells.max(card.cells.len());
+                self.latest_index = self.latest_index.max(*index);
+            }
+            Verdict::No { round } => {
+                self.no += 1;
+                self.longest = self.longest.max(*round);
+            }
+        }
+    }
+
+    fn sum(parts: Vec<(Fast, Tally)>) -> Tally {
+        parts.into_iter().map(|part| part.1).fold(Tally::default(), |sum, part| Tally {
+            yes: sum.yes + part.yes,
+            no: sum.no + part.no,
+            longest: sum.longest.max(part.longest),
+            most_cells: sum.most_cells.max(part.most_cells),
+            latest_index: sum.latest_index.max(part.latest_index),
+        })
+    }
+}
+
+fn compare_models(name: &str, games: u64, least: usize, most: usize, by_families: bool) {
+    let seed = seed();
+    let work = |i: u64, (fast, tally): &mut (Fast, Tally)| {
+        let mut rng = Rng::new(seed, i);
+        let shape = SHAPES[i as usize % SHAPES.len()];
+        let (n, a, o) = (rng.within(least, most), rng.within(1, 8), rng.within(1, 8));
+        let game = gen::game(&mut rng, shape, n, a, o);
+        let verdict = oracle::decide(&game);
+        if by_families {
+            let round = match verdict {
+                Verdict::Yes { .. } => None,
+                Verdict::No { round } => Some(round),
+            };
+            assert_eq!(round_by_families(&game), round, "{game:?}");
+        }
+        check_verdict(&game, &verdict);
+        check_fast(fast, &game, &verdict);
+        tally.add(&verdict);
+    };
+    let tally = Tally::sum(spread(games, work));
+    report(&format!("{name}: seed {seed}, {games} games, {tally:?}"));
+    assert!(games < 1000 || tally.yes * 5 > games && tally.no * 5 > games, "a verdict is too seldom");
+}
+
+#[test]
+fn models_agree_up_to_six_states() {
+    compare_models("models up to 6 states", count(5), 1, 6, true);
+}
+
+#[test]
+fn models_agree_up_to_twelve_states() {
+    compare_models("models up to 12 states", count(100), 7, 12, false);
+}
+
+/// The knowledge counter: no with 2^(n/2).
+#[test]
+fn counters_count() {
+    for n in 2..=12 {
+        let game = gen::counter(n);
+        assert_eq!(game::verdict(&game), Some(1 << (n / 2)));
+    }
+}
+
+/// The ring for the benchmark has a large antichain.
+#[test]
+fn wide_ring_is_wide() {
+    let game = gen::ring(12, &gen::WIDE_RING, 2);
+    let verdict = oracle::decide(&game);
+    check_verdict(&game, &verdict);
+    check_fast(&mut Fast::default(), &game, &verdict);
+    assert!(matches!(verdict, Verdict::Yes { card, .. } if card.cells.len() == 498));
+}
+
+/// Plays one by one, nothing remembered: as the product of states and cells says.
+#[test]
+fn plays_one_by_one() {
+    let mut played = 0;
+    for game in all_games(2, 2, 1).chain(all_games(2, 1, 2)) {
+        if let Verdict::Yes { card, .. } = oracle::decide(&game) {
+            assert!(lasts_played(&game, &mut CardRunner(&card), 5), "{game:?}");
+            // With every start state allowed the two ways of playing must still agree.
+            let wider = Game { start: 3, ..game.clone() };
+            let kept = keeps_clear(&wider, &mut CardRunner(&card)).is_ok();
+            assert_eq!(lasts_played(&wider, &mut CardRunner(&card), 5), kept, "{game:?}");
+            played += 1;
+        }
+    }
+    assert!(played > 100);
+}
+
+/// Lists: the oracle's join and meet by hand-made closure, and the fast ones.
+#[test]
+fn lists_agree() {
+    let seed = seed();
+    for i in 0..count(20) {
+        let mut rng = Rng::new(seed, i);
+        let n = rng.within(1, 8);
+        let (first, second) = (gen::list(&mut rng, n, 12), gen::list(&mut rng, n, 12));
+        let held = |list: &[u32], set: u32| list.iter().any(|&other| game::subset(set, other));
+        let maximal = |inside: &dyn Fn(u32) -> bool| {
+            let family: Vec<bool> = (0..1 << n).map(inside).collect();
+            game::maximal(n, &family)
+        };
+        let join = maximal(&|set| held(&first, set) || held(&second, set));
+        let meet = maximal(&|set| held(&first, set) && held(&second, set));
+        let mut out = [0; 256];
+        assert_eq!(oracle::join(n as u32, &first, &second, 256).unwrap(), join);
+        assert_eq!(oracle::meet(n as u32, &first, &second, 256).unwrap(), meet);
+        assert_eq!(fast::join(n as u32, &first, &second, &mut out), Ok(join.len()));
+        assert_eq!(out[..join.len()], join);
+        assert_eq!(fast::meet(n as u32, &first, &second, &mut out), Ok(meet.len()));
+        assert_eq!(out[..meet.len()], meet);
+    }
+}
+
+/// The judges, and the refusals of the fast solver on damaged tables.
+#[test]
+fn judges_and_refusals_agree() {
+    let seed = seed();
+    let mut judge = fast::Judge::new();
+    let mut solver = fast::Solver::new(Search::Flat);
+    let (mut good, mut refused) = (0, 0);
+    for i in 0..count(20) {
+        let mut rng = Rng::new(seed, i);
+        let shape = SHAPES[i as usize % SHAPES.len()];
+        let (n, a, o) = (rng.within(1, 12), rng.within(1, 8), rng.within(1, 8));
+        let mut table = gen::table(&mut rng, shape, n, a, o);
+        let (mask, k) = (rng.set(n + 1, 30), rng.within(0, 5) as u32);
+        if rng.percent(50) {
+            gen::damage(&mut rng, &mut table);
+        }
+        let expected = oracle::judge(&table, mask, k);
+        let found = judge.judge(&table, mask, k);
+        assert_eq!(found, expected.map_err(|refusal| (refusal.number, refusal.place as usize)), "{table:x?}");
+        good += u32::from(found == Ok(true));
+        if let Err(refusal) = oracle::read_table(&table) {
+            let expected = fast::Verdict::Refused { number: refusal.number, place: refusal.place as usize };
+            assert_eq!(solver.solve(&table, &mut []), expected, "{table:x?}");
+            refused += 1;
+        }
+    }
+    report(&format!("judges: seed {seed}, {good} good, {refused} tables refused"));
+    assert!(count(20) < 1000 || good > 100 && refused > 100);
+}
+
+/// Searching for a strategy and the families tell the same of every number of rounds.
+#[test]
+fn searching_agrees_with_judging() {
+    let seed = seed();
+    for i in 0..count(100) {
+        let mut rng = Rng::new(seed, i);
+        let shape = SHAPES[i as usize % SHAPES.len()];
+        let (a, o) = (rng.within(1, 3), rng.within(1, 3));
+        let game = gen::game(&mut rng, shape, 5, a, o);
+        let mut search = check::Search::new(&game);
+        for k in 0..=4 {
+            let good = game.start_sets().iter().all(|&set| game::good(&game, set, k));
+            assert_eq!(search.some_strategy_lasts(k), good, "{game:?}");
+        }
+    }
+}

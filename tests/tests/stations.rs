@@ -1,0 +1,165 @@
+//! The models against what document 01 itself says: stations, refusals, printed text.
+
+use kirdanzug_tests::check::{keeps_clear, no_holds, Runner};
+use kirdanzug_tests::fast::{self, Search};
+use kirdanzug_tests::game::{self, Game};
+use kirdanzug_tests::oracle::{self, Call, Refusal};
+use kirdanzug_tests::stations::{self, Row};
+
+fn check(rows: Vec<Row>) {
+    for Row { name, call, outcome } in rows {
+        assert_eq!(oracle::outcome(&call), outcome, "{name}: {call:?}");
+    }
+}
+
+#[test]
+fn oracle_gives_the_stations() {
+    check(stations::stations());
+}
+
+#[test]
+fn oracle_gives_every_refusal() {
+    check(stations::refusals());
+}
+
+#[test]
+fn every_number_has_a_row() {
+    let rows = stations::refusals();
+    let numbers: Vec<u64> = rows.iter().map(|row| &row.outcome.answer).filter(|x| x[0] == 2).map(|x| x[1]).collect();
+    // 11 is the write's alone.
+    for number in (1..=17).filter(|&number| number != 11) {
+        assert!(numbers.contains(&number), "{number} has no row");
+    }
+}
+
+#[test]
+fn oracle_prints_the_text() {
+    for (input, text) in stations::printed() {
+        assert_eq!(oracle::program(&input), text);
+    }
+}
+
+/// The families of station A as document 01 lists them: (7), (3), (1, 2), settled at 2.
+#[test]
+fn families_of_station_a() {
+    let game = oracle::read_table(&stations::A).unwrap();
+    let good_for = |k| -> Vec<u32> {
+        let family: Vec<bool> = (0..8).map(|set| game::good(&game, set, k)).collect();
+        game::maximal(3, &family)
+    };
+    assert_eq!(good_for(0), [7]);
+    assert_eq!(good_for(1), [3]);
+    assert_eq!(good_for(2), [1, 2]);
+    assert_eq!(good_for(3), [1, 2]);
+    assert_eq!(game::families(&game).index, 2);
+}
+
+/// "Where it is the only one, the list is (0)".
+#[test]
+fn only_the_empty_set_is_good() {
+    let game = oracle::read_table(&stations::D).unwrap();
+    assert_eq!(game::maximal(1, &game::families(&game).family), [0]);
+}
+
+/// The write's refusals, 2, 11, 5, 6, 7, 10 in this order.
+#[test]
+fn writing_fields() {
+    let fields = oracle::read_fields(&stations::A).unwrap();
+    let refused = |number, place| Err(Refusal { number, place });
+    let write = |change: &dyn Fn(&mut oracle::Fields), room| {
+        let mut changed = fields.clone();
+        change(&mut changed);
+        oracle::write_fields(&changed, room)
+    };
+    assert_eq!(write(&|_| (), 10), Ok(stations::A.to_vec()));
+    assert_eq!(write(&|_| (), 9), refused(10, 10));
+    assert_eq!(write(&|f| f.observations[0] = 3, 9), refused(7, 2));
+    assert_eq!(write(&|f| (f.start, f.observations[0]) = (0, 3), 9), refused(6, 1));
+    assert_eq!(write(&|f| (f.start, f.moves[5]) = (0, 8), 9), refused(5, 9));
+    assert_eq!(write(&|f| f.bad = 1 << 16, 10), refused(5, 2));
+    assert_eq!(write(&|f| f.observations[0] = 15, 10), refused(5, 3));
+    assert_eq!(write(&|f| f.observations[1] = 1, 10), refused(11, 0));
+    assert_eq!(write(&|f| f.moves[6] = 1, 10), refused(11, 0));
+    assert_eq!(write(&|f| f.moves[95] = 8, 10), refused(11, 0));
+    assert_eq!(write(&|f| (f.start, f.moves[6]) = (8, 1), 10), refused(11, 0));
+    for n in [0, 13, 259] {
+        assert_eq!(write(&|f| (f.n, f.moves[95]) = (n, 1), 10), refused(2, 0));
+    }
+    assert_eq!(write(&|f| f.a = 9, 10), refused(2, 0));
+    assert_eq!(write(&|f| f.o = 0, 10), refused(2, 0));
+}
+
+/// The fast models give the stations too.
+#[test]
+fn fast_models_give_the_stations() {
+    [Search::Flat, Search::Boundary].into_iter().for_each(fast_model_gives_the_stations);
+}
+
+fn fast_model_gives_the_stations(search: Search) {
+    let mut solver = fast::Solver::new(search);
+    let mut judge = fast::Judge::new();
+    for Row { name, call, outcome } in stations::stations().into_iter().chain(stations::refusals()) {
+        let mut out = vec![0; 64];
+        let found = match call {
+            Call::Solve { table, work, card } if work >= 32 || outcome.answer[1] != 8 => {
+                match solver.solve(table, &mut out[..card]) {
+                    fast::Verdict::Yes { index, cells } => [0, index.into(), cells as u64],
+                    fast::Verdict::No { round } => [1, round.into(), 0],
+                    fast::Verdict::Refused { number, place } => [2, number.into(), place as u64],
+                }
+            }
+            Call::Judge { table, mask, k } => answer(judge.judge(table, mask, k).map(usize::from)),
+            Call::Join { n, first, second, out: room } => answer(fast::join(n, first, second, &mut out[..room])),
+            Call::Meet { n, first, second, out: room } => answer(fast::meet(n, first, second, &mut out[..room])),
+            _ => continue,
+        };
+        assert_eq!(found, outcome.answer, "{name}");
+        assert_eq!(out[..outcome.written.len()], outcome.written, "{name}");
+    }
+}
+
+fn answer(result: Result<usize, (u32, usize)>) -> [u64; 3] {
+    match result {
+        Ok(value) => [0, value as u64, 0],
+        Err((number, place)) => [2, number.into(), place as u64],
+    }
+}
+
+/// A runner over the oracle's reading of a card.
+struct CardRunner<'a>(&'a [u32]);
+
+impl Runner for CardRunner<'_> {
+    fn open(&mut self, observation: usize) -> Option<(u32, u32)> {
+        oracle::open(self.0, observation as u32).ok()
+    }
+    fn step(&mut self, cell: u32, observation: usize) -> Option<(u32, u32)> {
+        oracle::step(self.0, cell, observation as u32).ok()
+    }
+}
+
+fn game_of(table: &[u32]) -> Game {
+    oracle::read_table(table).unwrap()
+}
+
+/// The checkers accept what the document says and refuse what it calls wrong.
+#[test]
+fn checkers_tell_right_from_wrong() {
+    let played = |table: &[u32], card: &[u32]| keeps_clear(&game_of(table), &mut CardRunner(card));
+    assert_eq!(played(&stations::A, &stations::A_CARD), Ok(()));
+    assert_eq!(played(&stations::C, &stations::C_CARD), Ok(()));
+    // A's card does not keep B clear, D and E have no card, and a card may refuse too early.
+    assert!(played(&stations::B, &stations::A_CARD).is_err());
+    assert!(played(&stations::D, &stations::F_CARD).is_err());
+    assert!(played(&stations::E, &stations::F_CARD).is_err());
+    assert!(played(&stations::A, &stations::with(stations::A_CARD, 5, 0xB000FFFF)).is_err());
+    assert!(played(&stations::A, &stations::with(stations::A_CARD, 1, 0x9000FFFF)).is_err());
+    let rounds = [(&stations::B[..], 2), (&stations::D, 1), (&stations::E, 1), (&stations::G, 4), (&stations::H, 2)];
+    for (table, k) in rounds {
+        assert_eq!(no_holds(&game_of(table), k), Ok(()));
+        assert!(no_holds(&game_of(table), k + 1).is_err());
+        assert!(no_holds(&game_of(table), k - 1).is_err());
+    }
+    for k in 1..8 {
+        assert!(no_holds(&game_of(&stations::A), k).is_err());
+    }
+}
