@@ -1,11 +1,11 @@
 -- The outcome, refusal by refusal.
 -- Assumes nothing.
-use mathlib.Core.Path.{_≡_, refl, sym, ap, ap₂, _∙_, subst}
+use mathlib.Core.Path.{_≡_, sym, ap, _∙_, subst}
 use mathlib.Core.Logic.{_⊎_, ⊎-elim}
-use mathlib.Core.Bool.{Bool, true, false, cond, not, _&&_}
+use mathlib.Core.Bool.{Bool, false, cond}
 use mathlib.Core.List.{List, _++_}
 use Prim.Native.Nat.{ℕ, _+_, _^_, _≤_, _<_}
-use lib.Dec.{leb, ltb}
+use lib.Dec.{leb}
 use native.Mathlib.Nat.{le-add-right}
 use lib.Pow.{pow-mono}
 use lib.ListN.{length, length-append, take, drop}
@@ -16,11 +16,11 @@ use Rattle.sets.specs.Family.{join, meet}
 use Rattle.sets.proofs.Logic.{and-intro, and-false-left, and-false-right, true-not, false-not}
 use Rattle.sets.proofs.Bounded.{select-length}
 use Rattle.lists.specs.declared.Answer.the-variants.{Words, Refused}
-use Rattle.lists.specs.Lists.{Outcome, leaves, maxStates, isWidth, foreign, fitted, unlessFound, outcome}
+use Rattle.lists.specs.Lists.{leaves, maxStates, isWidth, foreign, fitted, unlessFound, outcome}
 use Rattle.lists.specs.Tops.{top}
 use Rattle.lists.specs.Checks.{firstBeyond}
 use Rattle.lists.proofs.Tops.{select-top}
-use Rattle.lists.proofs.Checks.{beyond, beyond-found, beyond-none, beyond-within, found-first, found-second, found-neither}
+use Rattle.lists.proofs.Checks.{beyond, beyond-found, beyond-within, found-first, found-second, found-neither}
 
 -- the width is right, and `end` is the first mask with a state too many
 pub record Width (n end : ℕ) : Type 0 where

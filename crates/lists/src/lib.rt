@@ -2,7 +2,7 @@
 ghost use mathlib.Core.Path.{_≡_};
 ghost use mathlib.Core.Bool.{cond};
 ghost use mathlib.Core.List.{_++_};
-ghost use Prim.Native.Nat.{ℕ, _<_, _≤_, _^_};
+ghost use Prim.Native.Nat.{ℕ, _<_, _≤_};
 ghost use lib.ListN.{length, take, drop};
 ghost use Rattle.sets.specs.Bounded.{count, select};
 ghost use Rattle.sets.specs.Family.{join as joinOf, meet as meetOf};

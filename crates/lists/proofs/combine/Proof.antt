@@ -1,6 +1,5 @@
 -- `lists::combine` meets its contract: each way out is one case of the outcome.
 -- Assumes nothing.
-use mathlib.Core.Path.{_≡_}
 use mathlib.Core.Logic.{⊎-elim, inl, inr}
 use mathlib.Core.Bool.{cond}
 use borrow.Author.Needs.{needs}
