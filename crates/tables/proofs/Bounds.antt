@@ -1,9 +1,8 @@
 -- Bounds on products of two numbers of a table's head.
 -- Assumes nothing.
-use mathlib.Core.Path.{_≡_}
 use mathlib.Core.List.{List}
 use Prim.Native.Nat.{ℕ, suc, _+_, _*_, _≤_, _<_}
-use native.Mathlib.Nat.{mul-le-mul, mul-le-mul-right, suc-mul, le-of-lt}
+use native.Mathlib.Nat.{mul-le-mul, mul-le-mul-right, suc-mul}
 use native.Mathlib.Omega.{arith}
 use lib.ListN.{length, getD}
 use Rattle.games.specs.Words.{headStates, headActions}

@@ -1,23 +1,22 @@
 -- The walk over the members of a set: what holds before each turn, and its two answers.
 -- Assumes nothing.
-use mathlib.Core.Path.{_≡_, refl, sym, ap, _∙_, subst}
+use mathlib.Core.Path.{_≡_, sym, ap, _∙_, subst}
 use mathlib.Core.Bool.{Bool, true, false, not, _||_}
 use mathlib.Core.List.{List}
 use Prim.Native.Nat.{ℕ, _+_, _<_}
+use borrow.Author.Tests.{eq-eqb, ne-eqb}
 use lib.Dec.{eqb}
 use lib.ListN.{getD}
-use borrow.Author.Tests.{eq-eqb, ne-eqb}
 use Rattle.sets.specs.Mask.{member, union, unionOver}
 use Rattle.sets.specs.Bounded.{all}
 use Rattle.sets.proofs.Logic.{and-intro, or-left, or-right, or-false-intro, true-not, false-not}
 use Rattle.sets.proofs.Bounded.{all-zero, all-more, all-refuted}
 use Rattle.sets.proofs.Mask.{unionOver-zero, unionOver-hit, unionOver-skip}
-use Rattle.games.specs.Game.{Game, enabled}
+use Rattle.games.specs.Game.{enabled}
 use Rattle.games.specs.Step.{enabledAt, post}
-use Rattle.games.specs.Words.{lowField, headStates, headObservations, tableLength, game}
+use Rattle.games.specs.Words.{headStates, headObservations, tableLength, game}
 use Rattle.tables.specs.Fields.{masksFrom}
 use Rattle.tables.specs.Walk.{walked}
-use Rattle.tables.specs.declared.Walked.{Walked}
 use Rattle.tables.specs.declared.Walked.the-variants.{Blocked, Post}
 
 -- i is not a member of s, or f gives it something
