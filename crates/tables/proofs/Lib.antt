@@ -6,3 +6,4 @@ pub mod Fills
 pub mod Fieldwise
 pub mod Same
 pub mod RoundTrip
+pub mod Rows
