@@ -1,4 +1,5 @@
 -- The small inputs of document 01's "Numbered refusals", as far as they are tables or fields: each gives its number and place.
+-- Beside them: 13 states, and a word that 4 and 5 would both refuse.
 -- Assumes nothing.
 use mathlib.Core.Path.{_≡_, refl}
 use mathlib.Core.List.{List, [], _∷_, _++_}
@@ -31,6 +32,7 @@ rows =
     ∷ record { input = 0x1001_020d ∷ []; answer = Refused 2 0 }
     ∷ record { input = 0x1001_0203 ∷ []; answer = Refused 3 1 }
     ∷ record { input = set tableA 1 0x3000_0001; answer = Refused 4 1 }
+    ∷ record { input = set tableA 2 0x2000_0008; answer = Refused 4 2 }
     ∷ record { input = set tableA 2 0x3000_0008; answer = Refused 5 2 }
     ∷ record { input = set tableA 1 0x2000_0000; answer = Refused 6 1 }
     ∷ record { input = set tableA 3 0x4000_0003; answer = Refused 7 2 }
@@ -38,7 +40,7 @@ rows =
 
 pub every-row : Rows rows
 unfolding rows checked sizeChecked wordsChecked setsChecked headRight limitsHold placed faulty unseen bareWord game first any
-every-row = row refl (row refl (row refl (row refl (row refl (row refl (row refl (row refl (row refl none))))))))
+every-row = row refl (row refl (row refl (row refl (row refl (row refl (row refl (row refl (row refl (row refl none)))))))))
 
 -- station A's fields
 abbrev fieldsA : Fields
