@@ -3,3 +3,4 @@ pub mod Turns
 pub mod Searching
 pub mod Cells
 pub mod Words
+pub mod Choosing
