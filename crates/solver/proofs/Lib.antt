@@ -4,3 +4,4 @@ pub mod Searching
 pub mod Cells
 pub mod Words
 pub mod Choosing
+pub mod Carding
