@@ -5,3 +5,5 @@ pub mod Cells
 pub mod Words
 pub mod Choosing
 pub mod Carding
+pub mod Answers
+pub mod Promises
