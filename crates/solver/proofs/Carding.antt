@@ -16,7 +16,7 @@ use Rattle.tables.specs.Check.{checked}
 use Rattle.tables.specs.declared.Checked.the-variants.{Fine}
 use Rattle.tables.proofs.Checks.{sized}
 use Rattle.solver.proofs.Turns.{sets-few}
-use Rattle.solver.proofs.Words.{cells-few}
+use Rattle.solver.proofs.Cells.{cells-few}
 use Rattle.games.specs.Step.{after}
 use Rattle.games.specs.Verdict.{startSet, cells}
 use Rattle.games.specs.Automaton.{card, chosen, holding}
@@ -160,3 +160,6 @@ parts-few o c m b few within = le-trans (mul-le-mul-right (1 + o) (le-trans with
 pub cell-of : (g : Game) → Accepted g → (l : List ℕ) → l ≡ cells g → (c : ℕ) → c < length l → Cell g (getD l c 0)
 cell-of g A l e c h =
     subst (λ (k : List ℕ). c < length k → Cell g (getD k c 0)) (sym e) (λ b. let w = cell-settled g A c b in record { below = w .0; is-settled = w .1 }) h
+
+pub needed : (g : Game) (m o : ℕ) → o ≡ g .observations → 1 + o + m * (1 + o) ≡ cardLength m (g .observations)
+needed g m o e = ap (λ (n : ℕ). 1 + n + m * (1 + n)) e

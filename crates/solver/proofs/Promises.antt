@@ -45,7 +45,8 @@ use Rattle.solver.specs.Solve.{Leaves, leaves, cardOf, byVerdict, Outcom
 use Rattle.solver.specs.declared.Answer.{Answer}
 use Rattle.solver.specs.declared.Answer.the-variants.{Yes as SaysYes, No as SaysNo, Refused}
 use Rattle.solver.proofs.Turns.{sets-few}
-use Rattle.solver.proofs.Words.{holdsAt, cells-few}
+use Rattle.solver.proofs.Words.{holdsAt}
+use Rattle.solver.proofs.Cells.{cells-few}
 
 -- the cell that holds a set is one of the list, or none
 holding-named : (l : List ℕ) (s : ℕ) → (holding l s < length l) ⊎ (holding l s ≡ noCell)

@@ -102,3 +102,6 @@ few-states w z = z .limits .most-states
 pub sets-few : (w : List ℕ) → Sized w → 2 ^ game w .states ≤ 4096
 unfolding game
 sets-few w z = pow-mono (z .limits .most-states)
+
+pub size-is : (g : Game) (n size : ℕ) → n ≡ g .states → size ≡ 2 ^ n → size ≡ 2 ^ g .states
+size-is g n size e h = h ∙ ap (λ (m : ℕ). 2 ^ m) e
