@@ -5,7 +5,8 @@ use mathlib.Core.Bool.{Bool, true, false, cond}
 use mathlib.Core.List.{List, _++_}
 use Prim.Native.Nat.{ℕ, _+_, _*_, _^_, _≤_, _<_}
 use lib.Dec.{ltb}
-use lib.ListN.{length, drop}
+use lib.ListN.{length, take, drop, replicate}
+use lib.Seq.{drop-at, length-take-le}
 use borrow.Author.Tests.{lt-ltb, le-ltb}
 use Rattle.sets.specs.Bounded.{fill}
 use Rattle.games.specs.Game.{Game}
@@ -28,16 +29,16 @@ module _ (g : Game) (d : List ℕ) (t m need : ℕ) (is : need ≡ cardLength m 
   granted-short h =
       ap (λ (n : ℕ). leaves (Refused 9 n) d) is
       ∙ sym
-        (ap (λ (b : Bool). cond b (leaves (Refused 9 (cardLength m (g .observations))) d) (leaves (SaysYes t m) (cardOf g ++ drop (cardLength m (g .observations)) d)))
-        (lt-ltb (length d) (cardLength m (g .observations)) (subst (λ (n : ℕ). length d < n) is h)))
+      (ap (λ (b : Bool). cond b (leaves (Refused 9 (cardLength m (g .observations))) d) (leaves (SaysYes t m) (cardOf g ++ drop (cardLength m (g .observations)) d)))
+      (lt-ltb (length d) (cardLength m (g .observations)) (subst (λ (n : ℕ). length d < n) is h)))
 
   pub granted-written : need ≤ length d → (e : List ℕ) → e ≡ cardOf g ++ drop (cardLength m (g .observations)) d → leaves (SaysYes t m) e ≡ byVerdict g d (Yes t m)
   unfolding byVerdict
   granted-written h e w =
       ap (leaves (SaysYes t m)) w
       ∙ sym
-        (ap (λ (b : Bool). cond b (leaves (Refused 9 (cardLength m (g .observations))) d) (leaves (SaysYes t m) (cardOf g ++ drop (cardLength m (g .observations)) d)))
-        (le-ltb (length d) (cardLength m (g .observations)) (subst (λ (n : ℕ). n ≤ length d) is h)))
+      (ap (λ (b : Bool). cond b (leaves (Refused 9 (cardLength m (g .observations))) d) (leaves (SaysYes t m) (cardOf g ++ drop (cardLength m (g .observations)) d)))
+      (le-ltb (length d) (cardLength m (g .observations)) (subst (λ (n : ℕ). n ≤ length d) is h)))
 
 module _ (g : Game) (d : List ℕ) where
   pub decided-no : (k : ℕ) → verdict g ≡ No k → leaves (SaysNo k) d ≡ byVerdict g d (verdict g)
@@ -64,9 +65,9 @@ module _ (w work d : List ℕ) where
         let rest = byVerdict (game w) d (verdict (game w)) in
         ap (λ (k : ℕ). outcome (Refused 8 k) work d) is
         ∙ sym
-          (fine-is
-          ∙ ap (λ (b : Bool). cond b (outcome (Refused 8 n) work d) (outcome (rest .answer) (fill n 0 work) (rest .card)))
-            (lt-ltb (length work) n (subst (λ (k : ℕ). length work < k) is h)))
+        (fine-is
+        ∙ ap (λ (b : Bool). cond b (outcome (Refused 8 n) work d) (outcome (rest .answer) (fill n 0 work) (rest .card)))
+        (lt-ltb (length work) n (subst (λ (k : ℕ). length work < k) is h)))
 
     pub solved-done : need ≤ length work → (r : Answer) (left e : List ℕ) → leaves r e ≡ byVerdict (game w) d (verdict (game w)) → left ≡ fill need 0 work → outcome r left e ≡ solved w work d
     unfolding afterCheck
@@ -75,6 +76,11 @@ module _ (w work d : List ℕ) where
         let rest = byVerdict (game w) d (verdict (game w)) in
         ap₂ (λ (x : Leaves) (y : List ℕ). outcome (x .answer) y (x .card)) by (cleared ∙ ap (λ (k : ℕ). fill k 0 work) is)
         ∙ sym
-          (fine-is
-          ∙ ap (λ (b : Bool). cond b (outcome (Refused 8 n) work d) (outcome (rest .answer) (fill n 0 work) (rest .card)))
-            (le-ltb (length work) n (subst (λ (k : ℕ). k ≤ length work) is h)))
+        (fine-is
+        ∙ ap (λ (b : Bool). cond b (outcome (Refused 8 n) work d) (outcome (rest .answer) (fill n 0 work) (rest .card)))
+        (le-ltb (length work) n (subst (λ (k : ℕ). k ≤ length work) is h)))
+
+-- the zeroed front does not depend on what the search left there
+pub cleared : (need : ℕ) (x work e : List ℕ) → length x ≡ length (take need work) → need ≤ length work → e ≡ fill need 0 (x ++ drop need work) → e ≡ fill need 0 work
+cleared need x work e h b is =
+    is ∙ ap (λ (l : List ℕ). replicate need 0 ++ l) (drop-at x (drop need work) need (h ∙ length-take-le need work b))

@@ -68,7 +68,7 @@ module _ (g : Game) (l : List ℕ) (p : ℕ) (d₀ : List ℕ) where
         same = refl;
         front = ap (λ (n : ℕ). take n d₀) z ∙ sym (append-nil (take p d₀));
         rest = refl;
-        within = omega arith
+        within = omega arith;
       }
 
   module _ (c : ℕ) (d : List ℕ) (w : Carded g l p d₀ c d) where
@@ -94,20 +94,20 @@ module _ (g : Game) (l : List ℕ) (p : ℕ) (d₀ : List ℕ) where
           room = w .room;
           same = same-len-mid at (end - at) d e (long ∙ w .part-is ∙ sym (carded-part h)) ∙ w .same;
           front =
-            ap (λ (n : ℕ). take n new) (more-parts p c)
-            ∙ ap (take end) (sym (append-assoc (take at d) e (postOf at (end - at) d)))
-            ∙ take-at (take at d ++ e) (postOf at (end - at) d) end (length-append (take at d) e ∙ omega (arith, length-take-le at d (omega arith), long))
-            ∙ ap₂ (λ (x y : List ℕ). x ++ y) (w .front) is
-            ∙ append-assoc (take p d₀) (gather c f) (f c)
-            ∙ ap (λ (n : ℕ). take p d₀ ++ gather n f) (sym (add-one c));
+              ap (λ (n : ℕ). take n new) (more-parts p c)
+              ∙ ap (take end) (sym (append-assoc (take at d) e (postOf at (end - at) d)))
+              ∙ take-at (take at d ++ e) (postOf at (end - at) d) end (length-append (take at d) e ∙ omega (arith, length-take-le at d (omega arith), long))
+              ∙ ap₂ (λ (x y : List ℕ). x ++ y) (w .front) is
+              ∙ append-assoc (take p d₀) (gather c f) (f c)
+              ∙ ap (λ (n : ℕ). take p d₀ ++ gather n f) (sym (add-one c));
           rest =
-            ap (λ (n : ℕ). drop n new) (more-parts p c)
-            ∙ drop-put at end d e (omega arith) room (long ∙ sym (add-sub-cancel-left at p))
-            ∙ sym (drop-drop p at d)
-            ∙ ap (drop p) (w .rest)
-            ∙ drop-drop p at d₀
-            ∙ ap (λ (n : ℕ). drop n d₀) (sym (more-parts p c));
-          within = omega arith
+              ap (λ (n : ℕ). drop n new) (more-parts p c)
+              ∙ drop-put at end d e (omega arith) room (long ∙ sym (add-sub-cancel-left at p))
+              ∙ sym (drop-drop p at d)
+              ∙ ap (drop p) (w .rest)
+              ∙ drop-drop p at d₀
+              ∙ ap (λ (n : ℕ). drop n d₀) (sym (more-parts p c));
+          within = omega arith;
         }
 
     pub carded-end : length l ≤ c → d ≡ (take p d₀ ++ gather (length l) (λ i. setWords g (getD l i 0))) ++ drop (p + length l * p) d₀
@@ -135,11 +135,11 @@ module _ (g : Game) (l : List ℕ) (listed : l ≡ cells g) (p : ℕ) (part-is :
   carded-whole d h =
       h
       ∙ ap₂ (λ (x y : List ℕ). x ++ y)
-        (ap (λ (x : List ℕ). x ++ gather (length l) (λ i. setWords g (getD l i 0))) (take-at exit (drop p entry) p exit-length ∙ fronted) ∙ card-is g l listed)
-        (ap (λ (n : ℕ). drop (n + length l * p) (exit ++ drop p entry)) (sym exit-length)
-        ∙ drop-append-add exit (drop p entry) (length l * p)
-        ∙ drop-drop (length l * p) p entry
-        ∙ ap (λ (n : ℕ). drop n entry) words-needed)
+      (ap (λ (x : List ℕ). x ++ gather (length l) (λ i. setWords g (getD l i 0))) (take-at exit (drop p entry) p exit-length ∙ fronted) ∙ card-is g l listed)
+      (ap (λ (n : ℕ). drop (n + length l * p) (exit ++ drop p entry)) (sym exit-length)
+      ∙ drop-append-add exit (drop p entry) (length l * p)
+      ∙ drop-drop (length l * p) p entry
+      ∙ ap (λ (n : ℕ). drop n entry) words-needed)
 
 -- ---- bounds while the card is written
 

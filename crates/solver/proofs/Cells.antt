@@ -152,7 +152,7 @@ pub kept-from : (g : Game) (k size : ℕ) (exit work : List ℕ) → size ≡ 2 
 kept-from g k size exit work is found room =
     record {
       room = length-append exit (drop size work) ∙ omega (arith, length-drop size work, found .size);
-      front = subst (SettledAt g k) (sym (take-at exit (drop size work) (2 ^ g .states) (found .size))) found
+      front = subst (SettledAt g k) (sym (take-at exit (drop size work) (2 ^ g .states) (found .size))) found;
     }
 
 module _ (g : Game) (m size : ℕ) (work : List ℕ) (is : size ≡ 2 ^ g .states) (w : Collected g m work) where

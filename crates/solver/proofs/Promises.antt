@@ -65,21 +65,21 @@ covers-agree : (g : Game) (A B : Automaton) → Agree B A (g .observations) → 
 covers-agree g A B E C =
     record {
       begins-in = λ i o m shows.
-        let w = C .begins-in i o m shows in
-        let e = E .begins-same o (shows .0) in
-        let b : B .begins o < B .size = subst (λ (c : ℕ). c < B .size) (sym e) (inside (A .begins o) (w .0)) in
-        (b, subst (λ (s : ℕ). member s i ≡ true) (sym (E .set-same (B .begins o) b ∙ ap (A .set) e)) (w .1));
+          let w = C .begins-in i o m shows in
+          let e = E .begins-same o (shows .0) in
+          let b : B .begins o < B .size = subst (λ (c : ℕ). c < B .size) (sym e) (inside (A .begins o) (w .0)) in
+          (b, subst (λ (s : ℕ). member s i ≡ true) (sym (E .set-same (B .begins o) b ∙ ap (A .set) e)) (w .1));
       survives = λ c i l m.
-        let w = C .survives c i (outside c l) (subst (λ (s : ℕ). member s i ≡ true) (E .set-same c l) m) in
-        (w .0, subst (λ (a : ℕ). enabled g i a ≡ true) (sym (E .action-same c l)) (w .1));
+          let w = C .survives c i (outside c l) (subst (λ (s : ℕ). member s i ≡ true) (E .set-same c l) m) in
+          (w .0, subst (λ (a : ℕ). enabled g i a ≡ true) (sym (E .action-same c l)) (w .1));
       next-in = λ c i i′ o l m e shows.
-        let w =
+          let w =
           C .next-in c i i′ o (outside c l) (subst (λ (s : ℕ). member s i ≡ true) (E .set-same c l) m)
           (subst (λ (a : ℕ). member (g .successors a i) i′ ≡ true) (E .action-same c l) e) shows in
-        let n = E .next-same c o l (shows .0) in
-        let b : B .next c o < B .size = subst (λ (d : ℕ). d < B .size) (sym n) (inside (A .next c o) (w .0)) in
-        (b, subst (λ (s : ℕ). member s i′ ≡ true) (sym (E .set-same (B .next c o) b ∙ ap (A .set) n)) (w .1));
-      gives = λ c l. subst (λ (a : ℕ). a < g .actions) (sym (E .action-same c l)) (C .gives c (outside c l))
+          let n = E .next-same c o l (shows .0) in
+          let b : B .next c o < B .size = subst (λ (d : ℕ). d < B .size) (sym n) (inside (A .next c o) (w .0)) in
+          (b, subst (λ (s : ℕ). member s i′ ≡ true) (sym (E .set-same (B .next c o) b ∙ ap (A .set) n)) (w .1));
+      gives = λ c l. subst (λ (a : ℕ). a < g .actions) (sym (E .action-same c l)) (C .gives c (outside c l));
     }
   where
     inside : (c : ℕ) → c < A .size → c < B .size
@@ -112,7 +112,7 @@ module _ (w : List ℕ) (fine : checked w ≡ Fine) where
         set-below = λ c l. omega (arith, cell-settled g A c l .0, few);
         action-below = λ c l. lowest-below g A (settled g) (getD (cells g) c 0);
         begins-named = λ j l. holding-named (cells g) (startSet g j);
-        next-named = λ c j l m. holding-named (cells g) (after g (getD (cells g) c 0) (chosen g (getD (cells g) c 0)) j)
+        next-named = λ c j l m. holding-named (cells g) (after g (getD (cells g) c 0) (chosen g (getD (cells g) c 0)) j);
       }
 
   -- the words of a winning card win, and never meet 12, 13 or 14
@@ -160,7 +160,7 @@ module _ (w work d : List ℕ) (r : Answer) (e : List ℕ) where
         yes-iff = λ room. absurd (no-room room);
         yes-card = λ t m y. yes-not-refused t m n p (sym y ∙ is);
         yes-runs = λ t m y. yes-not-refused t m n p (sym y ∙ is);
-        no-round = λ k y. no-not-refused k n p (sym y ∙ is)
+        no-round = λ k y. no-not-refused k n p (sym y ∙ is);
       }
 
   module _ (fine : checked w ≡ Fine) where
@@ -172,7 +172,7 @@ module _ (w work d : List ℕ) (r : Answer) (e : List ℕ) where
           yes-iff = λ room. (λ y. yes-not-no (y .0) (y .1) k (sym (y .2) ∙ is), λ c. absurd (T .no-strategy (c .0) (c .1 k)));
           yes-card = λ t m y. yes-not-no t m k (sym y ∙ is);
           yes-runs = λ t m y. yes-not-no t m k (sym y ∙ is);
-          no-round = λ j y. subst (Third (game w)) (let s : SaysNo k ≡ SaysNo j = sym is ∙ y in (cc)) T
+          no-round = λ j y. subst (Third (game w)) (let s : SaysNo k ≡ SaysNo j = sym is ∙ y in (cc)) T;
         }
 
     yes-promise : (t m : ℕ) → verdict (game w) ≡ Yes t m → r ≡ SaysYes t m → e ≡ cardOf (game w) ++ drop (cardLength m (game w .observations)) d → Promise w work d r e
@@ -182,13 +182,13 @@ module _ (w work d : List ℕ) (r : Answer) (e : List ℕ) where
         let many : m ≡ length (cells g) = let s : Yes t m ≡ Yes (settling g) (length (cells g)) = sym v ∙ verdict-yes g won in (cc) in
         let front : written w m e ≡ cardOf g = ap (take (cardLength m (g .observations))) words ∙ take-at (cardOf g) (drop (cardLength m (g .observations)) d) (cardLength m (g .observations)) (card-size w m many) in
         let same : (t′ m′ : ℕ) → r ≡ SaysYes t′ m′ → cardOf g ≡ written w m′ e =
-          λ t′ m′ y. let s : SaysYes t m ≡ SaysYes t′ m′ = sym is ∙ y in let k : m ≡ m′ = cc in sym front ∙ ap (λ (n : ℕ). written w n e) k in
+        λ t′ m′ y. let s : SaysYes t m ≡ SaysYes t′ m′ = sym is ∙ y in let k : m ≡ m′ = cc in sym front ∙ ap (λ (n : ℕ). written w n e) k in
         record {
           yes-iff = λ room.
-            (λ y. decides g (accepted w fine) .yes-iff .0 (t, m, v), λ c. (t, m, is));
+              (λ y. decides g (accepted w fine) .yes-iff .0 (t, m, v), λ c. (t, m, is));
           yes-card = λ t′ m′ y. subst (λ (l : List ℕ). Second g (automaton l)) (same t′ m′ y) (words-win w fine won);
           yes-runs = λ t′ m′ y. subst (λ (l : List ℕ). (ρ : Strategy g) → Follows ρ (automaton l) → (p : Play) → PlayOf g p → Under ρ p → ran l (seen p) ≡ entered (cellAfter (automaton l) (seen p)) (actionAfter (automaton l) (seen p))) (same t′ m′ y) (words-run w fine won);
-          no-round = λ k y. yes-not-no t m k (sym is ∙ y)
+          no-round = λ k y. yes-not-no t m k (sym is ∙ y);
         }
 
     -- after the search: by the verdict, and by the room for the card
@@ -202,13 +202,13 @@ module _ (w work d : List ℕ) (r : Answer) (e : List ℕ) where
         let done = leaves (SaysYes t m) (cardOf g ++ drop need d) in
         ⊎-elim
         (λ h.
-          let s : leaves r e ≡ full = is ∙ ap (λ (b : Bool). cond b full done) h in
-          let many : m ≡ length (cells g) = let y : Yes t m ≡ Yes (settling g) (length (cells g)) = sym v ∙ verdict-yes g (yes-starts g t m v) in (cc) in
-          refused-promise 9 need (ap (λ (x : Leaves). x .answer) s)
-          (λ enough. omega (arith, ltb-true (length d) need h, subst (λ (n : ℕ). cardLength n (g .observations) ≤ length d) (sym many) (enough .card-room))))
+        let s : leaves r e ≡ full = is ∙ ap (λ (b : Bool). cond b full done) h in
+        let many : m ≡ length (cells g) = let y : Yes t m ≡ Yes (settling g) (length (cells g)) = sym v ∙ verdict-yes g (yes-starts g t m v) in (cc) in
+        refused-promise 9 need (ap (λ (x : Leaves). x .answer) s)
+        (λ enough. omega (arith, ltb-true (length d) need h, subst (λ (n : ℕ). cardLength n (g .observations) ≤ length d) (sym many) (enough .card-room))))
         (λ h.
-          let s : leaves r e ≡ done = is ∙ ap (λ (b : Bool). cond b full done) h in
-          yes-promise t m v (ap (λ (x : Leaves). x .answer) s) (ap (λ (x : Leaves). x .card) s))
+        let s : leaves r e ≡ done = is ∙ ap (λ (b : Bool). cond b full done) h in
+        yes-promise t m v (ap (λ (x : Leaves). x .answer) s) (ap (λ (x : Leaves). x .card) s))
         (decided (ltb (length d) need))
 
     fine-promise : (left : List ℕ) → outcome r left e ≡ afterCheck Fine (game w) work d → Promise w work d r e
@@ -221,11 +221,11 @@ module _ (w work d : List ℕ) (r : Answer) (e : List ℕ) where
         let done = outcome (by .answer) (fill need 0 work) (by .card) in
         ⊎-elim
         (λ h.
-          let s : outcome r left e ≡ short = is ∙ ap (λ (b : Bool). cond b short done) h in
-          refused-promise 8 need (ap (λ (x : Outcome). x .answer) s) (λ enough. omega (arith, ltb-true (length work) need h, enough .work-room)))
+        let s : outcome r left e ≡ short = is ∙ ap (λ (b : Bool). cond b short done) h in
+        refused-promise 8 need (ap (λ (x : Outcome). x .answer) s) (λ enough. omega (arith, ltb-true (length work) need h, enough .work-room)))
         (λ h.
-          let s : outcome r left e ≡ done = is ∙ ap (λ (b : Bool). cond b short done) h in
-          by-verdict-promise (verdict g) refl (ltb-false (length work) need h) (ap (λ (x : Outcome). leaves (x .answer) (x .card)) s))
+        let s : outcome r left e ≡ done = is ∙ ap (λ (b : Bool). cond b short done) h in
+        by-verdict-promise (verdict g) refl (ltb-false (length work) need h) (ap (λ (x : Outcome). leaves (x .answer) (x .card)) s))
         (decided (ltb (length work) need))
 
   checked-promise : (c : Checked) → checked w ≡ c → (left : List ℕ) → outcome r left e ≡ afterCheck c (game w) work d → Promise w work d r e

@@ -43,18 +43,19 @@ write-front-requires c κs =
     record {
       fine = start .pre .0;
       listed = start .pre .1;
-      room = length-take-le _ _ (prefix-room (game (start .args .table .now)) (start .args .cells .now) (start .args .card .now) (c .before .observations .result) (c .before .observations .ensures) (start .pre .2)) ∙ ap (λ (n : ℕ). 1 + n) (c .before .observations .ensures)
+      room = length-take-le _ _ (prefix-room (game (start .args .table .now)) (start .args .cells .now) (start .args .card .now) (c .before .observations .result) (c .before .observations .ensures) (start .pre .2)) ∙ ap (λ (n : ℕ). 1 + n) (c .before .observations .ensures);
     }
 
 loop-holds : tie.Need-loop-holds Inv-loop μ-loop
 loop-holds c =
     let start = c .before .before .before .before .before .before .before .before in
     let obs = c .before .before .before .before in
-    let wf = c .before .before in
-    (omega (arith, obs .observations .ensures, observations-at-most (start .args .table .now) (start .pre .0)),
-    cells-at-most (start .args .table .now) (start .pre .0) (start .args .cells .now) (start .pre .1),
-    carded-none (game (start .args .table .now)) (start .args .cells .now) (1 + obs .observations .result) (wf .write-front .last .1 .1 .0 ++ drop (1 + obs .observations .result) (start .args .card .now)) (ap (λ (n : ℕ). 1 + n) (obs .observations .ensures))
-    (front-room (game (start .args .table .now)) (start .args .cells .now) (start .pre .1) (1 + obs .observations .result) (ap (λ (n : ℕ). 1 + n) (obs .observations .ensures)) (start .args .card .now) (wf .write-front .last .1 .1 .0) (wf .write-front .ensures) (start .pre .2)))
+    let wf = c .before .before in (
+      omega (arith, obs .observations .ensures, observations-at-most (start .args .table .now) (start .pre .0)),
+      cells-at-most (start .args .table .now) (start .pre .0) (start .args .cells .now) (start .pre .1),
+      carded-none (game (start .args .table .now)) (start .args .cells .now) (1 + obs .observations .result) (wf .write-front .last .1 .1 .0 ++ drop (1 + obs .observations .result) (start .args .card .now)) (ap (λ (n : ℕ). 1 + n) (obs .observations .ensures))
+          (front-room (game (start .args .table .now)) (start .args .cells .now) (start .pre .1) (1 + obs .observations .result) (ap (λ (n : ℕ). 1 + n) (obs .observations .ensures)) (start .args .card .now) (wf .write-front .last .1 .1 .0) (wf .write-front .ensures) (start .pre .2)),
+    )
 
 mul-at : tie.Need-mul-at Inv-loop μ-loop
 mul-at c = omega (arith, parts-few (c .before .before .before .before .before .before .observations .result) (c .before .loop .c) (length (c .before .before .before .before .before .before .before .before .before .before .args .cells .now)) (c .before .loop .inv .0) (c .before .loop .inv .1) (c .before .loop .inv .2 .within))
@@ -87,9 +88,10 @@ write-cell-requires : tie.Need-write-cell-requires Inv-loop μ-loop
 write-cell-requires c κs =
     let lp = c .before .before .before in
     let start = lp .before .before .before .before .before .before .before .before .before in
-    let w = start .args .table .now in
-    (record { fine = start .pre .0; listed = start .pre .1; room = carded-part (game (lp .before .before .before .before .before .before .before .before .before .args .table .now)) (lp .before .before .before .before .before .before .before .before .before .args .cells .now) (1 + lp .before .before .before .before .before .observations .result) _ (lp .loop .c) (lp .loop .card) (lp .loop .inv .2) (c .before .before .loop-test .taken) },
-    cell-of (game w) (accepted w (start .pre .0)) (start .args .cells .now) (start .pre .1) (lp .loop .c) (c .before .before .loop-test .taken))
+    let w = start .args .table .now in (
+      record { fine = start .pre .0; listed = start .pre .1; room = carded-part (game (lp .before .before .before .before .before .before .before .before .before .args .table .now)) (lp .before .before .before .before .before .before .before .before .before .args .cells .now) (1 + lp .before .before .before .before .before .observations .result) _ (lp .loop .c) (lp .loop .card) (lp .loop .inv .2) (c .before .before .loop-test .taken) },
+      cell-of (game w) (accepted w (start .pre .0)) (start .args .cells .now) (start .pre .1) (lp .loop .c) (c .before .before .loop-test .taken),
+    )
 
 add-c : tie.Need-add-c Inv-loop μ-loop
 add-c c = search needs
