@@ -3,7 +3,6 @@ ghost use mathlib.Core.Path.{_≡_};
 ghost use Prim.Native.Nat.{_+_, _*_, _≤_, _<_};
 ghost use lib.ListN.{length};
 ghost use Rattle.solve.specs.Bytes.{word, wordsOf};
-
 use libc::STDIN_FILENO;
 use libc::STDOUT_FILENO;
 use solver::Answer;
@@ -19,7 +18,10 @@ fn word_at(bytes: &[u8], at: usize) -> u32
     requires { ⌜ at + 4 ≤ length (now bytes) ⌝ }
     ensures { λ r. ⌜ r ≡ word (now (bytes .entry)) at ⌝ }
 {
-    wide(bytes[at]) + 256 * wide(bytes[at + 1]) + 65536 * wide(bytes[at + 2]) + 16777216 * wide(bytes[at + 3])
+    wide(bytes[at])
+        + 256 * wide(bytes[at + 1])
+        + 65536 * wide(bytes[at + 2])
+        + 16777216 * wide(bytes[at + 3])
 }
 
 fn decode(bytes: &[u8], words: &mut [u32])
@@ -146,16 +148,30 @@ fn report(table: &[u32], work: &mut [u32], card: &mut [u32]) {
     print_card(card, part, cells as usize);
 }
 
-// Work for the most states, and document 01's card room.
+// Room for the words of the longest input.
+fn words_room() -> [u32; 1024]
+    ensures { λ r. ⌜ 1024 ≡ length r ⌝ }
+{
+    [0; 1024]
+}
+
+// Work for the most states, and as many words for the card.
+fn room() -> [u32; 16384]
+    ensures { λ r. ⌜ 16384 ≡ length r ⌝ }
+{
+    [0; 16384]
+}
+
 fn run(bytes: &[u8])
     requires { ⌜ length (now bytes) ≤ 4096 ⌝ }
 {
-    let mut words = [0u32; 1024];
-    let mut work = [0u32; 16384];
-    let mut card = [0u32; 16384];
+    let mut words = words_room();
+    let mut work = room();
+    let mut card = room();
     let n = bytes.len() / 4;
-    decode(&bytes[..4 * n], &mut words[..n]);
-    report(&words[..n], &mut work[..], &mut card[..]);
+    let whole = 4 * n;
+    decode(&bytes[..whole], &mut words[..n]);
+    report(&words[..n], &mut work, &mut card);
 }
 
 fn main() {

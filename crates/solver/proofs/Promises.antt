@@ -251,8 +251,8 @@ module _ (w work d : List ℕ) (t m : ℕ) where
       ⊎-elim
       (λ h. yes-not-refused t m 9 need (ap (λ (x : Leaves). x .answer) (is ∙ ap (λ (b : Bool). cond b full done) h)))
       (λ h.
-        let s : SaysYes t m ≡ SaysYes u n = ap (λ (x : Leaves). x .answer) (is ∙ ap (λ (b : Bool). cond b full done) h) in
-        subst (λ (k : ℕ). cardLength k (game w .observations) ≤ length d) (cc) (ltb-false (length d) need h))
+      let s : SaysYes t m ≡ SaysYes u n = ap (λ (x : Leaves). x .answer) (is ∙ ap (λ (b : Bool). cond b full done) h) in
+      subst (λ (k : ℕ). cardLength k (game w .observations) ≤ length d) (cc) (ltb-false (length d) need h))
       (decided (ltb (length d) need))
 
   checked-room : (c : Checked) → checked w ≡ c → (left e : List ℕ) → outcome (SaysYes t m) left e ≡ afterCheck c (game w) work d → (checked w ≡ Fine) × (cardLength m (game w .observations) ≤ length d)

@@ -28,16 +28,16 @@ loop-holds : tie.Need-loop-holds Inv-loop μ-loop
 loop-holds c = search needs
 
 mul-at : tie.Need-mul-at Inv-loop μ-loop
-mul-at c = ?a
+mul-at c = omega (arith, part-inside (c .before .before .before .before .before .args .part) (c .before .loop .c) (c .before .before .before .before .before .args .m) (length (c .before .before .before .before .before .args .card .now)) (c .loop-test .taken) (c .before .before .before .before .before .pre))
 
 add-at : tie.Need-add-at Inv-loop μ-loop
-add-at c = ?b
+add-at c = omega (arith, part-inside (c .before .before .before .before .before .args .part) (c .before .loop .c) (c .before .before .before .before .before .args .m) (length (c .before .before .before .before .before .args .card .now)) (c .loop-test .taken) (c .before .before .before .before .before .pre))
 
 add-print-part : tie.Need-add-print-part Inv-loop μ-loop
-add-print-part c = search needs
+add-print-part c = omega (arith, part-inside (c .before .before .before .before .before .args .part) (c .before .loop .c) (c .before .before .before .before .before .args .m) (length (c .before .before .before .before .before .args .card .now)) (c .loop-test .taken) (c .before .before .before .before .before .pre))
 
 mul-print-part : tie.Need-mul-print-part Inv-loop μ-loop
-mul-print-part c = search needs
+mul-print-part c = omega (arith, part-inside (c .before .before .before .before .before .args .part) (c .before .loop .c) (c .before .before .before .before .before .args .m) (length (c .before .before .before .before .before .args .card .now)) (c .loop-test .taken) (c .before .before .before .before .before .pre))
 
 sub-print-part : tie.Need-sub-print-part Inv-loop μ-loop
 sub-print-part c = search needs
