@@ -32,6 +32,29 @@ pub word-part : (w : List ℕ) (p : ℕ) → (p ≡ 0 → ⊥) → firstPlace (c
 unfolding wordFits
 word-part w p n l = rw (wordFits, ne-eqb p 0 n, le-ltb p (firstPlace (cardObservations w)) l)
 
+-- the same as the code has it, which read the head's fields before
+pub first-told : (w : List ℕ) (p m o : ℕ) → (p ≡ 0 → ⊥) → m ≡ cardCells w → o ≡ cardObservations w → p < 1 + o → cellNamed 9 m (p - 1) (getD w p 0) ≡ wordFits w p
+first-told w p m o n e f l =
+    ap (λ (k : ℕ). cellNamed 9 k (p - 1) (getD w p 0)) e ∙ sym (word-first w p n (subst (λ (k : ℕ). p < 1 + k) f l))
+
+pub part-told : (w : List ℕ) (p m a o : ℕ) → (p ≡ 0 → ⊥) → m ≡ cardCells w → a ≡ cardActions w → o ≡ cardObservations w → 1 + o ≤ p → partFits m a o (p - (1 + o)) (getD w p 0) ≡ wordFits w p
+part-told w p m a o n e g f l = rw (e, g, f) (sym (word-part w p n (subst (λ (k : ℕ). 1 + k ≤ p) f l)))
+
+pub named-told : (k m j x low y : ℕ) → low ≡ lowField x → y ≡ word k low j 0 → (eqb x y && (ltb low m || eqb low noCell)) ≡ cellNamed k m j x
+unfolding cellNamed
+named-told k m j x low y e f = rw (f, e)
+
+pub cell-told : (a x low action y : ℕ) → low ≡ lowField x → action ≡ actionField x → y ≡ word 10 low 0 action → (eqb x y && ltb low setLimit && ltb action a) ≡ cellFits a x
+unfolding cellFits
+cell-told a x low action y e g f = rw (f, e, g)
+
+pub head-told : (x low number action y : ℕ) (p q r : Bool) → low ≡ lowField x → number ≡ numberField x → action ≡ actionField x → y ≡ word 8 low number action → p ≡ upTo maxCells low → q ≡ upTo maxObservations number → r ≡ upTo maxActions action → (eqb x y && p && q && r) ≡ headFits x
+unfolding headFits
+head-told x low number action y p q r e h g f i j k = rw (i, j, k, f, e, h, g)
+
+pub length-told : (x m o : ℕ) → m ≡ lowField x → o ≡ numberField x → 1 + o + m * (1 + o) ≡ cardLength (lowField x) (numberField x)
+length-told x m o e f = rw (e, f)
+
 -- the parts of a cell, by their number
 pub part-cell : (m a o i x : ℕ) → i % (1 + o) ≡ 0 → partFits m a o i x ≡ cellFits a x
 unfolding partFits

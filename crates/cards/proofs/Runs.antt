@@ -20,7 +20,7 @@ use Rattle.cards.specs.declared.Move.the-variants.{Entered, Refused}
 use Rattle.cards.specs.Card.{cardObservations, automaton, checked, Fitting, Named}
 use Rattle.cards.specs.Run.{entered, enters, begun, followed, opened, stepped, moved, ranFrom, ran}
 use Rattle.cards.proofs.Checked.{fitting}
-use Rattle.cards.proofs.Running.{named-cell, enters-cell, begun-enters, followed-enters, opened-fine, stepped-fine}
+use Rattle.cards.proofs.Running.{named-cell, enters-cell, begun-enters, followed-outside, followed-enters, opened-fine, stepped-fine}
 use Rattle.cards.proofs.Written.{Agree, written-observations, written-checked, written-agrees}
 
 -- ---- one observation more
@@ -160,3 +160,14 @@ module _ (g : Game) (A : Automaton) (S : Second g A) (F : Fitting A (g .actions)
   -- document 01: played on any play of its table under the actions it gives, the card never meets 12, 13 or 14
   pub never-refused : (p : Play) → PlayOf g p → Under ρ p → ran (cardWords A (g .actions) (g .observations)) (seen p) ≡ entered (cellAfter A (seen p)) (actionAfter A (seen p))
   never-refused p m u = written-runs A (g .actions) (g .observations) F (play-way p m u)
+
+-- ---- before the opening: from cell 65,535 every step is refused, by 13, else by 12
+
+pub no-cell-refused : (w : List ℕ) (j : ℕ) → checked w ≡ Fine → stepped w noCell j ≡ Refused 12 noCell
+no-cell-refused w j e =
+    let l : automaton w .size ≤ noCell = omega (arith, fitting w e .cells) in
+    stepped-fine w noCell j e ∙ followed-outside (automaton w) (cardObservations w) noCell j l
+
+pub ran-none : (w : List ℕ) → checked w ≡ Fine → ran w [] ≡ Refused 12 noCell
+unfolding ran
+ran-none w e = no-cell-refused w 0 e

@@ -1,10 +1,9 @@
 -- `cards::head_fits` meets its contract.
 -- Assumes nothing.
 use borrow.Author.Needs.{needs}
-use Rattle.cards.specs.Card.{headFits}
+use Rattle.cards.proofs.Checked.{head-told}
 use Rattle.cards.proofs.head_fits.Statement.{statement}
 use Rattle.cards.proofs.head_fits.Tie as tie
 
 pub head-fits-spec : {M : Type 1} → statement M
-unfolding headFits
-head-fits-spec = tie.close (tie.spec (λ c κs. search needs) (λ c κs. search needs) (λ c κs. search needs) (λ c κs. search needs) (λ c κs. search needs) (λ c κs. search needs) (λ c κs. search needs) (λ c. cc))
+head-fits-spec = tie.close (tie.spec (λ c κs. search needs) (λ c κs. search needs) (λ c κs. search needs) (λ c κs. search needs) (λ c κs. search needs) (λ c κs. search needs) (λ c κs. search needs) (λ c. head-told _ _ _ _ _ _ _ _ (c .before .before .before .before .before .before .low-field .ensures) (c .before .before .before .before .before .number-field .ensures) (c .before .before .before .before .action-field .ensures) (c .before .before .before .word .ensures) (c .before .before .up-to .ensures) (c .before .up-to2 .ensures) (c .up-to3 .ensures)))
