@@ -1,13 +1,12 @@
 -- Bounds on products of two numbers of a table's head.
 -- Assumes nothing.
-use mathlib.Core.Path.{_≡_}
 use mathlib.Core.List.{List}
 use Prim.Native.Nat.{ℕ, suc, _+_, _*_, _≤_, _<_}
-use native.Mathlib.Nat.{mul-le-mul, mul-le-mul-right, suc-mul, le-of-lt}
+use native.Mathlib.Nat.{mul-le-mul, mul-le-mul-right, suc-mul}
 use native.Mathlib.Omega.{arith}
 use lib.ListN.{length, getD}
-use Rattle.games.specs.Words.{headStates, headActions}
-use Rattle.tables.specs.Layout.{Sized}
+use Rattle.games.specs.Words.{headStates, headActions, game}
+use Rattle.tables.specs.Layout.{Limited, Sized}
 
 -- bytes
 pub product-below : (a n : ℕ) → a < 256 → n < 256 → a * n ≤ 65025
@@ -31,3 +30,8 @@ slot-below a A n i p q =
 pub table-short : (w : List ℕ) → Sized w → length w ≤ 107
 table-short w h =
     omega (arith, moves-below (headActions (getD w 0 0)) (headStates (getD w 0 0)) (h .limits .most-actions) (h .limits .most-states))
+
+-- the numbers that the game of a table has
+pub game-limited : (w : List ℕ) → Sized w → Limited (game w .states) (game w .actions) (game w .observations)
+unfolding game
+game-limited w h = h .limits

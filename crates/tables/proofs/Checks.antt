@@ -1,24 +1,24 @@
 -- The table checks, one answer after the other, and what `Fine` tells of a table.
 -- Assumes nothing.
-use mathlib.Core.Path.{_≡_, refl, sym, ap, _∙_, subst}
+use mathlib.Core.Path.{_≡_, refl}
 use mathlib.Core.Bool.{Bool, true, false, cond, not, _&&_, _||_}
 use mathlib.Core.List.{List}
 use Prim.Native.Nat.{ℕ, zero, suc, _+_, _/_, _^_, _≤_, _<_}
 use native.Mathlib.Omega.{arith}
-use lib.Dec.{eqb, leb, ltb}
+use borrow.Author.Tests.{eq-eqb, ne-eqb, eqb-true, eqb-false, leb-true, leb-false, lt-ltb, not-false}
+use lib.Dec.{eqb, leb}
 use lib.ListN.{length, getD}
-use borrow.Author.Tests.{eq-eqb, ne-eqb, eqb-true, eqb-false, leb-true, leb-false, lt-ltb, not-true, not-false}
 use Rattle.sets.specs.Bounded.{first, any, Found, nothing, found}
-use Rattle.sets.proofs.Logic.{and-left, and-right, and-intro, and-false-left, or-left, or-right, or-false-left, or-false-right, false-not, true-not, clash}
-use Rattle.sets.proofs.Bounded.{first-zero, first-skip, first-stop, first-nothing, any-zero, any-more, any-intro, any-found}
+use Rattle.sets.proofs.Logic.{and-left, and-right, or-false-left, or-false-right, false-not, true-not}
+use Rattle.sets.proofs.Bounded.{first-zero, first-skip, first-stop, first-nothing, any-intro, any-found}
 use Rattle.sets.specs.Mask.{member}
 use Rattle.games.specs.Game.{Game, Shows, Accepted}
 use Rattle.games.specs.Words.{lowField, headStates, headActions, headObservations, tableLength, startPlace, movePlace, game}
 use Rattle.tables.specs.Layout.{maxStates, maxActions, maxObservations, bareWord, Limited, Sized}
 use Rattle.tables.specs.Check.{andThen, atFound, within, tooWide, limitsHold, headRight, sizeChecked, placed, faulty, wordsChecked, unseen, setsChecked, checked}
-use Rattle.tables.proofs.Bounds.{slot-below}
 use Rattle.tables.specs.declared.Checked.{Checked}
 use Rattle.tables.specs.declared.Checked.the-variants.{Fine, Refused}
+use Rattle.tables.proofs.Bounds.{slot-below}
 
 -- ---- 1, 2 and 3
 
@@ -229,6 +229,9 @@ module _ (w : List ℕ) (fine : checked w ≡ Fine) where
 
   pub fine-words : wordsChecked w ≡ Fine
   fine-words = fine-parts .1
+
+  pub fine-sets : setsChecked (game w) ≡ Fine
+  fine-sets = fine-parts .2
 
   pub fine-head : headRight (getD w 0 0) ≡ true
   fine-head = size-passed w (fine-parts .0) .0

@@ -1,27 +1,26 @@
 -- Reading: the fields that the code collects are the game's.
 -- Assumes nothing.
-use mathlib.Core.Path.{_≡_, refl, sym, ap, ap₂, _∙_, subst}
+use mathlib.Core.Path.{_≡_, refl, sym, ap, ap₂, _∙_}
 use mathlib.Core.Bool.{Bool, true, false, cond, _&&_, _||_}
 use mathlib.Core.List.{List}
 use Prim.Native.Nat.{ℕ, _+_, _-_, _^_, _*_, _/_, _%_, _≤_, _<_}
 use native.Mathlib.Nat.{div-add-mod'}
 use native.Mathlib.Omega.{arith}
-use lib.Dec.{eqb, leb, ltb}
-use lib.ListN.{length, getD, replicate}
 use borrow.Author.Tests.{leb-false, eq-eqb, ne-eqb, lt-ltb, le-ltb, le-leb, lt-leb}
+use lib.Dec.{eqb, ltb}
+use lib.ListN.{length, getD, replicate}
 use Rattle.sets.specs.Bounded.{all, first, nothing}
 use Rattle.sets.proofs.Logic.{and-intro, and-false-right}
 use Rattle.sets.proofs.Bounded.{all-refuted, first-zero, first-skip, first-stop, first-nothing}
 use Rattle.games.specs.Game.{Game}
-use Rattle.games.specs.Words.{lowField, headStates, headActions, headObservations, game}
+use Rattle.games.specs.Words.{lowField, headStates, headObservations, game}
 use Rattle.tables.specs.Layout.{Limited, bareWord}
 use Rattle.tables.specs.Check.{andThen, limitsHold, tooWide, setsChecked, checked}
 use Rattle.tables.specs.Fields.{filledBy, masksFrom, fieldsOf, noFields, readOf, gameOf, maskAt, wordsLength, unusedZero, wideAt, slotsChecked, masksChecked, fieldsChecked, wordAt, leaves, writtenTo, writeOf}
 use Rattle.tables.specs.declared.Checked.the-variants.{Fine, Refused}
 use Rattle.tables.specs.declared.Written.the-variants.{Words}
-use Rattle.tables.specs.declared.Written.the-variants as written
 use Rattle.tables.specs.declared.Fields.{Fields}
-use Rattle.tables.specs.declared.ReadFields.{ReadFields}
+use Rattle.tables.specs.declared.Written.the-variants as written
 use Rattle.tables.proofs.Checks.{never, cond-fine, found-none, then-fine, limits-hold}
 use Rattle.tables.proofs.Fills.{filled-ext}
 

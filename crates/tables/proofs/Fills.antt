@@ -2,14 +2,13 @@
 -- Assumes nothing.
 use mathlib.Core.Path.{_≡_, refl, sym, ap, ap₂, _∙_, subst}
 use mathlib.Core.List.{List, [], _∷_, _++_, append-assoc}
+use mathlib.Core.Logic.{_⊎_, ⊎-elim}
 use Prim.Native.Nat.{ℕ, zero, suc, _+_, _-_, _≤_, _<_}
-use native.Mathlib.Nat.{le-refl, le-step}
+use native.Mathlib.Nat.{le-refl, le-step, eq-or-lt-of-le, le-of-suc-le-suc, not-suc-le-zero}
 use native.Mathlib.Numerals.{add-one}
 use native.Mathlib.Omega.{arith}
 use lib.ListN.{length, getD, set, drop, length-append, length-drop, List·getD-append}
-use lib.Seq.{drop-cons, set-at, getD-append-add, getD-drop, getD-at, take-suc}
-use mathlib.Core.Logic.{_⊎_, ⊎-elim}
-use native.Mathlib.Nat.{eq-or-lt-of-le, le-of-suc-le-suc, not-suc-le-zero}
+use lib.Seq.{drop-cons, set-at, getD-append-add, getD-drop, getD-at}
 use Rattle.sets.specs.Bounded.{gather}
 use Rattle.tables.specs.Fields.{filledBy}
 

@@ -1,11 +1,11 @@
 -- The fields of a game mean the game: what the checks on fields say of it.
 -- Assumes nothing.
-use mathlib.Core.Path.{_≡_, refl, sym, ap, _∙_, subst}
-use mathlib.Core.Bool.{Bool, true, false, cond, not}
+use mathlib.Core.Path.{_≡_, refl, sym, ap, ap₂, _∙_, subst}
+use mathlib.Core.Bool.{cond, not}
 use mathlib.Core.List.{List}
 use Prim.Native.Nat.{ℕ, _<_}
 use lib.Dec.{eqb}
-use lib.ListN.{getD, replicate}
+use lib.ListN.{replicate}
 use Rattle.sets.specs.Mask.{member}
 use Rattle.sets.specs.Bounded.{any, first, Found}
 use Rattle.sets.proofs.Bounded.{any-ext, first-ext}
@@ -19,19 +19,24 @@ use Rattle.tables.specs.declared.Fields.{Fields}
 use Rattle.tables.proofs.Checks.{sets-decide}
 use Rattle.tables.proofs.Fills.{getD-filled}
 
-module _ (g : Game) where
-  unseen-same : (i : ℕ) → unseen (gameOf (fieldsOf g)) i ≡ unseen g i
-  unfolding unseen gameOf fieldsOf
-  unseen-same i =
+-- 6 and 7 look at the start set and at the states that the observations have
+module _ (g h : Game) (counted : g .states ≡ h .states) (seen : g .observations ≡ h .observations) (begun : g .start ≡ h .start) (shown : (j : ℕ) → j < g .observations → g .shown j ≡ h .shown j) where
+  unseen-ext : (i : ℕ) → unseen g i ≡ unseen h i
+  unfolding unseen
+  unseen-ext i =
       ap not
-      (any-ext (g .observations) (λ j. member (gameOf (fieldsOf g) .shown j) i) (λ j. member (g .shown j) i)
-      (λ j l. ap (λ (m : ℕ). member m i) (getD-filled (g .shown) (g .observations) (replicate 8 0) j l)))
+      (any-ext (g .observations) (λ j. member (g .shown j) i) (λ j. member (h .shown j) i) (λ j l. ap (λ (m : ℕ). member m i) (shown j l))
+      ∙ ap (λ (k : ℕ). any k (λ j. member (h .shown j) i)) seen)
 
-  pub sets-same : setsChecked (gameOf (fieldsOf g)) ≡ setsChecked g
-  unfolding setsChecked gameOf fieldsOf
-  sets-same =
-      ap (λ (x : Found). cond (eqb (g .start) 0) (Refused 6 1) (atFound x (λ i. Refused 7 i) Fine))
-      (first-ext (g .states) (unseen (gameOf (fieldsOf g))) (unseen g) (λ i l. unseen-same i))
+  pub sets-ext : setsChecked g ≡ setsChecked h
+  unfolding setsChecked
+  sets-ext =
+      ap₂ (λ (s : ℕ) (x : Found). cond (eqb s 0) (Refused 6 1) (atFound x (λ i. Refused 7 i) Fine)) begun
+      (first-ext (g .states) (unseen g) (unseen h) (λ i l. unseen-ext i) ∙ ap (λ (k : ℕ). first k (unseen h)) counted)
+
+pub sets-same : (g : Game) → setsChecked (gameOf (fieldsOf g)) ≡ setsChecked g
+unfolding gameOf fieldsOf
+sets-same g = sets-ext (gameOf (fieldsOf g)) g refl refl refl (λ j l. getD-filled (g .shown) (g .observations) (replicate 8 0) j l)
 
 module _ (w : List ℕ) (f : Fields) (read : f ≡ fieldsOf (game w)) where
   pub fields-limited : Sized w → Limited (f .states) (f .actions) (f .observations)

@@ -1,12 +1,13 @@
 -- The walk over the members of a set: what holds before each turn, and its two answers.
 -- Assumes nothing.
 use mathlib.Core.Path.{_≡_, refl, sym, ap, _∙_, subst}
-use mathlib.Core.Bool.{Bool, true, false, not, _||_}
+use mathlib.Core.Bool.{Bool, true, false, cond, not, _||_}
 use mathlib.Core.List.{List}
 use Prim.Native.Nat.{ℕ, _+_, _<_}
+use native.Mathlib.Omega.{arith}
+use borrow.Author.Tests.{eq-eqb, ne-eqb}
 use lib.Dec.{eqb}
 use lib.ListN.{getD}
-use borrow.Author.Tests.{eq-eqb, ne-eqb}
 use Rattle.sets.specs.Mask.{member, union, unionOver}
 use Rattle.sets.specs.Bounded.{all}
 use Rattle.sets.proofs.Logic.{and-intro, or-left, or-right, or-false-intro, true-not, false-not}
@@ -14,10 +15,9 @@ use Rattle.sets.proofs.Bounded.{all-zero, all-more, all-refuted}
 use Rattle.sets.proofs.Mask.{unionOver-zero, unionOver-hit, unionOver-skip}
 use Rattle.games.specs.Game.{Game, enabled}
 use Rattle.games.specs.Step.{enabledAt, post}
-use Rattle.games.specs.Words.{lowField, headStates, headObservations, tableLength, game}
+use Rattle.games.specs.Words.{headStates, headObservations, tableLength, game}
 use Rattle.tables.specs.Fields.{masksFrom}
 use Rattle.tables.specs.Walk.{walked}
-use Rattle.tables.specs.declared.Walked.{Walked}
 use Rattle.tables.specs.declared.Walked.the-variants.{Blocked, Post}
 
 -- i is not a member of s, or f gives it something
@@ -58,3 +58,22 @@ module _ (w : List ℕ) (s a base : ℕ) (here : base ≡ tableLength (headState
   walked-blocked i l m e =
       let z : masksFrom w (tableLength (headStates (getD w 0 0)) a (headObservations (getD w 0 0))) i ≡ 0 = subst (λ (b : ℕ). masksFrom w b i ≡ 0) here e in
       rw (all-refuted (headStates (getD w 0 0)) (passes s (masksFrom w (tableLength (headStates (getD w 0 0)) a (headObservations (getD w 0 0))))) i l (or-false-intro (true-not m) (true-not (eq-eqb _ 0 z))))
+
+-- ---- what an answer of the walk says
+
+cond-post : (b : Bool) (v u : ℕ) → cond b (Post v) Blocked ≡ Post u → (b ≡ true) × (u ≡ v)
+cond-post true v u e = (refl, cc)
+cond-post false v u e = let z : _≡_ {A = ℕ} 0 1 = cc in absurd (omega arith)
+
+cond-blocked : (b : Bool) (v : ℕ) → cond b (Post v) Blocked ≡ Blocked → b ≡ false
+cond-blocked true v e = let z : _≡_ {A = ℕ} 0 1 = cc in absurd (omega arith)
+cond-blocked false v e = refl
+
+module _ (g : Game) (s a : ℕ) where
+  pub post-is : (u : ℕ) → walked g s a ≡ Post u → (enabledAt g s a ≡ true) × (u ≡ post g s a)
+  unfolding walked
+  post-is u e = cond-post (enabledAt g s a) (post g s a) u e
+
+  pub blocked-is : walked g s a ≡ Blocked → enabledAt g s a ≡ false
+  unfolding walked
+  blocked-is e = cond-blocked (enabledAt g s a) (post g s a) e

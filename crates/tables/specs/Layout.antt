@@ -1,9 +1,9 @@
 -- What stands at each place of a table (document 01, "Words"), and its limits.
 -- Assumes nothing.
 use mathlib.Core.Path.{_≡_}
-use mathlib.Core.Bool.{Bool, true, false, cond}
+use mathlib.Core.Bool.{cond}
 use mathlib.Core.List.{List}
-use Prim.Native.Nat.{ℕ, _+_, _-_, _/_, _%_, _≤_}
+use Prim.Native.Nat.{ℕ, _-_, _/_, _%_, _≤_}
 use lib.Dec.{eqb, ltb}
 use lib.ListN.{length, getD}
 use Rattle.games.specs.Words.{word, headStates, headActions, headObservations, startPlace, badPlace, shownPlace, tableLength}

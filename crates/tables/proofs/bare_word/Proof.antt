@@ -1,13 +1,13 @@
-use Rattle.tables.proofs.Layouts.{bare-start, bare-bad, bare-shown, bare-move, rest-le}
+-- `tables::bare_word` meets its contract: one law for each kind of word.
+-- Assumes nothing.
+use mathlib.Core.Path.{sym}
+use Prim.Native.Nat.{_+_, _-_}
 use native.Mathlib.Omega.{arith}
 use native.Mathlib.Nat.{div-le-self}
-use Prim.Native.Nat.{_+_, _-_}
-use mathlib.Core.Path.{sym}
 use borrow.Author.Needs.{needs}
+use Rattle.tables.proofs.Layouts.{bare-start, bare-bad, bare-shown, bare-move, rest-le}
 use Rattle.tables.proofs.bare_word.Statement.{statement}
 use Rattle.tables.proofs.bare_word.Tie as tie
-use Rattle.tables.proofs.bare_word.Reads as reads
-use Rattle.tables.proofs.bare_word.Lts as lts
 
 cast-p : tie.Need-cast-p
 cast-p c = search needs

@@ -1,15 +1,11 @@
-use Rattle.tables.proofs.Same.{fields-limited, fields-decide}
-use Rattle.tables.proofs.Checks.{size-sized, size-stops, words-stop}
+-- `tables::check` meets its contract: one check after the other.
+-- Assumes nothing.
 use mathlib.Core.Path.{sym, _∙_}
 use borrow.Author.Needs.{needs}
+use Rattle.tables.proofs.Same.{fields-limited, fields-decide}
+use Rattle.tables.proofs.Checks.{size-sized, size-stops, words-stop}
 use Rattle.tables.proofs.check.Statement.{statement}
 use Rattle.tables.proofs.check.Tie as tie
-use Rattle.tables.proofs.check.Reads as reads
-use Rattle.tables.proofs.check.Lts as lts
-use Rattle.tables.proofs.check_sets.Reads as check-sets-reads
-use Rattle.tables.proofs.check_size.Reads as check-size-reads
-use Rattle.tables.proofs.check_words.Reads as check-words-reads
-use Rattle.tables.proofs.fields_of.Reads as fields-of-reads
 
 check-size-requires : tie.Need-check-size-requires
 check-size-requires c κs = search needs

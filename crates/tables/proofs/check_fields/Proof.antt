@@ -1,13 +1,10 @@
-use Rattle.tables.proofs.Fieldwise.{slots-limited, slots-stop, masks-stop, sets-end}
+-- `tables::check_fields` meets its contract: one check after the other.
+-- Assumes nothing.
 use mathlib.Core.Path.{sym, _∙_}
 use borrow.Author.Needs.{needs}
+use Rattle.tables.proofs.Fieldwise.{slots-limited, slots-stop, masks-stop, sets-end}
 use Rattle.tables.proofs.check_fields.Statement.{statement}
 use Rattle.tables.proofs.check_fields.Tie as tie
-use Rattle.tables.proofs.check_fields.Reads as reads
-use Rattle.tables.proofs.check_fields.Lts as lts
-use Rattle.tables.proofs.check_masks.Reads as check-masks-reads
-use Rattle.tables.proofs.check_sets.Reads as check-sets-reads
-use Rattle.tables.proofs.check_slots.Reads as check-slots-reads
 
 check-slots-requires : tie.Need-check-slots-requires
 check-slots-requires c κs = search needs

@@ -1,20 +1,16 @@
-use Rattle.tables.specs.Fields.{wordsLength}
-use Rattle.tables.proofs.Fieldwise.{masks-none, wide-at, narrow-at, masks-wide, masks-fine}
-use Rattle.tables.proofs.Bounds.{moves-below}
-use Rattle.tables.specs.Fields.{gameOf, wideAt}
-use Rattle.sets.proofs.Bounded.{first-skip}
-use Rattle.sets.specs.Bounded.{first, nothing}
+-- `tables::check_masks` meets its contract: before each turn no mask so far is too wide.
+-- Assumes nothing.
+use mathlib.Core.Path.{_≡_, sym}
 use Prim.Native.Nat.{_≤_, _-_}
 use native.Mathlib.Omega.{arith}
 use borrow.Author.Needs.{needs}
-use mathlib.Core.Path.{_≡_, sym, ap, _∙_}
+use Rattle.sets.proofs.Bounded.{first-skip}
+use Rattle.sets.specs.Bounded.{first, nothing}
+use Rattle.tables.specs.Fields.{wordsLength, gameOf, wideAt}
+use Rattle.tables.proofs.Fieldwise.{masks-none, wide-at, narrow-at, masks-wide, masks-fine}
+use Rattle.tables.proofs.Bounds.{moves-below}
 use Rattle.tables.proofs.check_masks.Statement.{statement}
 use Rattle.tables.proofs.check_masks.Tie as tie
-use Rattle.tables.proofs.check_masks.Reads as reads
-use Rattle.tables.proofs.check_masks.Lts as lts
-use Rattle.sets.proofs.single.Reads as single-reads
-use Rattle.tables.proofs.mask_at.Reads as mask-at-reads
-use Rattle.tables.proofs.words_of.Reads as words-of-reads
 
 abbrev Inv-loop : tie.InvT-loop
 Inv-loop f full words p₀ p = (1 ≤ p) × (p ≤ words) × (first p (wideAt (gameOf f)) ≡ nothing)

@@ -1,17 +1,16 @@
-use Rattle.tables.proofs.Checks.{sets-empty, sets-unseen, sets-fine}
-use Rattle.tables.specs.Check.{unseen}
-use Rattle.tables.specs.Fields.{gameOf}
-use Rattle.sets.proofs.Bounded.{first-zero, first-skip}
-use Rattle.sets.specs.Bounded.{first, nothing}
+-- `tables::check_sets` meets its contract: before each turn each state so far shows an observation.
+-- Assumes nothing.
+use mathlib.Core.Path.{_≡_, sym}
 use Prim.Native.Nat.{_≤_, _-_}
 use native.Mathlib.Omega.{arith}
 use borrow.Author.Needs.{needs}
-use mathlib.Core.Path.{_≡_, sym, ap, _∙_}
+use Rattle.sets.proofs.Bounded.{first-zero, first-skip}
+use Rattle.sets.specs.Bounded.{first, nothing}
+use Rattle.tables.specs.Check.{unseen}
+use Rattle.tables.specs.Fields.{gameOf}
+use Rattle.tables.proofs.Checks.{sets-empty, sets-unseen, sets-fine}
 use Rattle.tables.proofs.check_sets.Statement.{statement}
 use Rattle.tables.proofs.check_sets.Tie as tie
-use Rattle.tables.proofs.check_sets.Reads as reads
-use Rattle.tables.proofs.check_sets.Lts as lts
-use Rattle.tables.proofs.is_unseen.Reads as is-unseen-reads
 
 abbrev Inv-loop : tie.InvT-loop
 Inv-loop f n i₀ i = (i ≤ n) × (first i (unseen (gameOf f)) ≡ nothing)

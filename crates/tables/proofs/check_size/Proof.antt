@@ -1,12 +1,10 @@
-use Rattle.tables.proofs.Checks.{size-none, size-head, size-long, size-fine}
+-- `tables::check_size` meets its contract: one law for each answer.
+-- Assumes nothing.
 use mathlib.Core.Path.{sym, _∙_}
 use borrow.Author.Needs.{needs}
+use Rattle.tables.proofs.Checks.{size-none, size-head, size-long, size-fine}
 use Rattle.tables.proofs.check_size.Statement.{statement}
 use Rattle.tables.proofs.check_size.Tie as tie
-use Rattle.tables.proofs.check_size.Reads as reads
-use Rattle.tables.proofs.check_size.Lts as lts
-use Rattle.tables.proofs.head_right.Reads as head-right-reads
-use Rattle.tables.proofs.row.Reads as row-reads
 
 returns : tie.Need-returns
 returns c = sym (size-none (c .before .before .args .table .now) (c .if1 .taken))

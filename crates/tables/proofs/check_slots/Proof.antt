@@ -1,19 +1,16 @@
+-- `tables::check_slots` meets its contract: one law for each answer.
+-- Assumes nothing.
+use mathlib.Core.Bool.{true}
+use mathlib.Core.Path.{_≡_, sym}
+use Prim.Native.Nat.{_*_, _≤_, _-_}
+use native.Mathlib.Omega.{arith}
+use borrow.Author.Needs.{needs}
+use Rattle.tables.specs.Check.{limitsHold}
 use Rattle.tables.proofs.Fieldwise.{slots-limits, slots-dirty, slots-fine}
 use Rattle.tables.proofs.Checks.{limits-hold}
 use Rattle.tables.proofs.Bounds.{moves-below}
-use Rattle.tables.specs.Check.{limitsHold}
-use Prim.Native.Nat.{_*_}
-use mathlib.Core.Bool.{true}
-use Prim.Native.Nat.{_≤_, _-_}
-use native.Mathlib.Omega.{arith}
-use mathlib.Core.Path.{_≡_, sym, ap, _∙_}
-use borrow.Author.Needs.{needs}
 use Rattle.tables.proofs.check_slots.Statement.{statement}
 use Rattle.tables.proofs.check_slots.Tie as tie
-use Rattle.tables.proofs.check_slots.Reads as reads
-use Rattle.tables.proofs.check_slots.Lts as lts
-use Rattle.tables.proofs.limits_hold.Reads as limits-hold-reads
-use Rattle.tables.proofs.unused_zero.Reads as unused-zero-reads
 
 within : (c : tie.Then1) → limitsHold (c .before .before .args .f .states) (c .before .before .args .f .actions) (c .before .before .args .f .observations) ≡ true
 within c = cc

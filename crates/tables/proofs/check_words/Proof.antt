@@ -1,19 +1,16 @@
-use lib.ListN.{length}
-use Rattle.tables.proofs.Checks.{words-none, words-misplaced, words-wide, words-fine}
-use Rattle.tables.proofs.Bounds.{table-short}
-use Rattle.tables.specs.Check.{faulty}
-use Rattle.sets.proofs.Bounded.{first-skip}
-use Rattle.sets.specs.Bounded.{first, nothing}
+-- `tables::check_words` meets its contract: before each turn no word so far is faulty.
+-- Assumes nothing.
+use mathlib.Core.Path.{_≡_, sym}
+use Prim.Native.Nat.{_≤_, _-_}
 use native.Mathlib.Omega.{arith}
 use borrow.Author.Needs.{needs}
-use Prim.Native.Nat.{_≤_, _-_}
-use mathlib.Core.Path.{_≡_, sym, _∙_}
+use lib.ListN.{length}
+use Rattle.sets.proofs.Bounded.{first-skip}
+use Rattle.sets.specs.Bounded.{first, nothing}
+use Rattle.tables.specs.Check.{faulty}
+use Rattle.tables.proofs.Checks.{words-none, words-misplaced, words-wide, words-fine}
 use Rattle.tables.proofs.check_words.Statement.{statement}
 use Rattle.tables.proofs.check_words.Tie as tie
-use Rattle.tables.proofs.check_words.Reads as reads
-use Rattle.tables.proofs.check_words.Lts as lts
-use Rattle.tables.proofs.is_faulty.Reads as is-faulty-reads
-use Rattle.tables.proofs.is_placed.Reads as is-placed-reads
 
 abbrev Inv-loop : tie.InvT-loop
 Inv-loop table words p₀ p = (1 ≤ p) × (p ≤ words) × (first p (faulty table) ≡ nothing)

@@ -1,14 +1,14 @@
-use mathlib.Core.Path.{_≡_, sym, _∙_}
+-- `tables::copy_masks` meets its contract: before each turn the first i places hold masks, the rest is as it was.
+-- Assumes nothing.
+use mathlib.Core.Path.{_≡_}
 use Prim.Native.Nat.{_≤_, _-_}
-use borrow.Author.Needs.{needs}
 use native.Mathlib.Omega.{arith}
+use borrow.Author.Needs.{needs}
 use lib.ListN.{length}
 use Rattle.tables.specs.Fields.{filledBy, masksFrom}
 use Rattle.tables.proofs.Fills.{filled-none, filled-more}
 use Rattle.tables.proofs.copy_masks.Statement.{statement}
 use Rattle.tables.proofs.copy_masks.Tie as tie
-use Rattle.tables.proofs.copy_masks.Reads as reads
-use Rattle.tables.proofs.copy_masks.Lts as lts
 
 abbrev Inv-loop : tie.InvT-loop
 Inv-loop table base count out₀ i₀ out i = (i ≤ count) × (length out ≡ length out₀) × (out ≡ filledBy i (masksFrom table base) out₀)

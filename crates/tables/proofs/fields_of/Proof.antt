@@ -1,21 +1,15 @@
+-- `tables::fields_of` meets its contract: each field is the game's.
+-- Assumes nothing.
+use mathlib.Core.Path.{_≡_, ap₂}
+use Prim.Native.Nat.{_*_}
+use native.Mathlib.Omega.{arith}
+use borrow.Author.Needs.{needs}
+use lib.ListN.{getD}
+use Rattle.games.specs.Words.{headStates, headActions, game}
 use Rattle.tables.proofs.Fieldwise.{fields-are}
 use Rattle.tables.proofs.Bounds.{moves-below}
-use Rattle.games.specs.Words.{headStates, headActions, game}
-use lib.ListN.{getD}
-use native.Mathlib.Omega.{arith}
-use Prim.Native.Nat.{_*_}
-use mathlib.Core.Path.{_≡_, ap₂}
-use borrow.Author.Needs.{needs}
 use Rattle.tables.proofs.fields_of.Statement.{statement}
 use Rattle.tables.proofs.fields_of.Tie as tie
-use Rattle.tables.proofs.fields_of.Reads as reads
-use Rattle.tables.proofs.fields_of.Lts as lts
-use Rattle.tables.proofs.actions.Reads as actions-reads
-use Rattle.tables.proofs.bad.Reads as bad-reads
-use Rattle.tables.proofs.copy_masks.Reads as copy-masks-reads
-use Rattle.tables.proofs.observations.Reads as observations-reads
-use Rattle.tables.proofs.start.Reads as start-reads
-use Rattle.tables.proofs.states.Reads as states-reads
 
 states-requires : tie.Need-states-requires
 states-requires c κs = search needs

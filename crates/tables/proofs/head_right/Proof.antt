@@ -1,10 +1,9 @@
+-- `tables::head_right` meets its contract: the two tests joined.
+-- Assumes nothing.
 use borrow.Author.Needs.{needs}
 use Rattle.tables.specs.Check.{headRight}
 use Rattle.tables.proofs.head_right.Statement.{statement}
 use Rattle.tables.proofs.head_right.Tie as tie
-use Rattle.tables.proofs.head_right.Reads as reads
-use Rattle.tables.proofs.head_right.Lts as lts
-use Rattle.tables.proofs.limits_hold.Reads as limits-hold-reads
 
 limits-hold-requires : tie.Need-limits-hold-requires
 limits-hold-requires c κs = search needs

@@ -1,11 +1,9 @@
-use Rattle.tables.proofs.Checks.{faulty-is}
+-- `tables::is_faulty` meets its contract: the two tests joined.
+-- Assumes nothing.
 use borrow.Author.Needs.{needs}
+use Rattle.tables.proofs.Checks.{faulty-is}
 use Rattle.tables.proofs.is_faulty.Statement.{statement}
 use Rattle.tables.proofs.is_faulty.Tie as tie
-use Rattle.tables.proofs.is_faulty.Reads as reads
-use Rattle.tables.proofs.is_faulty.Lts as lts
-use Rattle.sets.proofs.single.Reads as single-reads
-use Rattle.tables.proofs.is_placed.Reads as is-placed-reads
 
 shared-slice-read-n : tie.Need-shared-slice-read-n
 shared-slice-read-n c = search needs

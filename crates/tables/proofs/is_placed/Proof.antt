@@ -1,12 +1,11 @@
-use Rattle.tables.specs.Check.{placed}
-use Rattle.tables.proofs.Bounds.{table-short}
+-- `tables::is_placed` meets its contract: the word compared with that of its place.
+-- Assumes nothing.
 use native.Mathlib.Omega.{arith}
 use borrow.Author.Needs.{needs}
+use Rattle.tables.specs.Check.{placed}
+use Rattle.tables.proofs.Bounds.{table-short}
 use Rattle.tables.proofs.is_placed.Statement.{statement}
 use Rattle.tables.proofs.is_placed.Tie as tie
-use Rattle.tables.proofs.is_placed.Reads as reads
-use Rattle.tables.proofs.is_placed.Lts as lts
-use Rattle.tables.proofs.bare_word.Reads as bare-word-reads
 
 mul-w : tie.Need-mul-w
 mul-w c = search needs

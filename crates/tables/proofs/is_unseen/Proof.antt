@@ -1,20 +1,19 @@
-use Rattle.tables.proofs.Checks.{seen-at, seen-none}
-use Rattle.tables.specs.Fields.{gameOf}
+-- `tables::is_unseen` meets its contract: before each turn no observation so far is shown.
+-- Assumes nothing.
+use mathlib.Core.Bool.{false}
+use mathlib.Core.Path.{_≡_, sym, _∙_}
+use Prim.Native.Nat.{_≤_, _-_}
+use native.Mathlib.Omega.{arith}
+use borrow.Author.Needs.{needs}
+use lib.ListN.{getD}
 use Rattle.sets.proofs.Logic.{or-false-intro}
 use Rattle.sets.proofs.Bounded.{any-zero, any-more}
 use Rattle.sets.specs.Bounded.{any}
 use Rattle.sets.specs.Mask.{member}
-use lib.ListN.{length, getD}
-use mathlib.Core.Bool.{false}
-use Prim.Native.Nat.{_≤_, _-_}
-use native.Mathlib.Omega.{arith}
-use borrow.Author.Needs.{needs}
-use mathlib.Core.Path.{_≡_, sym, ap, _∙_}
+use Rattle.tables.specs.Fields.{gameOf}
+use Rattle.tables.proofs.Checks.{seen-at, seen-none}
 use Rattle.tables.proofs.is_unseen.Statement.{statement}
 use Rattle.tables.proofs.is_unseen.Tie as tie
-use Rattle.tables.proofs.is_unseen.Reads as reads
-use Rattle.tables.proofs.is_unseen.Lts as lts
-use Rattle.sets.proofs.member.Reads as member-reads
 
 abbrev Inv-loop : tie.InvT-loop
 Inv-loop i o shown j₀ j = (j ≤ o) × (any j (λ k. member (getD shown k 0) i) ≡ false)

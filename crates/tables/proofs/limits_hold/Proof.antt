@@ -1,10 +1,9 @@
+-- `tables::limits_hold` meets its contract: the three tests joined.
+-- Assumes nothing.
 use borrow.Author.Needs.{needs}
 use Rattle.tables.specs.Check.{limitsHold}
 use Rattle.tables.proofs.limits_hold.Statement.{statement}
 use Rattle.tables.proofs.limits_hold.Tie as tie
-use Rattle.tables.proofs.limits_hold.Reads as reads
-use Rattle.tables.proofs.limits_hold.Lts as lts
-use Rattle.tables.proofs.within.Reads as within-reads
 
 within-requires : tie.Need-within-requires
 within-requires c κs = search needs

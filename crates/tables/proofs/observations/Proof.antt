@@ -1,10 +1,10 @@
+-- `tables::observations` meets its contract: reads the head.
+-- Assumes nothing.
 use mathlib.Core.Path.{refl}
 use borrow.Author.Needs.{needs}
 use Rattle.games.specs.Words.{game}
 use Rattle.tables.proofs.observations.Statement.{statement}
 use Rattle.tables.proofs.observations.Tie as tie
-use Rattle.tables.proofs.observations.Reads as reads
-use Rattle.tables.proofs.observations.Lts as lts
 
 shared-slice-read-result : tie.Need-shared-slice-read-result
 shared-slice-read-result c = search needs

@@ -1,13 +1,10 @@
+-- `tables::read` meets its contract: the answer of `check`, with its fields.
+-- Assumes nothing.
+use borrow.Author.Needs.{needs}
 use Rattle.tables.proofs.Fieldwise.{read-fine, read-refused}
 use Rattle.tables.proofs.Checks.{sized}
-use borrow.Author.Needs.{needs}
 use Rattle.tables.proofs.read.Statement.{statement}
 use Rattle.tables.proofs.read.Tie as tie
-use Rattle.tables.proofs.read.Reads as reads
-use Rattle.tables.proofs.read.Lts as lts
-use Rattle.tables.proofs.check.Reads as check-reads
-use Rattle.tables.proofs.fields_of.Reads as fields-of-reads
-use Rattle.tables.proofs.no_fields.Reads as no-fields-reads
 
 check-requires : tie.Need-check-requires
 check-requires c κs = search needs

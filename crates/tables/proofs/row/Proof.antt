@@ -1,11 +1,11 @@
+-- `tables::row` meets its contract: sums and products of bytes fit.
+-- Assumes nothing.
 use Prim.Native.Nat.{_%_}
 use native.Mathlib.Omega.{arith}
-use Rattle.tables.proofs.Bounds.{product-below}
 use borrow.Author.Needs.{needs}
+use Rattle.tables.proofs.Bounds.{product-below}
 use Rattle.tables.proofs.row.Statement.{statement}
 use Rattle.tables.proofs.row.Tie as tie
-use Rattle.tables.proofs.row.Reads as reads
-use Rattle.tables.proofs.row.Lts as lts
 
 add-result : tie.Need-add-result
 add-result c = search needs

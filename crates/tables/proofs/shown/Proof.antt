@@ -1,11 +1,11 @@
+-- `tables::shown` meets its contract: reads the observation's word.
+-- Assumes nothing.
 use mathlib.Core.Path.{refl}
 use native.Mathlib.Omega.{arith}
-use Rattle.games.specs.Words.{game}
 use borrow.Author.Needs.{needs}
+use Rattle.games.specs.Words.{game}
 use Rattle.tables.proofs.shown.Statement.{statement}
 use Rattle.tables.proofs.shown.Tie as tie
-use Rattle.tables.proofs.shown.Reads as reads
-use Rattle.tables.proofs.shown.Lts as lts
 
 add-at : tie.Need-add-at
 unfolding game

@@ -1,13 +1,12 @@
-use Rattle.tables.proofs.Bounds.{slot-below}
-use Rattle.games.specs.Words.{game, headStates, headActions}
-use lib.ListN.{getD}
+-- `tables::successors` meets its contract: reads the word of the action and the state, which lies below the table's length.
+-- Assumes nothing.
 use native.Mathlib.Omega.{arith}
 use borrow.Author.Needs.{needs}
+use lib.ListN.{getD}
+use Rattle.games.specs.Words.{game, headStates, headActions}
+use Rattle.tables.proofs.Bounds.{slot-below}
 use Rattle.tables.proofs.successors.Statement.{statement}
 use Rattle.tables.proofs.successors.Tie as tie
-use Rattle.tables.proofs.successors.Reads as reads
-use Rattle.tables.proofs.successors.Lts as lts
-use Rattle.tables.proofs.row.Reads as row-reads
 
 shared-slice-read-row : tie.Need-shared-slice-read-row
 shared-slice-read-row c = search needs

@@ -1,9 +1,11 @@
+-- `tables::unused_zero` meets its contract: before each turn each slot so far is used or 0.
+-- Assumes nothing.
 use mathlib.Core.Path.{_≡_, sym, _∙_}
 use mathlib.Core.Bool.{true}
 use Prim.Native.Nat.{_≤_, _-_}
+use native.Mathlib.Omega.{arith}
 use borrow.Author.Needs.{needs}
 use borrow.Author.Tests.{not-true, not-false}
-use native.Mathlib.Omega.{arith}
 use lib.ListN.{length}
 use Rattle.sets.specs.Bounded.{all}
 use Rattle.sets.proofs.Bounded.{all-zero, all-more}
@@ -11,8 +13,6 @@ use Rattle.sets.proofs.Logic.{and-intro}
 use Rattle.tables.proofs.Fieldwise.{slotClean, unused-dirty, unused-clean}
 use Rattle.tables.proofs.unused_zero.Statement.{statement}
 use Rattle.tables.proofs.unused_zero.Tie as tie
-use Rattle.tables.proofs.unused_zero.Reads as reads
-use Rattle.tables.proofs.unused_zero.Lts as lts
 
 abbrev Inv-loop : tie.InvT-loop
 Inv-loop slots used j₀ j = (j ≤ length slots) × (all j (slotClean used slots) ≡ true)

@@ -1,21 +1,18 @@
-use Rattle.tables.specs.Fields.{masksFrom}
-use Prim.Native.Nat.{_+_, _<_}
-use lib.ListN.{length}
-use borrow.Author.Tests.{eq-eqb, ne-eqb}
+-- `tables::walk` meets its contract: before each turn no member so far is blocked, and u is what they have, united.
+-- Assumes nothing.
 use mathlib.Core.Logic.{⊎-elim}
 use mathlib.Core.Path.{_≡_, sym}
+use Prim.Native.Nat.{_+_, _<_, _≤_, _-_}
+use native.Mathlib.Omega.{arith}
+use borrow.Author.Tests.{eq-eqb, ne-eqb}
+use borrow.Author.Needs.{needs}
+use lib.ListN.{length, getD}
+use Rattle.games.specs.Words.{game, headStates, headActions}
+use Rattle.tables.specs.Fields.{masksFrom}
 use Rattle.tables.proofs.Walks.{Passed, passed-none, passed-skip, passed-more, walked-post, walked-blocked}
 use Rattle.tables.proofs.Bounds.{slot-below}
-use Rattle.games.specs.Words.{game, headStates, headActions}
-use lib.ListN.{getD}
-use native.Mathlib.Omega.{arith}
-use borrow.Author.Needs.{needs}
-use Prim.Native.Nat.{_≤_, _-_}
 use Rattle.tables.proofs.walk.Statement.{statement}
 use Rattle.tables.proofs.walk.Tie as tie
-use Rattle.tables.proofs.walk.Reads as reads
-use Rattle.tables.proofs.walk.Lts as lts
-use Rattle.tables.proofs.row.Reads as row-reads
 
 abbrev Inv-loop : tie.InvT-loop
 Inv-loop table s n base u₀ i₀ u i = (i ≤ n) × Passed s (masksFrom table base) i u

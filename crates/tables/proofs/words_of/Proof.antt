@@ -1,10 +1,10 @@
-use Rattle.tables.proofs.Bounds.{moves-below}
+-- `tables::words_of` meets its contract: the product is at most 96.
+-- Assumes nothing.
 use native.Mathlib.Omega.{arith}
 use borrow.Author.Needs.{needs}
+use Rattle.tables.proofs.Bounds.{moves-below}
 use Rattle.tables.proofs.words_of.Statement.{statement}
 use Rattle.tables.proofs.words_of.Tie as tie
-use Rattle.tables.proofs.words_of.Reads as reads
-use Rattle.tables.proofs.words_of.Lts as lts
 
 add-result : tie.Need-add-result
 add-result c = search needs

@@ -1,12 +1,10 @@
-use Rattle.tables.proofs.Fieldwise.{slots-limited, fields-passed, write-refused, write-fine}
+-- `tables::write` meets its contract: a refusal, or the words.
+-- Assumes nothing.
 use mathlib.Core.Path.{sym, _∙_}
 use borrow.Author.Needs.{needs}
+use Rattle.tables.proofs.Fieldwise.{slots-limited, fields-passed, write-refused, write-fine}
 use Rattle.tables.proofs.write.Statement.{statement}
 use Rattle.tables.proofs.write.Tie as tie
-use Rattle.tables.proofs.write.Reads as reads
-use Rattle.tables.proofs.write.Lts as lts
-use Rattle.tables.proofs.check_fields.Reads as check-fields-reads
-use Rattle.tables.proofs.write_words.Reads as write-words-reads
 
 check-fields-requires : tie.Need-check-fields-requires
 check-fields-requires c κs = search needs

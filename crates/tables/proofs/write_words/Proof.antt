@@ -1,17 +1,15 @@
-use Rattle.tables.proofs.Fieldwise.{written-none, written-done}
-use Rattle.tables.proofs.Fills.{filled-none, filled-more}
-use Rattle.tables.specs.Fields.{gameOf, filledBy, wordAt, wordsLength, leaves}
-use lib.ListN.{length}
+-- `tables::write_words` meets its contract: before each turn the first p places hold words, the rest is as it was.
+-- Assumes nothing.
+use mathlib.Core.Path.{_≡_}
 use Prim.Native.Nat.{_≤_, _-_}
 use native.Mathlib.Omega.{arith}
 use borrow.Author.Needs.{needs}
-use mathlib.Core.Path.{_≡_, sym, ap, _∙_}
+use lib.ListN.{length}
+use Rattle.tables.specs.Fields.{gameOf, filledBy, wordAt}
+use Rattle.tables.proofs.Fieldwise.{written-none, written-done}
+use Rattle.tables.proofs.Fills.{filled-none, filled-more}
 use Rattle.tables.proofs.write_words.Statement.{statement}
 use Rattle.tables.proofs.write_words.Tie as tie
-use Rattle.tables.proofs.write_words.Reads as reads
-use Rattle.tables.proofs.write_words.Lts as lts
-use Rattle.tables.proofs.word_at.Reads as word-at-reads
-use Rattle.tables.proofs.words_of.Reads as words-of-reads
 
 abbrev Inv-loop : tie.InvT-loop
 Inv-loop f out₀ words p₀ out p = (p ≤ words) × (length out ≡ length out₀) × (out ≡ filledBy p (wordAt (gameOf f)) out₀)
