@@ -4,11 +4,8 @@ use cards::Move;
 use games::Cell;
 use games::Observation;
 ghost use mathlib.Core.Path.{_≡_};
-ghost use Prim.Native.Nat.{_≤_};
-ghost use lib.ListN.{length};
 ghost use Rattle.games.specs.Automaton.{noCell};
 ghost use Rattle.cards.specs.Run.{opened, stepped, cellOr};
-ghost use Rattle.runner.specs.Runs.{firstOrLater, unrefused, ranOver, actionsOver, leaves, ranInto};
 
 pub struct Runner<'c> {
     pub card: &'c [u32],

@@ -2,12 +2,12 @@
 -- Assumes nothing.
 use mathlib.Core.Path.{_≡_, refl, sym, ap, subst, _∙_}
 use mathlib.Core.Bool.{Bool, true, false, cond, not}
-use mathlib.Core.List.{List}
-use Prim.Native.Nat.{ℕ, suc, _+_, _*_, _≤_, _<_}
+use mathlib.Core.List.{List, []}
+use Prim.Native.Nat.{ℕ, suc, _+_, _*_, _-_, _≤_, _<_}
 use native.Mathlib.Nat.{mul-le-mul-right, suc-mul}
 use native.Mathlib.Omega.{arith}
 use lib.Dec.{eqb, leb}
-use lib.ListN.{length, getD}
+use lib.ListN.{length, getD, take, drop}
 use borrow.Author.Tests.{eq-eqb, ne-eqb, le-leb, lt-leb, eqb-true, leb-false, not-false}
 use Rattle.games.specs.Words.{actionField, headStates, headObservations, tableLength, game, movePlace}
 use Rattle.tables.specs.Check.{checked as tableChecked}
@@ -19,7 +19,7 @@ use Rattle.cards.specs.declared.CardCheck.{CardCheck}
 use Rattle.cards.specs.declared.CardCheck.the-variants.{Fine as Right, Refused as Wrong}
 use Rattle.cards.proofs.Checked.{fitting, cell-in}
 use Rattle.cards.proofs.Running.{size-of, action-of}
-use Rattle.show.specs.Show.{located, afterCard, cardLocated, afterTable, found}
+use Rattle.show.specs.Show.{located, afterCard, cardLocated, afterTable, found, handed, partOf}
 use Rattle.show.specs.declared.Shown.{Shown}
 use Rattle.show.specs.declared.Shown.the-variants.{Part, Refused}
 
@@ -127,3 +127,16 @@ module _ (w k : List ℕ) (c at n : ℕ) where
       let t = afterTable-part (tableChecked w) _ at n e in
       let r = afterCard-part (cardChecked k) _ at n (t .1) in
       located-in (t .0) (r .0) (r .1)
+
+-- ---- what is handed back
+
+module _ (w k : List ℕ) (c : ℕ) (p : ℕ × ℕ) where
+  pub hands-part : (at n : ℕ) → found w k c ≡ Part at n → handed (take (at + n - at) (drop at w)) (p .0, at * 4 + p .1) ≡ partOf w p (found w k c)
+  hands-part at n e =
+      let l : at + n - at ≡ n = omega arith in
+      rw (e, l)
+
+  pub hands-none : (number place : ℕ) → found w k c ≡ Refused number place → handed [] (p .0, 0 * 4 + p .1) ≡ partOf w p (found w k c)
+  hands-none number place e =
+      let l : 0 * 4 + p .1 ≡ p .1 = omega arith in
+      rw (e, l)

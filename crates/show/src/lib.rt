@@ -31,7 +31,10 @@ fn locate(table: &[u32], card: &[u32], cell: Cell) -> Shown
     }
     let place = cards::cell_place(o, cell.0);
     let action = cards::action_field(card[place]);
-    Shown::Part(tables::row(table[0], action), tables::states(table) as usize)
+    Shown::Part(
+        tables::row(table[0], action),
+        tables::states(table) as usize,
+    )
 }
 
 // Refusals 13, 16 and 12.

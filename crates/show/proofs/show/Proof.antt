@@ -1,76 +1,52 @@
+-- `show::show` meets its contract.
+-- Assumes nothing.
+use mathlib.Core.Path.{sym, _∙_}
 use borrow.Author.Needs.{needs}
+use native.Mathlib.Omega.{arith}
+use denote.Ref.{now}
+use Rattle.show.proofs.Laws.{part-in, hands-part, hands-none}
 use Rattle.show.proofs.show.Statement.{statement}
 use Rattle.show.proofs.show.Tie as tie
-use Rattle.show.proofs.show.Reads as reads
-use Rattle.show.proofs.show.Lts as lts
-use Rattle.show.proofs.find.Reads as find-reads
 
--- src/lib.rt:62:30
-find-requires : tie.Need-find-requires
-find-requires c κs = search needs
-
--- src/lib.rt:62:21
-enum-known-at : tie.Need-enum-known-at
-enum-known-at c = search needs
-
--- src/lib.rt:63:16
-enum-told : tie.Need-enum-told
-enum-told c = search needs
-
--- src/lib.rt:63:16
-sub-result : tie.Need-sub-result
-sub-result c = search needs
-
--- src/lib.rt:63:16
-part-result-start : tie.Need-part-result-start
-part-result-start c = search needs
-
--- src/lib.rt:63:16
-part-result-end : tie.Need-part-result-end
-part-result-end c = search needs
-
--- src/lib.rt:63:9
-returns : tie.Need-returns
-returns c = ?
-
--- src/lib.rt:65:15
+-- the part lies in the table
 add-end : tie.Need-add-end
-add-end c = ?
+add-end c =
+    let v = c .before .at .given .0 in
+    let x = c .before .before .before .before .before .before .args in
+    omega (arith, part-in (now (x .table)) (now (x .card)) (x .cell .0) (v .0) (v .1 .0) (cc))
 
--- src/lib.rt:66:5
 mul-result : tie.Need-mul-result
-mul-result c = ?
+mul-result c =
+    let v = c .before .at .given .0 in
+    let x = c .before .before .before .before .before .before .args in
+    omega (arith, part-in (now (x .table)) (now (x .card)) (x .cell .0) (v .0) (v .1 .0) (cc))
 
--- src/lib.rt:66:5
-sub-result-2 : tie.Need-sub-result-2
-sub-result-2 c = search needs
-
--- src/lib.rt:66:5
-part-result-start-2 : tie.Need-part-result-start-2
-part-result-start-2 c = search needs
-
--- src/lib.rt:66:5
 part-result-end-2 : tie.Need-part-result-end-2
-part-result-end-2 c = ?
-
--- src/lib.rt:59:1
-returns-2 : tie.Need-returns-2
-returns-2 c = ?
+part-result-end-2 c =
+    let v = c .before .at .given .0 in
+    let x = c .before .before .before .before .before .before .args in
+    part-in (now (x .table)) (now (x .card)) (x .cell .0) (v .0) (v .1 .0) (cc)
 
 pub show-spec : {M : Type 1} → statement M
 show-spec =
     tie.close
     (tie.spec
-    find-requires
-    enum-known-at
-    enum-told
-    sub-result
-    part-result-start
-    part-result-end
-    returns
+    (λ c κs. search needs)
+    (λ c. search needs)
+    (λ c. search needs)
+    (λ c. search needs)
+    (λ c. search needs)
+    (λ c. search needs)
+    (λ c.
+    let v = c .before .enum-told .given .0 in
+    let x = c .before .before .before .before .before .before .args in
+    hands-none (now (x .table)) (now (x .card)) (x .cell .0) (x .table .ptr) (v .0) (v .1 .0) (cc))
     add-end
     mul-result
-    sub-result-2
-    part-result-start-2
+    (λ c. search needs)
+    (λ c. search needs)
     part-result-end-2
-    returns-2)
+    (λ c.
+    let v = c .before .before .at .given .0 in
+    let x = c .before .before .before .before .before .before .before .args in
+    hands-part (now (x .table)) (now (x .card)) (x .cell .0) (x .table .ptr) (v .0) (v .1 .0) (cc)))
