@@ -63,6 +63,7 @@ use Rattle.cards.proofs.next_cell as next
 use Rattle.cards.proofs.next_cell.Symbol as next-def
 use Rattle.cards.proofs.next_cell.Symbol.{name as #next}
 use Rattle.cards.proofs.next_cell.Met as next-thm
+use Rattle.runner.specs.Runs.{stands}
 use Rattle.runner.specs.declared.Runner.{Runner}
 use Rattle.runner.proofs.Runner as T
 use Rattle.runner.proofs.Runner.Laws as T′
@@ -185,7 +186,7 @@ module _ {M : Type 1} (𝓤 : URA M) (H : Heap 𝓤) (A : Atoms 𝓤) (W : Given
       → ent 𝓤 (⋆ 𝓤 H A (‵ (fobs γ (B κ′ .coded .code (moved r))) ∷ ‵ (fbor κ (Body (mem (B κ′)) b o γ)) ∷ ‵ (flft κ q) ∷ (‵ (flft κ′ q′) ⊛ ‵ ftrue) ∷ ‵ (S.the-row .own m (u ∷ [])) ∷ [])) (Post u)
   exits m u r e e′ =
       qed W (‵ (fobs γ (B κ′ .coded .code (moved r))) ∷ ‵ (fbor κ (Body (mem (B κ′)) b o γ)) ∷ ‵ (flft κ q) ∷ (‵ (flft κ′ q′) ⊛ ‵ ftrue) ∷ ‵ (S.the-row .own m (u ∷ [])) ∷ []) ∵
-      suffices ! _ (ends-at 𝓤 H A self.ended stayed (self.clauses 𝓤 H A at-mem run) W (((κ, (κ′, tt)), (q, (q′, tt)), bounds, x, at), tt) u m (moved r, (tt, tt)) (tt, (tt, tt))) $ says ! (e, refl, e′) $
+      suffices ! _ (ends-at 𝓤 H A self.ended stayed (self.clauses 𝓤 H A at-mem run) W (((κ, (κ′, tt)), (q, (q′, tt)), bounds, x, at), tt) u m (moved r, (tt, tt)) (tt, (tt, tt))) $ says ! (refl, λ i. stands (e′ i) (e i)) $
       move ! (2 ∷ 3 ∷ []) $ join ! $ frame ! $ feqI ! (List Val) (vptr b o ∷ []) (vptr b o ∷ []) refl $ fjoin3 ! $
       nothing ! $ owned ! O.the-row (Is O.the-row) (LL.makes O.the-type O′.the-plain 𝓤 H A) d _ d-is $ fjoin ! $ move ! (1 ∷ 0 ∷ []) $ fjoin ! $ done !
 

@@ -58,6 +58,7 @@ use Rattle.cards.proofs.begin as begin
 use Rattle.cards.proofs.begin.Symbol as begin-def
 use Rattle.cards.proofs.begin.Symbol.{name as #begin}
 use Rattle.cards.proofs.begin.Met as begin-thm
+use Rattle.runner.specs.Runs.{stands}
 use Rattle.runner.specs.declared.Runner.{Runner}
 use Rattle.runner.specs.declared.Opened.{Opened}
 use Rattle.runner.proofs.Runner as T
@@ -156,7 +157,7 @@ module _ {M : Type 1} (𝓤 : URA M) (H : Heap 𝓤) (A : Atoms 𝓤) (W : Given
   exits : (r : Cell) (m : Move) (u u′ : Val) → Told r → Answered m → ent 𝓤 (⋆ 𝓤 H A (‵ (P.the-row α .own (made r m) (made-mach u u′ ∷ [])) ∷ ‵ Own ∷ (‵ (flft κ q) ⊛ ‵ ftrue) ∷ [])) (Post (made-mach u u′))
   exits r m u u′ e e′ =
       qed W (‵ (P.the-row α .own (made r m) (made-mach u u′ ∷ [])) ∷ ‵ Own ∷ (‵ (flft κ q) ⊛ ‵ ftrue) ∷ []) ∵
-      suffices ! _ (ends-at 𝓤 H A self.ended stayed (self.clauses 𝓤 H A mem run) W (((κ, tt), (q, tt), tt, (s, (d, tt)), at), tt) (made-mach u u′) (made r m) (tt, (tt, tt)) (tt, (tt, tt))) $ says ! (refl, e, e′) $
+      suffices ! _ (ends-at 𝓤 H A self.ended stayed (self.clauses 𝓤 H A mem run) W (((κ, tt), (q, tt), tt, (s, (d, tt)), at), tt) (made-mach u u′) (made r m) (tt, (tt, tt)) (tt, (tt, tt))) $ says ! (refl, λ i. stands (e i) (e′ i)) $
       move ! (2 ∷ []) $ frame ! $ nothing ! $ owned ! O.the-row (Is O.the-row) (LL.makes O.the-type O′.the-plain 𝓤 H A) d _ d-is $ fjoin ! $ move ! (2 ∷ 0 ∷ []) $ fjoin ! $ frame ! $ done !
 
   module _ (C : Calls 𝓤 H) (Λ : Loops 𝓤 H) (fm : FmC 𝓤 H (W .laws) C) (known-first : Triple 𝓤 (C #first) (First 𝓤 H A mem run)) (known-begin : Triple 𝓤 (C #begin) (Begin 𝓤 H A mem run)) where
