@@ -1,74 +1,35 @@
+-- `runner::write_actions` meets its contract.
+-- Assumes nothing.
+use mathlib.Core.Path.{_≡_}
+use Prim.Native.Nat.{_-_}
+use native.Mathlib.Omega.{arith}
+use borrow.Author.Needs.{needs}
+use lib.ListN.{length}
+use denote.Ref.{now}
+use Rattle.runner.proofs.Laws.{Wrote, wrote-none, wrote-more, wrote-all, same-length, no-stop}
 use Rattle.runner.proofs.write_actions.Statement.{statement}
 use Rattle.runner.proofs.write_actions.Tie as tie
-use Rattle.runner.proofs.write_actions.Reads as reads
-use Rattle.runner.proofs.write_actions.Lts as lts
-use Rattle.runner.proofs.move_on.Reads as move-on-reads
 
 abbrev Inv-loop : tie.InvT-loop
-Inv-loop card seen out₀ cell₀ i₀ out cell i = ?
+Inv-loop card seen out₀ cell₀ i₀ out cell i = Wrote card seen out₀ out i cell
 
 abbrev μ-loop : tie.MeasureT-loop
-μ-loop card seen out₀ cell₀ i₀ out cell i = ?
+μ-loop card seen out₀ cell₀ i₀ out cell i = length seen - i
 
--- src/lib.rt:91:5
-loop-holds : tie.Need-loop-holds Inv-loop μ-loop
-loop-holds c = ?
+-- a refusal cannot come
+refused : (c : tie.After-enum-told Inv-loop μ-loop) → ⊥
+refused c =
+    let turn = c .before .before .before .before in
+    let loop = turn .before in
+    let s = loop .before .before .before .before in
+    let v = c .enum-told .given .0 in
+    no-stop (now (s .args .card)) (now (s .args .seen)) (loop .loop .i) (loop .loop .cell) (loop .loop .inv .at) (turn .loop-test .taken) (v .0) (v .1 .0) (cc) (s .pre .1)
 
--- src/lib.rt:92:56
-mul-t8 : tie.Need-mul-t8 Inv-loop μ-loop
-mul-t8 c = ?
-
--- src/lib.rt:92:56
-shared-slice-read-t13 : tie.Need-shared-slice-read-t13 Inv-loop μ-loop
-shared-slice-read-t13 c = ?
-
--- src/lib.rt:92:15
-move-on-requires : tie.Need-move-on-requires Inv-loop μ-loop
-move-on-requires c κs = ?
-
--- src/lib.rt:93:36
-enum-told : tie.Need-enum-told Inv-loop μ-loop
-enum-told c = ?
-
--- src/lib.rt:93:36
-same-length : tie.Need-same-length Inv-loop μ-loop
-same-length c = ?
-
--- src/lib.rt:93:36
-returns : tie.Need-returns Inv-loop μ-loop
-returns c = ?
-
--- src/lib.rt:94:27
-enum-known-entered : tie.Need-enum-known-entered Inv-loop μ-loop
-enum-known-entered c = ?
-
--- src/lib.rt:96:17
-mul-out : tie.Need-mul-out Inv-loop μ-loop
-mul-out c = ?
-
--- src/lib.rt:96:17
-slice-write-out : tie.Need-slice-write-out Inv-loop μ-loop
-slice-write-out c = ?
-
--- src/lib.rt:99:9
-add-i : tie.Need-add-i Inv-loop μ-loop
-add-i c = ?
-
--- src/lib.rt:91:5
-loop-less : tie.Need-loop-less Inv-loop μ-loop
-loop-less c = ?
-
--- src/lib.rt:91:5
-loop-again : tie.Need-loop-again Inv-loop μ-loop
-loop-again c = ?
-
--- src/lib.rt:85:1
-same-length-2 : tie.Need-same-length-2 Inv-loop μ-loop
-same-length-2 c = ?
-
--- src/lib.rt:85:1
-returns-2 : tie.Need-returns-2 Inv-loop μ-loop
-returns-2 c = ?
+-- the buffer is as long as it was
+long : (c : tie.At-loop Inv-loop μ-loop) → length (c .loop .out) ≡ length (now (c .before .before .before .before .args .out))
+long c =
+    let s = c .before .before .before .before in
+    same-length (now (s .args .card)) (now (s .args .seen)) (now (s .args .out)) (c .loop .out) (c .loop .i) (c .loop .cell) (c .loop .inv) (s .pre .0)
 
 pub write-actions-spec : {M : Type 1} → statement M
 write-actions-spec =
@@ -76,18 +37,28 @@ write-actions-spec =
     (tie.spec
     Inv-loop
     μ-loop
-    loop-holds
-    mul-t8
-    shared-slice-read-t13
-    move-on-requires
-    enum-told
-    same-length
-    returns
-    enum-known-entered
-    mul-out
-    slice-write-out
-    add-i
-    loop-less
-    loop-again
-    same-length-2
-    returns-2)
+    (λ c. wrote-none _ _ _ _)
+    (λ c. omega arith)
+    (λ c. search needs)
+    (λ c κs. search needs)
+    (λ c. search needs)
+    (λ c. absurd (refused c))
+    (λ c. absurd (refused c))
+    (λ c. search needs)
+    (λ c. omega arith)
+    (λ c.
+    let turn = c .before .before .before .before .before in
+    omega (arith, long (turn .before), turn .loop-test .taken, turn .before .before .before .before .before .pre .0))
+    (λ c. omega arith)
+    (λ c. omega arith)
+    (λ c.
+    let turn = c .before .before .before .before .before in
+    let loop = turn .before in
+    let s = loop .before .before .before .before in
+    let v = c .before .entered .given .0 in
+    wrote-more (now (s .args .card)) (now (s .args .seen)) (now (s .args .out)) (loop .loop .out) (loop .loop .i) (loop .loop .cell) (loop .loop .inv) (s .pre .0) (v .0) (v .1 .0) (turn .loop-test .taken) (cc))
+    (λ c. long (c .before))
+    (λ c.
+    let loop = c .before in
+    let s = loop .before .before .before .before in
+    wrote-all (now (s .args .card)) (now (s .args .seen)) (now (s .args .out)) (loop .loop .out) (loop .loop .i) (loop .loop .cell) (loop .loop .inv) (s .pre .0) (c .loop-test .left)))
