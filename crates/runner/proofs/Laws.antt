@@ -113,6 +113,9 @@ module _ (w h : List ℕ) where
       let d = further-done (ranUpTo w h k) (moveAt w h k) j e in
       d .2 ∙ ap (λ (n : ℕ). n + 1) (done-all k (d .0) (d .1)) ∙ add-one k
 
+  pub taken-all : (k j : ℕ) → ranUpTo w h k ≡ Done j → ranUpTo w h k ≡ Done k
+  taken-all k j e = e ∙ ap Done (done-all k j e)
+
   -- ---- what is written
 
   pub record Wrote (d₀ d : List ℕ) (i c : ℕ) : Type 0 where
