@@ -2,8 +2,7 @@
 -- Assumes nothing.
 use mathlib.Core.Path.{_≡_, refl, sym, ap, ap₂, subst, _∙_}
 use mathlib.Core.Logic.{_⊎_, inl, inr, ⊎-elim}
-use mathlib.Core.Bool.{cond}
-use mathlib.Core.List.{List, [], _∷_}
+use mathlib.Core.List.{List}
 use Prim.Native.Nat.{ℕ, zero, suc, _+_, _≤_, _<_}
 use native.Mathlib.Nat.{not-suc-le-zero, eq-or-lt-of-le, le-of-suc-le-suc}
 use native.Mathlib.Numerals.{add-one}
@@ -148,7 +147,7 @@ module _ (w h : List ℕ) where
     too-short l = rw (ranInto, lt-ltb (length d) (length h) l)
 
     module _ (room : length h ≤ length d) where
-      fits : ranInto w h d ≡ writes w h d (ranUpTo w h (length h))
+      pub fits : ranInto w h d ≡ writes w h d (ranUpTo w h (length h))
       unfolding ranInto
       fits = rw (ranInto, le-ltb (length d) (length h) room)
 
