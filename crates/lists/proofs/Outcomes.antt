@@ -1,11 +1,11 @@
 -- The outcome, refusal by refusal.
 -- Assumes nothing.
-use mathlib.Core.Path.{_≡_, refl, sym, ap, ap₂, _∙_, subst}
+use mathlib.Core.Path.{_≡_, sym, ap, _∙_, subst}
 use mathlib.Core.Logic.{_⊎_, ⊎-elim}
-use mathlib.Core.Bool.{Bool, true, false, cond, not, _&&_}
+use mathlib.Core.Bool.{Bool, false, cond}
 use mathlib.Core.List.{List, _++_}
 use Prim.Native.Nat.{ℕ, _+_, _^_, _≤_, _<_}
-use lib.Dec.{leb, ltb}
+use lib.Dec.{leb}
 use native.Mathlib.Nat.{le-add-right}
 use lib.Pow.{pow-mono}
 use lib.ListN.{length, length-append, take, drop}
@@ -16,16 +16,16 @@ use Rattle.sets.specs.Family.{join, meet}
 use Rattle.sets.proofs.Logic.{and-intro, and-false-left, and-false-right, true-not, false-not}
 use Rattle.sets.proofs.Bounded.{select-length}
 use Rattle.lists.specs.declared.Answer.the-variants.{Words, Refused}
-use Rattle.lists.specs.Lists.{Outcome, leaves, isWidth, foreign, fitted, unlessFound, outcome}
+use Rattle.lists.specs.Lists.{leaves, maxStates, isWidth, foreign, fitted, unlessFound, outcome}
 use Rattle.lists.specs.Tops.{top}
 use Rattle.lists.specs.Checks.{firstBeyond}
 use Rattle.lists.proofs.Tops.{select-top}
-use Rattle.lists.proofs.Checks.{beyond, beyond-found, beyond-none, beyond-within, found-first, found-second, found-neither}
+use Rattle.lists.proofs.Checks.{beyond, beyond-found, beyond-within, found-first, found-second, found-neither}
 
 -- the width is right, and `end` is the first mask with a state too many
 pub record Width (n end : ℕ) : Type 0 where
   pub low : 1 ≤ n
-  pub high : n ≤ 12
+  pub high : n ≤ maxStates
   pub power : end ≡ 2 ^ n
 
 -- the list has no such mask
@@ -51,10 +51,10 @@ fitted-fits r d q w e h =
 
 module _ (op : List ℕ → List ℕ → List ℕ) (n : ℕ) (k l d : List ℕ) where
   -- the width is wrong
-  pub refused-width : (n < 1) ⊎ (12 < n) → leaves (Refused 2 0) d ≡ outcome op n k l d
+  pub refused-width : (n < 1) ⊎ (maxStates < n) → leaves (Refused 2 0) d ≡ outcome op n k l d
   unfolding outcome
   refused-width h =
-      let e : isWidth n ≡ false = ⊎-elim (λ a. and-false-left (leb n 12) (lt-leb 1 n a)) (λ a. and-false-right (leb 1 n) (lt-leb n 12 a)) h in
+      let e : isWidth n ≡ false = ⊎-elim (λ a. and-false-left (leb n maxStates) (lt-leb 1 n a)) (λ a. and-false-right (leb 1 n) (lt-leb n maxStates a)) h in
       sym (ap (λ (b : Bool). cond b (leaves (Refused 2 0) d) (unlessFound (foreign n (k ++ l)) d (fitted (op k l) d))) (false-not e))
 
   module _ (end : ℕ) (w : Width n end) where
@@ -63,7 +63,7 @@ module _ (op : List ℕ → List ℕ → List ℕ) (n : ℕ) (k l d : List ℕ) 
     unfolding outcome
     checked f e =
         ap (λ (x : Found). unlessFound x d (fitted (op k l) d)) (sym (subst (λ (x : ℕ). first (length (k ++ l)) (beyond (k ++ l) x) ≡ f) (w .power) e))
-        ∙ sym (ap (λ (b : Bool). cond b (leaves (Refused 2 0) d) (unlessFound (foreign n (k ++ l)) d (fitted (op k l) d))) (true-not (and-intro (le-leb 1 n (w .low)) (le-leb n 12 (w .high)))))
+        ∙ sym (ap (λ (b : Bool). cond b (leaves (Refused 2 0) d) (unlessFound (foreign n (k ++ l)) d (fitted (op k l) d))) (true-not (and-intro (le-leb 1 n (w .low)) (le-leb n maxStates (w .high)))))
 
     -- a mask of the first list is refused
     pub refused-first : (i : ℕ) → i ≡ firstBeyond k end → i < length k → leaves (Refused 5 i) d ≡ outcome op n k l d

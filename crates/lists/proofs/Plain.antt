@@ -3,14 +3,13 @@
 use mathlib.Core.Path.{_≡_, refl, sym, ap, _∙_, subst}
 use mathlib.Core.Logic.{_⊎_, inl, inr, ⊎-elim}
 use mathlib.Core.Bool.{Bool, true, false, cond, not, _||_}
-use mathlib.Core.List.{List, _++_, List·Memᴰ}
+use mathlib.Core.List.{List, _++_}
 use Prim.Native.Nat.{ℕ, _^_, _<_}
 use native.Mathlib.Omega.{arith}
-use lib.Dec.{leb, ltb}
-use lib.ListN.{length, take, drop, getD}
+use lib.Dec.{ltb}
+use lib.ListN.{length, take, drop}
 use lib.Seq.{take-append-seam}
-use Rattle.sets.specs.Mask.{subset}
-use Rattle.sets.specs.Bounded.{Found, nothing, found, first}
+use Rattle.sets.specs.Bounded.{Found, nothing, found}
 use Rattle.sets.specs.Family.{Family, maximal, listed, cuts, join, meet}
 use Rattle.sets.proofs.Logic.{or-cases, or-left, or-right}
 use Rattle.sets.proofs.Mask.{common-lt}
@@ -19,7 +18,7 @@ use Rattle.lists.specs.declared.Answer.{Answer}
 use Rattle.lists.specs.declared.Answer.the-variants.{Words, Refused}
 use Rattle.lists.specs.Lists.{Outcome, leaves, isWidth, foreign, fitted, unlessFound, outcome}
 use Rattle.lists.specs.Plain.{OfEither, OfBoth, MaximalOf}
-use Rattle.lists.proofs.Checks.{beyond, beyond-within, clean-first, clean-second}
+use Rattle.lists.proofs.Checks.{beyond-within, clean-first, clean-second}
 
 -- ---- the definitions
 

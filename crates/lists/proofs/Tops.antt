@@ -2,13 +2,13 @@
 -- Assumes nothing.
 use mathlib.Core.Path.{_≡_, refl, sym, ap, ap₂, _∙_, subst}
 use mathlib.Core.Logic.{⊎-elim}
-use mathlib.Core.Bool.{Bool, true, false, cond, _&&_, _||_, true≢false}
+use mathlib.Core.Bool.{Bool, true, false, cond, _&&_, _||_}
 use mathlib.Core.List.{List, [], _∷_, _++_, List·Memᴰ, List·Memᴰ·head, List·Memᴰ·tail, List·Memᴰ·not-nil, List·Memᴰ·cases-cons}
-use Prim.Native.Nat.{ℕ, zero, suc, _+_, _^_, _≤_, _<_}
+use Prim.Native.Nat.{ℕ, suc, _+_, _^_, _≤_, _<_}
 use native.Mathlib.Nat.{zero-lt-suc, le-refl, le-trans, le-of-lt}
 use native.Mathlib.Numerals.{add-one}
 use native.Mathlib.Omega.{arith}
-use lib.Dec.{eqb, ltb}
+use lib.Dec.{eqb}
 use lib.Bits.{or-zero-r}
 use lib.ListN.{length, getD, take, drop, set}
 use lib.Seq.{take-suc}
@@ -16,9 +16,9 @@ use borrow.Author.Tests.{eqb-true, eq-eqb, ne-eqb, lt-ltb}
 use Rattle.sets.specs.Mask.{common, union, subset, member}
 use Rattle.sets.specs.Bounded.{select, count}
 use Rattle.sets.specs.Family.{Family, isMaximal, maximal, listed, cuts, join, meet}
-use Rattle.sets.proofs.Logic.{decided, clash, refuted, affirmed, same-truth, and-left, and-right, and-intro, and-false-left, or-cases, or-left, or-right, or-false-intro}
+use Rattle.sets.proofs.Logic.{decided, clash, refuted, same-truth, and-left, and-right, and-intro, and-false-left, or-cases, or-left, or-right, or-false-intro}
 use Rattle.sets.proofs.Bounded.{select-ext, count-hit, count-skip, collect-hit, collect-skip}
-use Rattle.sets.proofs.Mask.{enough, member-and, member-or, member-zero, subset-refl, subset-trans, subset-antisym, subset-zero, subset-of, subset-member, subset-witness, common-subset-left, common-subset-right, common-greatest, common-lt, union-least, union-subset-left, union-subset-right}
+use Rattle.sets.proofs.Mask.{enough, member-and, member-or, member-zero, subset-refl, subset-trans, subset-antisym, subset-zero, subset-of, subset-witness, common-subset-left, common-subset-right, common-greatest, common-lt, union-subset-left, union-subset-right}
 use Rattle.sets.proofs.Family.{Within, isMaximal-in, isMaximal-only, isMaximal-intro, listed-mem, mem-listed, listed-none, listed-more, cuts-found, cuts-intro}
 use Rattle.lists.specs.Tops.{around, some, inhabited, gathered, top, NoneBetween, UnlistedBetween}
 use Rattle.lists.proofs.Extra.{union-assoc, count-gap, select-gap}

@@ -19,8 +19,11 @@ abbrev pub leaves : Answer → List ℕ → Outcome
 leaves a d = record { answer = a; out = d }
 
 -- the widths of lists: 1 to 12
+abbrev pub maxStates : ℕ
+maxStates = 12
+
 abbrev pub isWidth : ℕ → Bool
-isWidth n = leb 1 n && leb n 12
+isWidth n = leb 1 n && leb n maxStates
 
 -- the first mask that names a state from n up
 abbrev pub foreign : ℕ → List ℕ → Found

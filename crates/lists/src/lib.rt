@@ -2,7 +2,7 @@
 ghost use mathlib.Core.Path.{_≡_};
 ghost use mathlib.Core.Bool.{cond};
 ghost use mathlib.Core.List.{_++_};
-ghost use Prim.Native.Nat.{ℕ, _<_, _≤_, _^_};
+ghost use Prim.Native.Nat.{ℕ, _<_, _≤_};
 ghost use lib.ListN.{length, take, drop};
 ghost use Rattle.sets.specs.Bounded.{count, select};
 ghost use Rattle.sets.specs.Family.{join as joinOf, meet as meetOf};
@@ -10,6 +10,11 @@ ghost use Rattle.lists.specs.Lists.{leaves, outcome, joined, met};
 ghost use Rattle.lists.specs.Plain.{OfEither, OfBoth, MaximalOf};
 ghost use Rattle.lists.specs.Tops.{around as aroundOf, gathered, inhabited, top, NoneBetween, UnlistedBetween};
 ghost use Rattle.lists.specs.Checks.{firstBeyond};
+
+// The widest masks, and how many masks of that width there are.
+const MAX_STATES: u32 = 12;
+
+const MAX_SETS: usize = 4096;
 
 // The length of the result, which stands in front of `out`; or a refusal's number and place.
 pub enum Answer {
@@ -135,7 +140,7 @@ fn copy(from: &[u32], end: usize, out: &mut [u32])
 fn combine(meet: bool, n: u32, first: &[u32], second: &[u32], out: &mut [u32]) -> Answer
     ensures { λ r. ⌜ leaves r (now (out .exit)) ≡ outcome (cond meet (meetOf n) (joinOf n)) n (now (first .entry)) (now (second .entry)) (now (out .entry)) ⌝ }
 {
-    if n < 1 || 12 < n {
+    if n < 1 || MAX_STATES < n {
         return Answer::Refused(2, 0);
     }
     let end = sets::single(n);
@@ -147,7 +152,7 @@ fn combine(meet: bool, n: u32, first: &[u32], second: &[u32], out: &mut [u32]) -
     if j < second.len() {
         return Answer::Refused(5, first.len() + j);
     }
-    let mut found = [0u32; 4096];
+    let mut found = [0u32; MAX_SETS];
     let words = collect(meet, end, first, second, &mut found);
     if out.len() < words {
         return Answer::Refused(15, words);

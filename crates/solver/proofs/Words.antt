@@ -20,7 +20,13 @@ use Rattle.sets.proofs.Bounded.{first-stop, first-cases, first-nothing, first-s
 use Rattle.sets.proofs.Family.{holds-found, holds-intro, maximal-length}
 use Rattle.games.specs.Game.{Game, Accepted}
 use Rattle.games.specs.Step.{after, post, enabledAt, meets, lowest, step, antichain}
-use Rattle.games.specs.Verdict.{settled, cells}
+use Rattle.games.specs.Verdict.{startSet, settled, cells}
+use Rattle.games.specs.Words.{game, word}
+use Rattle.tables.specs.Layout.{Sized}
+use Rattle.tables.proofs.Checks.{sized, accepted}
+use Rattle.solver.specs.Writing.{Writing, frontWords, setWords}
+use Rattle.solver.proofs.Turns.{sets-few}
+use Rattle.solver.proofs.Cells.{cells-few}
 use Rattle.games.specs.Automaton.{noCell, holding, chosen}
 use Rattle.games.proofs.Winning.{at-mem, mem-at}
 use Rattle.games.proofs.Settling.{cells-hold, settled-step}
@@ -60,11 +66,6 @@ holding-small l s b = small (eqb s 0)
     small true = omega arith
     small false = found-small
 
--- there are at most 2 ^ n cells
-pub cells-few : (g : Game) → length (cells g) ≤ 2 ^ g .states
-unfolding cells antichain
-cells-few g = maximal-length (g .states) _
-
 -- a part of one word and o more, of which j are those of f
 pub record Filled (o : ℕ) (f : ℕ → ℕ) (j : ℕ) (out : List ℕ) : Type 0 where
   pub size : length out ≡ 1 + o
@@ -94,3 +95,33 @@ module _ (o : ℕ) (f : ℕ → ℕ) where
       set-split out 0 x (omega (arith, w .size))
       ∙ ap (λ (d : List ℕ). x ∷ d)
       (sym (take-all j (drop 1 out) (omega (arith, length-drop 1 out, w .size))) ∙ w .front ∙ ap (λ (n : ℕ). gather n (λ i. f i ∷ [])) e)
+
+-- what is known while a part of the card is written
+module _ (table list out : List ℕ) (w : Writing table list out) where
+  writing-sized : Sized table
+  writing-sized = sized table (w .fine)
+
+  pub cells-small : length list ≤ 4096
+  cells-small = let a = ap length (w .listed) in let b = cells-few (game table) in let d = sets-few table writing-sized in omega arith
+
+  pub observations-small : game table .observations ≤ 8
+  unfolding game
+  observations-small = writing-sized .limits .most-observations
+
+  pub actions-small : game table .actions ≤ 8
+  unfolding game
+  actions-small = writing-sized .limits .most-actions
+
+-- the first word of an observation, and a next word
+abbrev pub firstWord : Game → List ℕ → ℕ → ℕ
+firstWord g l j = word 9 (holding l (common (g .start) (g .shown j))) j 0
+
+pub front-is : (g : Game) (l : List ℕ) → l ≡ cells g → (o x : ℕ) → o ≡ g .observations → x ≡ word 8 (length l) o (g .actions) → x ∷ gather o (λ j. firstWord g l j ∷ []) ≡ frontWords g
+unfolding frontWords startSet
+front-is g l e o x h i =
+    ap₂ (λ (n : ℕ) (k : List ℕ). x ∷ gather n (λ j. firstWord g k j ∷ [])) h e
+    ∙ ap (λ (y : ℕ). y ∷ gather (g .observations) (λ j. firstWord g (cells g) j ∷ [])) (i ∙ ap₂ (λ (n : ℕ) (k : List ℕ). word 8 (length k) n (g .actions)) h e)
+
+pub first-word : (g : Game) (l : List ℕ) (j r h a b : ℕ) → r ≡ word 9 h j 0 → h ≡ holding l (common a b) → a ≡ g .start → b ≡ g .shown j → r ≡ firstWord g l j
+first-word g l j r h a b is held start shown =
+    is ∙ ap (λ (x : ℕ). word 9 x j 0) (held ∙ ap₂ (λ (x y : ℕ). holding l (common x y)) start shown)

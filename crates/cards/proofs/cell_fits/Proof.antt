@@ -6,4 +6,4 @@ use Rattle.cards.proofs.cell_fits.Statement.{statement}
 use Rattle.cards.proofs.cell_fits.Tie as tie
 
 pub cell-fits-spec : {M : Type 1} → statement M
-cell-fits-spec = tie.close (tie.spec (λ c κs. search needs) (λ c κs. search needs) (λ c κs. search needs) (λ c. cell-told _ _ _ _ _ (c .before .before .low-field .ensures) (c .before .action-field .ensures) (c .word .ensures)))
+cell-fits-spec = tie.close (tie.spec (λ c κs. search needs) (λ c κs. search needs) (λ c κs. search needs) (λ c. cell-told (c .before .before .before .args .a) _ _ _ _ (c .before .before .low-field .ensures) (c .before .action-field .ensures) (c .word .ensures)))

@@ -1,12 +1,12 @@
 -- `lists::combine` meets its contract: each way out is one case of the outcome.
 -- Assumes nothing.
-use mathlib.Core.Path.{_≡_}
 use mathlib.Core.Logic.{⊎-elim, inl, inr}
 use mathlib.Core.Bool.{cond}
 use borrow.Author.Needs.{needs}
 use borrow.Author.Tests.{ltb-true, ltb-false}
 use native.Mathlib.Omega.{arith}
 use Rattle.sets.specs.Family.{join, meet}
+use Rattle.lists.specs.Lists.{maxStates}
 use Rattle.lists.specs.Tops.{top}
 use Rattle.lists.proofs.Checks.{beyond-none}
 use Rattle.lists.proofs.Outcomes.{Width, Clean, refused-width, refused-first, refused-second, refused-long, written, width-room, room-for}
@@ -15,7 +15,7 @@ use Rattle.lists.proofs.combine.Tie as tie
 
 -- the width, once checked
 width : (c : tie.After-single) → Width (c .before .before .before .before .before .before .args .n) (c .single .result)
-width c = record { low = c .before .before .if1 .left; high = ltb-false 12 (c .before .before .before .before .before .before .args .n) (c .before .if2 .left); power = c .single .ensures }
+width c = record { low = c .before .before .if1 .left; high = ltb-false maxStates (c .before .before .before .before .before .before .args .n) (c .before .if2 .left); power = c .single .ensures }
 
 -- the first list, once searched
 clean-first : (c : tie.Else3) → Clean (c .before .before .single .result) (c .before .before .before .before .before .before .before .before .args .first .now)
@@ -28,10 +28,10 @@ clean-second c = beyond-none (c .before .before .before .before .before .before 
 returns : tie.Need-returns
 returns c =
     refused-width (cond (c .before .before .before .before .args .meet) (meet (c .before .before .before .before .args .n)) (join (c .before .before .before .before .args .n))) (c .before .before .before .before .args .n) (c .before .before .before .before .args .first .now) (c .before .before .before .before .args .second .now) (c .before .before .before .before .args .out .now)
-    (⊎-elim (λ w. inl (w .taken)) (λ w. inr (ltb-true 12 (c .before .before .before .before .args .n) (w .1 .taken))) (c .if1 .came))
+    (⊎-elim (λ w. inl (w .taken)) (λ w. inr (ltb-true maxStates (c .before .before .before .before .args .n) (w .1 .taken))) (c .if1 .came))
 
 single-requires : tie.Need-single-requires
-single-requires c κs = omega (arith, ltb-false 12 (c .before .before .before .before .before .args .n) (c .if2 .left))
+single-requires c κs = omega (arith, ltb-false maxStates (c .before .before .before .before .before .args .n) (c .if2 .left))
 
 returns-2 : tie.Need-returns-2
 returns-2 c =
