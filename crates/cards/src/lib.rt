@@ -31,19 +31,19 @@ pub enum Move {
     Refused(u32, usize),
 }
 
-fn low_field(w: u32) -> u32
+pub fn low_field(w: u32) -> u32
     ensures { λ r. ⌜ r ≡ lowField w ⌝ }
 {
     w % 65536
 }
 
-fn number_field(w: u32) -> u32
+pub fn number_field(w: u32) -> u32
     ensures { λ r. ⌜ r ≡ numberField w ⌝ }
 {
     w / 65536 % 16
 }
 
-fn action_field(w: u32) -> u32
+pub fn action_field(w: u32) -> u32
     ensures { λ r. ⌜ r ≡ actionField w ⌝ }
 {
     w / 1048576 % 16
@@ -164,7 +164,7 @@ pub fn check(card: &[u32]) -> CardCheck
     check_words(card)
 }
 
-fn cell_place(o: u32, c: u32) -> usize
+pub fn cell_place(o: u32, c: u32) -> usize
     requires { ⌜ (o < 16) × (c < 65536) ⌝ }
     ensures { λ r. ⌜ r ≡ cellPlace o c ⌝ }
 {

@@ -43,7 +43,7 @@ fn head_right(w: u32) -> bool
 }
 
 // Where the action's move words begin; for the number of actions, the words of the table.
-fn row(head: u32, a: u32) -> usize
+pub fn row(head: u32, a: u32) -> usize
     requires { ⌜ a < 256 ⌝ }
     ensures { λ r. ⌜ r ≡ tableLength (headStates head) a (headObservations head) ⌝ }
 {

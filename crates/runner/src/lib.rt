@@ -1,0 +1,118 @@
+// The runner (document 01, "Entries": Run): a card's words, held and not copied, and the cell it is in. A function that takes or
+// makes a runner is proved by a walk of its MIR, by hand, so there are two, over the covered steps of `cards`. `run` needs no runner.
+use cards::Move;
+use games::Cell;
+use games::Observation;
+ghost use mathlib.Core.Path.{_≡_};
+ghost use Prim.Native.Nat.{_≤_};
+ghost use lib.ListN.{length};
+ghost use Rattle.tables.specs.Fields.{filledBy};
+ghost use Rattle.runner.specs.Runs.{stands, starts, advances, moveAt, moveOn, actionOf, ranUpTo, leaves, ranInto};
+
+// The cell before the first observation.
+const NO_CELL: u32 = 65535;
+
+pub struct Runner<'c> {
+    pub card: &'c [u32],
+    pub cell: Cell,
+}
+
+// A runner with the answer to its opening.
+pub struct Opened<'c> {
+    pub runner: Runner<'c>,
+    pub answer: Move,
+}
+
+// Opens a runner on a card with the first observation. Refused: its cell is 65,535.
+pub fn start<'c>(card: &'c [u32], seen: Observation) -> Opened<'c>
+    ensures { λ r. ⌜ (r .runner .card ≡ card .entry) × (stands (r .runner .cell .0) (r .answer) ≡ starts (now (card .entry)) (seen .0)) ⌝ }
+{
+    let cell = cards::first_cell(card, seen);
+    let answer = cards::begin(card, seen);
+    Opened {
+        runner: Runner { card, cell },
+        answer,
+    }
+}
+
+// Moves a runner by a later observation. Refused: it stays in its cell.
+pub fn advance<'r, 'c>(r: &'r mut Runner<'c>, seen: Observation) -> Move
+    ensures { λ m. ⌜ (now (r .exit) .card ≡ now (r .entry) .card) × (stands (now (r .exit) .cell .0) m ≡ advances (now (now (r .entry) .card)) (now (r .entry) .cell .0) (seen .0)) ⌝ }
+{
+    let card = r.card;
+    let cell = r.cell;
+    let answer = cards::step(card, cell, seen);
+    r.cell = cards::next_cell(card, cell, seen);
+    answer
+}
+
+// How many observations were taken, all of them; or a refusal: number, place, and how many were taken before it.
+pub enum Ran {
+    Done(usize),
+    Refused(u32, usize, usize),
+}
+
+// The move on the next observation; the first opens the card.
+fn move_on(card: &[u32], taken: usize, cell: Cell, seen: Observation) -> Move
+    ensures { λ r. ⌜ r ≡ moveOn (now (card .entry)) taken (cell .0) (seen .0) ⌝ }
+{
+    if taken == 0 {
+        cards::begin(card, seen)
+    } else {
+        cards::step(card, cell, seen)
+    }
+}
+
+// Runs the card and writes nothing: refusals 13, 12 and 14.
+fn try_run(card: &[u32], seen: &[u32]) -> Ran
+    ensures { λ r. ⌜ r ≡ ranUpTo (now (card .entry)) (now (seen .entry)) (length (now (seen .entry))) ⌝ }
+{
+    let mut cell: u32 = NO_CELL;
+    let mut i: usize = 0;
+    while i < seen.len() {
+        match move_on(card, i, Cell(cell), Observation(seen[i])) {
+            Move::Refused(number, place) => return Ran::Refused(number, place, i),
+            Move::Entered(entered, _) => {
+                cell = entered.0;
+            }
+        }
+        i += 1;
+    }
+    Ran::Done(i)
+}
+
+// The actions of a run that is not refused.
+fn write_actions(card: &[u32], seen: &[u32], out: &mut [u32])
+    requires { ⌜ (length (now seen) ≤ length (now out)) × (ranUpTo (now card) (now seen) (length (now seen)) ≡ Ran.Done (length (now seen))) ⌝ }
+    ensures { λ _. ⌜ now (out .exit) ≡ filledBy (length (now (seen .entry))) (λ i. actionOf (moveAt (now (card .entry)) (now (seen .entry)) i)) (now (out .entry)) ⌝ }
+{
+    let mut cell: u32 = NO_CELL;
+    let mut i: usize = 0;
+    while i < seen.len() {
+        match move_on(card, i, Cell(cell), Observation(seen[i])) {
+            Move::Refused(_, _) => return,
+            Move::Entered(entered, action) => {
+                cell = entered.0;
+                out[i] = action.0;
+            }
+        }
+        i += 1;
+    }
+}
+
+// Runs a card over observations, and writes the action after each into the front of `out`. A refused run leaves `out` as it was.
+pub fn run(card: &[u32], seen: &[u32], out: &mut [u32]) -> Ran
+    ensures { λ r. ⌜ leaves r (now (out .exit)) ≡ ranInto (now (card .entry)) (now (seen .entry)) (now (out .entry)) ⌝ }
+{
+    let words = seen.len();
+    if out.len() < words {
+        return Ran::Refused(9, words, 0);
+    }
+    match try_run(card, seen) {
+        Ran::Refused(number, place, taken) => Ran::Refused(number, place, taken),
+        Ran::Done(taken) => {
+            write_actions(card, seen, out);
+            Ran::Done(taken)
+        }
+    }
+}
