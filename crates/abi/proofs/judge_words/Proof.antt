@@ -1,0 +1,19 @@
+-- `abi::judge_words` meets its contract: the words of each case.
+-- Assumes nothing.
+use borrow.Author.Needs.{needs}
+use Rattle.abi.proofs.judge_words.Statement.{statement}
+use Rattle.abi.proofs.judge_words.Tie as tie
+
+pub judge-words-spec : {M : Type 1} → statement M
+judge-words-spec =
+    tie.close
+    (tie.spec
+    (λ c. search needs)
+    (λ c κs. search needs)
+    (λ c. search needs)
+    (λ c κs. search needs)
+    (λ c. search needs)
+    (λ c κs. search needs)
+    (λ c. cc)
+    (λ c. cc)
+    (λ c. cc))

@@ -1,0 +1,16 @@
+-- `abi::list_words` meets its contract: the words of each case.
+-- Assumes nothing.
+use borrow.Author.Needs.{needs}
+use Rattle.abi.proofs.list_words.Statement.{statement}
+use Rattle.abi.proofs.list_words.Tie as tie
+
+pub list-words-spec : {M : Type 1} → statement M
+list-words-spec =
+    tie.close
+    (tie.spec
+    (λ c. search needs)
+    (λ c κs. search needs)
+    (λ c. search needs)
+    (λ c κs. search needs)
+    (λ c. cc)
+    (λ c. cc))

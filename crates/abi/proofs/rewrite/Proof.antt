@@ -1,0 +1,29 @@
+-- `abi::rewrite` meets its contract: the refusal of `read`, or what `write` does with the fields.
+-- Assumes nothing.
+use borrow.Author.Needs.{needs}
+use mathlib.Core.Path.{_∙_}
+use Rattle.abi.proofs.Told.{rewrite-refused, rewrite-fine}
+use Rattle.abi.proofs.rewrite.Statement.{statement}
+use Rattle.abi.proofs.rewrite.Tie as tie
+
+returns : tie.Need-returns
+returns c =
+    let x = c .before .before .before .before .before .before .args in
+    rewrite-refused (x .table .now) (x .out .now) _ (c .before .before .before .read .ensures) (c .before .answer .given .0 .0) (c .before .answer .given .0 .1 .0) (cc)
+
+returns-2 : tie.Need-returns-2
+returns-2 c =
+    let x = c .before .before .before .before .before .before .before .before .before .args in
+    c .before .before .write .ensures ∙ rewrite-fine (x .table .now) (x .out .now) _ (c .before .before .before .before .before .before .read .ensures) (cc)
+
+pub rewrite-spec : {M : Type 1} → statement M
+rewrite-spec =
+    tie.close
+    (tie.spec
+    (λ c κs. search needs)
+    (λ c. search needs)
+    (λ c. search needs)
+    (λ c κs. search needs)
+    returns
+    (λ c. search needs)
+    returns-2)

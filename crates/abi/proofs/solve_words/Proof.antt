@@ -1,0 +1,19 @@
+-- `abi::solve_words` meets its contract: the words of each case.
+-- Assumes nothing.
+use borrow.Author.Needs.{needs}
+use Rattle.abi.proofs.solve_words.Statement.{statement}
+use Rattle.abi.proofs.solve_words.Tie as tie
+
+pub solve-words-spec : {M : Type 1} → statement M
+solve-words-spec =
+    tie.close
+    (tie.spec
+    (λ c. search needs)
+    (λ c κs. search needs)
+    (λ c. search needs)
+    (λ c κs. search needs)
+    (λ c. search needs)
+    (λ c κs. search needs)
+    (λ c. cc)
+    (λ c. cc)
+    (λ c. cc))

@@ -1,0 +1,204 @@
+// The functions of the library for C and Rust. Each fills three words of answer: 0 and two values (done), 1 and the round number (no),
+// 2, number and place (refused).
+ghost use mathlib.Core.Path.{_≡_};
+ghost use Prim.Native.Nat.{ℕ, _≤_};
+ghost use mathlib.Core.List.{_++_};
+ghost use lib.ListN.{length, take, drop};
+ghost use Rattle.solver.specs.Solve.{solved, Promise};
+ghost use Rattle.solver.specs.declared.Answer.{Answer};
+ghost use Rattle.judge.specs.Judge.{judged};
+ghost use Rattle.lists.specs.Lists.{joined, met};
+ghost use Rattle.lists.specs.Plain.{OfEither, OfBoth, MaximalOf};
+ghost use Rattle.cards.specs.Run.{opened, stepped};
+ghost use Rattle.show.specs.Show.{found};
+ghost use Rattle.tables.specs.Check.{checked};
+ghost use Rattle.tables.specs.Fields.{leaves};
+ghost use Rattle.tables.specs.declared.Checked.the-variants.{Fine};
+ghost use Rattle.abi.specs.Words.{done, no as noWords, refused as refusedWords, solveWords, judgeWords, listWords, writeWords, moveWords, showWords};
+ghost use Rattle.abi.specs.Calls.{solve, toldSolve, call, toldList, toldWrite, rewritten};
+use cards::Move;
+use games::Cell;
+use games::Observation;
+use judge::Judged;
+use show::Shown;
+use tables::Checked;
+use tables::Written;
+
+// Done, with two numbers.
+fn pair(x: u32, y: u32) -> [u64; 3]
+    ensures { λ r. ⌜ r ≡ done x y ⌝ }
+{
+    [0, x as u64, y as u64]
+}
+
+// Done, with two places or lengths.
+fn span(x: usize, y: usize) -> [u64; 3]
+    ensures { λ r. ⌜ r ≡ done x y ⌝ }
+{
+    [0, x as u64, y as u64]
+}
+
+fn no(round: u32) -> [u64; 3]
+    ensures { λ r. ⌜ r ≡ noWords round ⌝ }
+{
+    [1, round as u64, 0]
+}
+
+fn refused(number: u32, place: usize) -> [u64; 3]
+    ensures { λ r. ⌜ r ≡ refusedWords number place ⌝ }
+{
+    [2, number as u64, place as u64]
+}
+
+fn solve_words(a: solver::Answer) -> [u64; 3]
+    ensures { λ r. ⌜ r ≡ solveWords a ⌝ }
+{
+    match a {
+        solver::Answer::Yes(settled, cells) => pair(settled, cells),
+        solver::Answer::No(round) => no(round),
+        solver::Answer::Refused(number, place) => refused(number, place),
+    }
+}
+
+fn judge_words(a: Judged) -> [u64; 3]
+    ensures { λ r. ⌜ r ≡ judgeWords a ⌝ }
+{
+    match a {
+        Judged::Good => pair(1, 0),
+        Judged::NotGood => pair(0, 0),
+        Judged::Refused(number, place) => refused(number, place),
+    }
+}
+
+fn list_words(a: lists::Answer) -> [u64; 3]
+    ensures { λ r. ⌜ r ≡ listWords a ⌝ }
+{
+    match a {
+        lists::Answer::Words(length) => span(length, 0),
+        lists::Answer::Refused(number, place) => refused(number, place),
+    }
+}
+
+fn write_words(a: Written) -> [u64; 3]
+    ensures { λ r. ⌜ r ≡ writeWords a ⌝ }
+{
+    match a {
+        Written::Words(length) => span(length, 0),
+        Written::Refused(number, place) => refused(number, place),
+    }
+}
+
+fn move_words(a: Move) -> [u64; 3]
+    ensures { λ r. ⌜ r ≡ moveWords a ⌝ }
+{
+    match a {
+        Move::Entered(cell, action) => pair(cell.0, action.0),
+        Move::Refused(number, place) => refused(number, place),
+    }
+}
+
+fn show_words(a: Shown) -> [u64; 3]
+    ensures { λ r. ⌜ r ≡ showWords a ⌝ }
+{
+    match a {
+        Shown::Part(offset, length) => span(offset, length),
+        Shown::Refused(number, place) => refused(number, place),
+    }
+}
+
+// Yes: 0, settling count, cells, and the card in front of its room. No: 1, round number, 0.
+#[no_mangle]
+pub extern "C" fn kirdanzug_solve(
+    table: &[u32],
+    work: &mut [u32],
+    card: &mut [u32],
+    answer: &mut [u64; 3],
+)
+    ensures determined { λ _. ⌜ solve (now (answer .exit)) (now (work .exit)) (now (card .exit)) ≡ toldSolve (solved (now (table .entry)) (now (work .entry)) (now (card .entry))) ⌝ }
+    ensures promised { λ _. ⌜ ((r : Answer) → now (answer .exit) ≡ solveWords r → Promise (now (table .entry)) (now (work .entry)) (now (card .entry)) r (now (card .exit))) ⌝ }
+{
+    *answer = solve_words(solver::solve(table, work, card));
+}
+
+// 0, 1 or 0, 0: is the set good for k rounds?
+#[no_mangle]
+pub extern "C" fn kirdanzug_judge(table: &[u32], mask: u32, k: u32, answer: &mut [u64; 3])
+    ensures { λ _. ⌜ now (answer .exit) ≡ judgeWords (judged (now (table .entry)) mask k) ⌝ }
+{
+    *answer = judge_words(judge::judge(table, mask, k));
+}
+
+// 0, length, 0: the maximal sets of both lists.
+#[no_mangle]
+pub extern "C" fn kirdanzug_join(
+    n: u32,
+    first: &[u32],
+    second: &[u32],
+    out: &mut [u32],
+    answer: &mut [u64; 3],
+)
+    ensures { λ _. ⌜ call (now (answer .exit)) (now (out .exit)) ≡ toldList (joined n (now (first .entry)) (now (second .entry)) (now (out .entry))) ⌝ }
+    ensures plain { λ _. ⌜ ((w : ℕ) → now (answer .exit) ≡ done w 0 → MaximalOf (OfEither (now (first .entry)) (now (second .entry))) (take w (now (out .exit)))) ⌝ }
+{
+    *answer = list_words(lists::join(n, first, second, out));
+}
+
+// 0, length, 0: the maximal common parts of one set from each list.
+#[no_mangle]
+pub extern "C" fn kirdanzug_meet(
+    n: u32,
+    first: &[u32],
+    second: &[u32],
+    out: &mut [u32],
+    answer: &mut [u64; 3],
+)
+    ensures { λ _. ⌜ call (now (answer .exit)) (now (out .exit)) ≡ toldList (met n (now (first .entry)) (now (second .entry)) (now (out .entry))) ⌝ }
+    ensures plain { λ _. ⌜ ((w : ℕ) → now (answer .exit) ≡ done w 0 → MaximalOf (OfBoth (now (first .entry)) (now (second .entry))) (take w (now (out .exit)))) ⌝ }
+{
+    *answer = list_words(lists::meet(n, first, second, out));
+}
+
+// Reads the table into fields, and writes these.
+fn rewrite(table: &[u32], out: &mut [u32]) -> Written
+    ensures { λ r. ⌜ leaves r (now (out .exit)) ≡ rewritten (now (table .entry)) (now (out .entry)) ⌝ }
+{
+    let got = tables::read(table);
+    let answer = got.answer;
+    match answer {
+        Checked::Refused(number, place) => Written::Refused(number, place),
+        Checked::Fine => tables::write(got.fields, out),
+    }
+}
+
+// 0, length, 0: the table read into fields and written again; an accepted table comes back as it was.
+#[no_mangle]
+pub extern "C" fn kirdanzug_rewrite(table: &[u32], out: &mut [u32], answer: &mut [u64; 3])
+    ensures { λ _. ⌜ call (now (answer .exit)) (now (out .exit)) ≡ toldWrite (rewritten (now (table .entry)) (now (out .entry))) ⌝ }
+    ensures same { λ _. ⌜ (checked (now (table .entry)) ≡ Fine → length (now (table .entry)) ≤ length (now (out .entry)) → call (now (answer .exit)) (now (out .exit)) ≡ call (done (length (now (table .entry))) 0) (now (table .entry) ++ drop (length (now (table .entry))) (now (out .entry)))) ⌝ }
+{
+    *answer = write_words(rewrite(table, out));
+}
+
+// 0, cell entered, its action: the card opened with the first observation.
+#[no_mangle]
+pub extern "C" fn kirdanzug_open(card: &[u32], observation: u32, answer: &mut [u64; 3])
+    ensures { λ _. ⌜ now (answer .exit) ≡ moveWords (opened (now (card .entry)) observation) ⌝ }
+{
+    *answer = move_words(cards::begin(card, Observation(observation)));
+}
+
+// 0, cell entered, its action: a later observation in a cell.
+#[no_mangle]
+pub extern "C" fn kirdanzug_step(card: &[u32], cell: u32, observation: u32, answer: &mut [u64; 3])
+    ensures { λ _. ⌜ now (answer .exit) ≡ moveWords (stepped (now (card .entry)) cell observation) ⌝ }
+{
+    *answer = move_words(cards::step(card, Cell(cell), Observation(observation)));
+}
+
+// 0, offset, length: where the move words of a cell's action stand in the table.
+#[no_mangle]
+pub extern "C" fn kirdanzug_show(table: &[u32], card: &[u32], cell: u32, answer: &mut [u64; 3])
+    ensures { λ _. ⌜ now (answer .exit) ≡ showWords (found (now (table .entry)) (now (card .entry)) cell) ⌝ }
+{
+    *answer = show_words(show::find(table, card, Cell(cell)));
+}
