@@ -132,13 +132,24 @@ fn words() {
     check_a(5, 0xA0000000);
 }
 
+fn open_a(seen: u32) {
+    open(b"A", &A_CARD, seen);
+}
+
+fn open_c(seen: u32) {
+    open(b"C", &C_CARD, seen);
+}
+
 fn opened() {
-    open(b"A", &A_CARD, 0);
-    open(b"A", &A_CARD, 1);
-    open(b"A", &A_CARD, 4294967295);
-    open(b"C", &C_CARD, 0);
-    open(b"C", &C_CARD, 1);
-    open(b"C", &C_CARD, 2);
+    open_a(0);
+    open_a(1);
+    open_a(4294967295);
+    open_c(0);
+    open_c(1);
+    open_c(2);
+}
+
+fn refused_openings() {
     open(b"no words", &[], 0);
     let head = changed_card(0, 0x80210003);
     open(b"A with 80210003 at 0", &head, 9);
@@ -146,20 +157,28 @@ fn opened() {
     open(b"A with 9000FFFF at 1", &none, 0);
 }
 
+fn step_a(cell: u32, seen: u32) {
+    step(b"A", &A_CARD, cell, seen);
+}
+
+fn step_c(cell: u32, seen: u32) {
+    step(b"C", &C_CARD, cell, seen);
+}
+
 fn steps() {
-    step(b"A", &A_CARD, 0, 0);
-    step(b"A", &A_CARD, 1, 0);
-    step(b"A", &A_CARD, 2, 0);
-    step(b"A", &A_CARD, 1, 1);
-    step(b"A", &A_CARD, 2, 3);
-    step(b"A", &A_CARD, 65535, 0);
-    step(b"A", &A_CARD, 4294967295, 0);
-    step(b"C", &C_CARD, 0, 0);
-    step(b"C", &C_CARD, 0, 1);
-    step(b"C", &C_CARD, 1, 0);
-    step(b"C", &C_CARD, 1, 1);
-    step(b"C", &C_CARD, 0, 2);
-    step(b"C", &C_CARD, 65535, 0);
+    step_a(0, 0);
+    step_a(1, 0);
+    step_a(2, 0);
+    step_a(1, 1);
+    step_a(2, 3);
+    step_a(65535, 0);
+    step_a(4294967295, 0);
+    step_c(0, 0);
+    step_c(0, 1);
+    step_c(1, 0);
+    step_c(1, 1);
+    step_c(0, 2);
+    step_c(65535, 0);
 }
 
 // 13 before 12, from no cell too.
@@ -178,6 +197,7 @@ pub fn rows() {
     heads();
     words();
     opened();
+    refused_openings();
     steps();
     order();
 }

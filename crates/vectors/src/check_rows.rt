@@ -66,6 +66,9 @@ fn limits() {
     check(b"n 13", &stations::STATES_13);
     check(b"n 1", &stations::F);
     check(b"n 0", &stations::STATES_0);
+}
+
+fn more_limits() {
     check(b"a 8", &stations::ACTIONS_8);
     check(b"a 9", &stations::ACTIONS_9);
     check(b"a 0", &stations::ACTIONS_0);
@@ -169,6 +172,9 @@ fn accepted() {
     check(b"B", &stations::B);
     check(b"C", &stations::C);
     check(b"D", &stations::D);
+}
+
+fn more_accepted() {
     check(b"E", &stations::E);
     check(b"F", &stations::F);
     check(b"G", &stations::G);
@@ -177,9 +183,11 @@ fn accepted() {
 
 pub fn rows() {
     accepted();
+    more_accepted();
     lengths();
     heads();
     limits();
+    more_limits();
     kinds();
     masks();
     sets();

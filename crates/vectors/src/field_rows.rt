@@ -44,9 +44,7 @@ fn reads() {
     read(b"A with 40000003 at 3", &unseen);
 }
 
-fn write(name: &[u8], f: Fields, out: &mut [u32]) {
-    say(b"write ");
-    say(name);
+fn write(f: Fields, out: &mut [u32]) {
     say(b" into ");
     print::decimal(out.len() as u64);
     match tables::write(f, out) {
@@ -100,28 +98,43 @@ fn with_move(f: Fields, slot: usize, mask: u32) -> Fields {
     r
 }
 
-fn write_10(name: &[u8], f: Fields) {
+fn write_10(f: Fields) {
     let mut out = [GUARD; 10];
-    write(name, f, &mut out);
+    write(f, &mut out);
+}
+
+fn write_a(out: &mut [u32]) {
+    say(b"write A");
+    write(fields(), out);
 }
 
 // Read and written again.
 fn written() {
     let mut exact = [GUARD; 10];
-    write(b"A", fields(), &mut exact);
+    write_a(&mut exact);
     let mut roomy = [GUARD; 12];
-    write(b"A", fields(), &mut roomy);
+    write_a(&mut roomy);
     let mut short = [GUARD; 9];
-    write(b"A", fields(), &mut short);
-    write(b"A", fields(), &mut []);
-    let mut other = [GUARD; 11];
-    write(b"C", fields_of(&stations::C), &mut other);
-    let mut none = [GUARD; 2];
-    write(b"fields of 0", fields_of(&[]), &mut none);
+    write_a(&mut short);
+    write_a(&mut []);
+}
+
+fn written_c() {
+    say(b"write C");
+    let mut out = [GUARD; 11];
+    write(fields_of(&stations::C), &mut out);
+}
+
+// The fields beside a refused read.
+fn written_none() {
+    say(b"write fields of 0");
+    let mut out = [GUARD; 2];
+    write(fields_of(&[]), &mut out);
 }
 
 // All that the limits allow, in 107 words.
-fn widest() {
+fn widest(out: &mut [u32]) {
+    say(b"write n 12 a 8 o 8");
     let f = Fields {
         states: 12,
         actions: 8,
@@ -131,72 +144,110 @@ fn widest() {
         shown: [4095; 8],
         moves: [4095; 96],
     };
-    let mut out = [GUARD; 108];
-    write(b"n 12 a 8 o 8", f, &mut out);
+    write(f, out);
+}
+
+fn written_widest() {
+    let mut roomy = [GUARD; 108];
+    widest(&mut roomy);
     let mut short = [GUARD; 106];
-    write(b"n 12 a 8 o 8", f, &mut short);
+    widest(&mut short);
+}
+
+fn write_numbers(n: u32, a: u32, o: u32) {
+    say(b"write A with n ");
+    print::decimal(n as u64);
+    say(b" a ");
+    print::decimal(a as u64);
+    say(b" o ");
+    print::decimal(o as u64);
+    write_10(with_numbers(n, a, o));
+}
+
+fn write_sets(start: u32, bad: u32) {
+    say(b"write A with start ");
+    print::decimal(start as u64);
+    say(b" bad ");
+    print::decimal(bad as u64);
+    write_10(with_sets(start, bad));
+}
+
+fn print_slot(mask: u32, slot: usize) {
+    print::decimal(mask as u64);
+    say(b" in slot ");
+    print::decimal(slot as u64);
+}
+
+fn write_shown(slot: usize, mask: u32) {
+    say(b"write A with reading ");
+    print_slot(mask, slot);
+    write_10(with_shown(fields(), slot, mask));
+}
+
+fn write_move(slot: usize, mask: u32) {
+    say(b"write A with move ");
+    print_slot(mask, slot);
+    write_10(with_move(fields(), slot, mask));
 }
 
 fn limits() {
-    write_10(b"A with n 0", with_numbers(0, 2, 1));
-    write_10(b"A with n 13", with_numbers(13, 2, 1));
-    write_10(b"A with a 0", with_numbers(3, 0, 1));
-    write_10(b"A with a 9", with_numbers(3, 9, 1));
-    write_10(b"A with o 0", with_numbers(3, 2, 0));
-    write_10(b"A with o 9", with_numbers(3, 2, 9));
-    write_10(b"A with n 4294967295", with_numbers(4294967295, 2, 1));
+    write_numbers(0, 2, 1);
+    write_numbers(13, 2, 1);
+    write_numbers(3, 0, 1);
+    write_numbers(3, 9, 1);
+    write_numbers(3, 2, 0);
+    write_numbers(3, 2, 9);
+    write_numbers(4294967295, 2, 1);
 }
 
 fn slots() {
-    write_10(b"A with 1 in reading slot 1", with_shown(fields(), 1, 1));
-    write_10(b"A with 1 in reading slot 7", with_shown(fields(), 7, 1));
-    write_10(b"A with 1 in move slot 6", with_move(fields(), 6, 1));
-    write_10(b"A with 1 in move slot 95", with_move(fields(), 95, 1));
+    write_shown(1, 1);
+    write_shown(7, 1);
+    write_move(6, 1);
+    write_move(95, 1);
 }
 
 fn masks() {
-    write_10(b"A with start 7", with_sets(7, 4));
-    write_10(b"A with start 8", with_sets(8, 4));
-    write_10(b"A with start 65536", with_sets(65536, 4));
-    write_10(b"A with bad 7", with_sets(1, 7));
-    write_10(b"A with bad 8", with_sets(1, 8));
-    write_10(b"A with 15 in reading slot 0", with_shown(fields(), 0, 15));
-    write_10(b"A with 7 in move slot 5", with_move(fields(), 5, 7));
-    write_10(b"A with 8 in move slot 5", with_move(fields(), 5, 8));
-    write_10(b"A with start 0", with_sets(0, 4));
-    write_10(b"A with 3 in reading slot 0", with_shown(fields(), 0, 3));
-    write_10(b"A with 0 in reading slot 0", with_shown(fields(), 0, 0));
+    write_sets(7, 4);
+    write_sets(8, 4);
+    write_sets(65536, 4);
+    write_sets(1, 7);
+    write_sets(1, 8);
+    write_shown(0, 15);
+    write_move(5, 7);
+    write_move(5, 8);
+    write_sets(0, 4);
+    write_shown(0, 3);
+    write_shown(0, 0);
 }
 
-// 2 before 11, 11 before 5, 5 before 6, 6 before 7, 7 before 10.
+// 2 before 11, 11 before 5.
 fn order() {
-    write_10(
-        b"A with n 13 and 1 in reading slot 1",
-        with_shown(with_numbers(13, 2, 1), 1, 1),
-    );
-    write_10(
-        b"A with start 8 and 1 in reading slot 1",
-        with_shown(with_sets(8, 4), 1, 1),
-    );
-    write_10(b"A with start 0 and bad 8", with_sets(0, 8));
-    write_10(
-        b"A with start 0 and 3 in reading slot 0",
-        with_shown(with_sets(0, 4), 0, 3),
-    );
+    say(b"write A with n 13 and reading 1 in slot 1");
+    write_10(with_shown(with_numbers(13, 2, 1), 1, 1));
+    say(b"write A with start 8 and reading 1 in slot 1");
+    write_10(with_shown(with_sets(8, 4), 1, 1));
+}
+
+// 5 before 6, 6 before 7, 7 before 10.
+fn more_order() {
+    write_sets(0, 8);
+    say(b"write A with start 0 and reading 3 in slot 0");
+    write_10(with_shown(with_sets(0, 4), 0, 3));
+    say(b"write A with reading 3 in slot 0");
     let mut short = [GUARD; 9];
-    write(
-        b"A with 3 in reading slot 0",
-        with_shown(fields(), 0, 3),
-        &mut short,
-    );
+    write(with_shown(fields(), 0, 3), &mut short);
 }
 
 pub fn rows() {
     reads();
     written();
-    widest();
+    written_c();
+    written_none();
+    written_widest();
     limits();
     slots();
     masks();
     order();
+    more_order();
 }

@@ -39,21 +39,41 @@ fn station_a() {
     judge_a(0, 4);
 }
 
+fn judge_c(mask: u32, k: u32) {
+    judge(b"C", &stations::C, mask, k);
+}
+
+fn judge_d(k: u32) {
+    judge(b"D", &stations::D, 1, k);
+}
+
+fn judge_g(k: u32) {
+    judge(b"G", &stations::G, 1, k);
+}
+
+fn judge_h(mask: u32, k: u32) {
+    judge(b"H", &stations::H, mask, k);
+}
+
+fn judge_12(mask: u32, k: u32) {
+    judge(b"n 12", &stations::STATES_12, mask, k);
+}
+
 fn stations() {
-    judge(b"C", &stations::C, 3, 1);
-    judge(b"C", &stations::C, 3, 2);
-    judge(b"C", &stations::C, 1, 4);
-    judge(b"C", &stations::C, 2, 4);
-    judge(b"D", &stations::D, 1, 0);
-    judge(b"D", &stations::D, 1, 1);
+    judge_c(3, 1);
+    judge_c(3, 2);
+    judge_c(1, 4);
+    judge_c(2, 4);
+    judge_d(0);
+    judge_d(1);
     judge(b"E", &stations::E, 1, 1);
     judge(b"F", &stations::F, 1, 4);
-    judge(b"G", &stations::G, 1, 3);
-    judge(b"G", &stations::G, 1, 4);
-    judge(b"H", &stations::H, 1, 2);
-    judge(b"H", &stations::H, 3, 2);
-    judge(b"n 12", &stations::STATES_12, 4095, 4);
-    judge(b"n 12", &stations::STATES_12, 4096, 4);
+    judge_g(3);
+    judge_g(4);
+    judge_h(1, 2);
+    judge_h(3, 2);
+    judge_12(4095, 4);
+    judge_12(4096, 4);
 }
 
 fn refusals() {
@@ -63,6 +83,9 @@ fn refusals() {
     judge_a(8, 0);
     judge_a(4294967295, 4);
     judge_a(8, 5);
+}
+
+fn refused_tables() {
     judge(b"no words", &[], 1, 1);
     judge(b"n 13", &stations::STATES_13, 1, 1);
     let wide = changed_a(2, 0x30000008, 2, 0x30000008);
@@ -73,4 +96,5 @@ pub fn rows() {
     station_a();
     stations();
     refusals();
+    refused_tables();
 }
