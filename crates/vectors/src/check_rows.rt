@@ -27,12 +27,8 @@ fn check_head(head: u32) {
     let table = [head];
     say(b"check ");
     print::word(head);
-    check_alone(&table);
-}
-
-fn check_alone(table: &[u32]) {
     say(b" alone");
-    print_answer(tables::check(table));
+    print_answer(tables::check(&table));
 }
 
 // A with one word changed.
@@ -109,8 +105,8 @@ fn lengths() {
     check(b"10010200 00000000", &two);
 }
 
-// Refusal 4: another kind, spare bits, another index.
-fn kinds() {
+// Refusal 4 (another kind, spare bits, another index); 5, with the masks just inside; 6 and 7.
+fn changes() {
     check_a(1, 0x30000001);
     check_a(1, 0x00000001);
     check_a(1, 0x20010001);
@@ -125,10 +121,6 @@ fn kinds() {
     check_a(7, 0x50200004);
     check_a(9, 0x50020004);
     check_a(9, 0x51120004);
-}
-
-// Refusal 5, and the masks just inside.
-fn masks() {
     check_a(1, 0x20000007);
     check_a(1, 0x20000008);
     check_a(1, 0x20008000);
@@ -139,10 +131,6 @@ fn masks() {
     check_a(4, 0x50000008);
     check_a(9, 0x50120007);
     check_a(9, 0x50120008);
-}
-
-// Refusals 6 and 7.
-fn sets() {
     check_a(1, 0x20000000);
     check_a(3, 0x40000003);
     check_a(3, 0x40000005);
@@ -188,8 +176,6 @@ pub fn rows() {
     heads();
     limits();
     more_limits();
-    kinds();
-    masks();
-    sets();
+    changes();
     order();
 }

@@ -190,7 +190,8 @@ fn write_move(slot: usize, mask: u32) {
     write_10(with_move(fields(), slot, mask));
 }
 
-fn limits() {
+// Refusals 2, 11, 5, 6 and 7, and what is just inside.
+fn changes() {
     write_numbers(0, 2, 1);
     write_numbers(13, 2, 1);
     write_numbers(3, 0, 1);
@@ -198,16 +199,10 @@ fn limits() {
     write_numbers(3, 2, 0);
     write_numbers(3, 2, 9);
     write_numbers(4294967295, 2, 1);
-}
-
-fn slots() {
     write_shown(1, 1);
     write_shown(7, 1);
     write_move(6, 1);
     write_move(95, 1);
-}
-
-fn masks() {
     write_sets(7, 4);
     write_sets(8, 4);
     write_sets(65536, 4);
@@ -245,9 +240,7 @@ pub fn rows() {
     written_c();
     written_none();
     written_widest();
-    limits();
-    slots();
-    masks();
+    changes();
     order();
     more_order();
 }

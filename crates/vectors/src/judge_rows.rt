@@ -76,6 +76,7 @@ fn stations() {
     judge_12(4096, 4);
 }
 
+// Refusals 17 and 5.
 fn refusals() {
     judge_a(1, 5);
     judge_a(1, 4294967295);

@@ -107,9 +107,6 @@ fn limits() {
     join_ones(0, 0, 0);
     join_ones(13, 1, 2);
     join_ones(4294967295, 1, 2);
-}
-
-fn meet_limits() {
     meet_ones(1, 1, 1);
     meet_ones(1, 1, 2);
     meet_ones(12, 4095, 2048);
@@ -139,7 +136,6 @@ pub fn rows() {
     empty();
     unordered();
     limits();
-    meet_limits();
     order();
     short();
 }
