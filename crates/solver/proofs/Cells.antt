@@ -4,13 +4,13 @@ use mathlib.Core.Path.{_≡_, refl, sym, ap, _∙_, subst}
 use mathlib.Core.Logic.{_⊎_, ⊎-elim}
 use mathlib.Core.Bool.{Bool, true, false, not, _&&_, _||_}
 use mathlib.Core.List.{List, [], _∷_, _++_}
-use Prim.Native.Nat.{ℕ, suc, _+_, _*_, _^_, _≤_, _<_}
-use native.Mathlib.Nat.{le-antisymm}
+use Prim.Native.Nat.{ℕ, suc, _+_, _*_, _-_, _^_, _≤_, _<_}
+use native.Mathlib.Nat.{le-antisymm, add-sub-cancel-left}
 use native.Mathlib.Numerals.{add-one}
 use native.Mathlib.Omega.{arith}
 use lib.Dec.{leb}
 use lib.Pow.{pow-pos}
-use lib.ListN.{length, getD, take, drop, set, length-set, length-drop}
+use lib.ListN.{length, getD, take, drop, set, length-set, length-drop, length-append}
 use lib.Seq.{getD-take, take-set-le, drop-set-add, take-at}
 use borrow.Author.Tests.{le-leb, lt-leb}
 use Rattle.sets.specs.Mask.{member, subset}
@@ -19,7 +19,7 @@ use Rattle.sets.specs.Family.{isMaximal, maximal}
 use Rattle.sets.proofs.Logic.{and-intro, and-false-left, and-false-right, or-left, or-right, or-false-intro, true-not, false-not}
 use Rattle.sets.proofs.Bounded.{all-more, all-refuted, count-le, count-zero, count-hit, count-skip, collect-none, collect-hit, collect-skip, select-length}
 use Rattle.sets.proofs.Mask.{add-lt}
-use Rattle.sets.proofs.Family.{DownBelow, maximal-by-states}
+use Rattle.sets.proofs.Family.{DownBelow, maximal-by-states, maximal-length}
 use Rattle.games.specs.Game.{Game, Accepted}
 use Rattle.games.specs.Step.{good, antichain, settling}
 use Rattle.games.specs.Verdict.{settled, cells}
@@ -141,3 +141,27 @@ module _ (g : Game) (work₀ : List ℕ) where
           number = sym many ∙ ap length whole;
           listed = ap (take m) (w .behind) ∙ take-at (select s cell) (drop m (drop (2 ^ g .states) work₀)) m many ∙ whole;
         }
+
+-- there are at most 2 ^ n cells
+pub cells-few : (g : Game) → length (cells g) ≤ 2 ^ g .states
+unfolding cells antichain
+cells-few g = maximal-length (g .states) _
+
+-- the search's part of the work comes back in front of the rest
+pub kept-from : (g : Game) (k size : ℕ) (exit work : List ℕ) → size ≡ 2 ^ g .states → SettledAt g k exit → length work ≡ workWords (g .states) → Kept g k (exit ++ drop size work)
+kept-from g k size exit work is found room =
+    record {
+      room = length-append exit (drop size work) ∙ omega (arith, length-drop size work, found .size);
+      front = subst (SettledAt g k) (sym (take-at exit (drop size work) (2 ^ g .states) (found .size))) found;
+    }
+
+module _ (g : Game) (m size : ℕ) (work : List ℕ) (is : size ≡ 2 ^ g .states) (w : Collected g m work) where
+  pub collected-within : size + m ≤ length work
+  collected-within =
+      omega (arith, w .room, w .number, cells-few g)
+
+  pub collected-part : take (size + m - size) (drop size work) ≡ cells g
+  collected-part =
+      ap (λ (n : ℕ). take n (drop size work)) (add-sub-cancel-left size m)
+      ∙ ap (λ (n : ℕ). take m (drop n work)) is
+      ∙ w .listed

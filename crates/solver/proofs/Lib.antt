@@ -3,3 +3,7 @@ pub mod Turns
 pub mod Searching
 pub mod Cells
 pub mod Words
+pub mod Choosing
+pub mod Carding
+pub mod Answers
+pub mod Promises

@@ -5,7 +5,7 @@ use mathlib.Core.Logic.{_⊎_, ⊎-elim}
 use mathlib.Core.Bool.{Bool, true, false}
 use mathlib.Core.List.{List}
 use Prim.Native.Nat.{ℕ, zero, suc, _+_, _^_, _≤_, _<_}
-use native.Mathlib.Nat.{le-refl, le-antisymm, eq-or-lt-of-le}
+use native.Mathlib.Nat.{le-refl, le-antisymm}
 use native.Mathlib.Numerals.{add-one}
 use native.Mathlib.Omega.{arith}
 use lib.Dec.{leb}
@@ -29,6 +29,7 @@ use Rattle.games.proofs.Decided.{verdict-no}
 use Rattle.solver.specs.Ranks.{Ranked, Tells, rank, shownGood}
 use Rattle.solver.specs.Search.{SettledAt}
 use Rattle.solver.proofs.Ranks.{rank-zero, rank-tells}
+use Rattle.solver.proofs.Turns.{lt-by-ne}
 
 -- after k rounds: the ranks, how many sets are good for k, no start set lost, the families never the same so far
 pub record Searching (g : Game) (k left : ℕ) (ranks : List ℕ) : Type 0 where
@@ -61,9 +62,6 @@ searching-none g d e size is =
       starts = below-more (λ j. startsIn g (good g j) ≡ true) 0 (below-none (λ j. startsIn g (good g j) ≡ true)) (all-intro (g .observations) (λ o. good g 0 (startSet g o)) (λ o l. refl));
       unsettled = below-none (λ j. fixed g j ≡ false);
     }
-
-lt-by-ne : (a b : ℕ) → a ≤ b → (a ≡ b → ⊥) → a < b
-lt-by-ne a b l n = ⊎-elim (λ e. absurd (n e)) (λ h. h) (eq-or-lt-of-le l)
 
 not-over : (a b : ℕ) → (b < a → ⊥) → a ≤ b
 not-over a b h = ⊎-elim (λ e. leb-true a b e) (λ e. absurd (h (leb-false a b e))) (decided (leb a b))

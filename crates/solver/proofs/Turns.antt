@@ -5,6 +5,7 @@ use mathlib.Core.Logic.{_⊎_, ⊎-elim}
 use mathlib.Core.Bool.{Bool, true, false, cond, _&&_}
 use mathlib.Core.List.{List}
 use Prim.Native.Nat.{ℕ, _+_, _^_, _≤_, _<_}
+use native.Mathlib.Nat.{eq-or-lt-of-le}
 use native.Mathlib.Omega.{arith}
 use lib.Dec.{eqb, leb}
 use lib.ListN.{length, getD}
@@ -27,8 +28,11 @@ use Rattle.tables.specs.declared.Walked.{Walked}
 use Rattle.tables.specs.declared.Walked.the-variants.{Blocked, Post}
 use Rattle.solver.specs.Ranks.{Ranked, Tells, shownGood}
 
+pub lt-by-ne : (a b : ℕ) → a ≤ b → (a ≡ b → ⊥) → a < b
+lt-by-ne a b l n = ⊎-elim (λ e. absurd (n e)) (λ h. h) (eq-or-lt-of-le l)
+
 module _ (g : Game) (k s a : ℕ) (r : Walked) (is : r ≡ walked g s a) where
-  walked-post : (u : ℕ) → r ≡ Post u → (enabledAt g s a ≡ true) × (post g s a ≡ u)
+  pub walked-post : (u : ℕ) → r ≡ Post u → (enabledAt g s a ≡ true) × (post g s a ≡ u)
   unfolding walked
   walked-post u e =
       ⊎-elim
@@ -98,3 +102,6 @@ few-states w z = z .limits .most-states
 pub sets-few : (w : List ℕ) → Sized w → 2 ^ game w .states ≤ 4096
 unfolding game
 sets-few w z = pow-mono (z .limits .most-states)
+
+pub size-is : (g : Game) (n size : ℕ) → n ≡ g .states → size ≡ 2 ^ n → size ≡ 2 ^ g .states
+size-is g n size e h = h ∙ ap (λ (m : ℕ). 2 ^ m) e

@@ -26,6 +26,7 @@ use Rattle.tables.specs.Layout.{Sized}
 use Rattle.tables.proofs.Checks.{sized, accepted}
 use Rattle.solver.specs.Writing.{Writing, frontWords, setWords}
 use Rattle.solver.proofs.Turns.{sets-few}
+use Rattle.solver.proofs.Cells.{cells-few}
 use Rattle.games.specs.Automaton.{noCell, holding, chosen}
 use Rattle.games.proofs.Winning.{at-mem, mem-at}
 use Rattle.games.proofs.Settling.{cells-hold, settled-step}
@@ -64,11 +65,6 @@ holding-small l s b = small (eqb s 0)
     small : (e : Bool) → cond e noCell (orElse (first (length l) (holdsAt l s)) noCell) < 65536
     small true = omega arith
     small false = found-small
-
--- there are at most 2 ^ n cells
-pub cells-few : (g : Game) → length (cells g) ≤ 2 ^ g .states
-unfolding cells antichain
-cells-few g = maximal-length (g .states) _
 
 -- a part of one word and o more, of which j are those of f
 pub record Filled (o : ℕ) (f : ℕ → ℕ) (j : ℕ) (out : List ℕ) : Type 0 where

@@ -1,3 +1,4 @@
 pub mod Ranks
 pub mod Search
 pub mod Writing
+pub mod Solve

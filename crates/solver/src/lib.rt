@@ -1,20 +1,23 @@
 // The solver: the search on sets, and the card.
 ghost use mathlib.Core.Path.{_≡_};
 ghost use Prim.Native.Nat.{_+_, _<_, _≤_, _^_};
-ghost use lib.ListN.{length};
+ghost use mathlib.Core.List.{_++_};
+ghost use lib.ListN.{length, drop};
 ghost use Rattle.sets.specs.Bounded.{count};
-ghost use Rattle.games.specs.Words.{game};
+ghost use Rattle.games.specs.Words.{game, cardLength};
 ghost use Rattle.games.specs.Step.{meets, step, good};
 ghost use Rattle.tables.specs.Check.{checked};
 ghost use Rattle.tables.specs.declared.Checked.the-variants.{Fine};
 ghost use Rattle.solver.specs.Ranks.{Ranked, Tells, shownGood};
 ghost use Rattle.sets.specs.Family.{isMaximal};
-ghost use Rattle.games.specs.Verdict.{settled};
-ghost use Rattle.solver.specs.Search.{Searched, Kept, Collected};
+ghost use Rattle.games.specs.Verdict.{settled as isSettled, cells as cellsOf, verdict, Yes};
+ghost use Rattle.solver.specs.Solve.{leaves, byVerdict, cardOf, outcome, solved, Promise};
+ghost use Rattle.solver.specs.Search.{Searched, Kept, Collected, workWords};
 ghost use Rattle.games.specs.Automaton.{holding as holdingCell};
 ghost use Rattle.solver.specs.Writing.{Writing, Cell, frontWords, setWords};
 use games::Action;
 use games::Observation;
+use tables::Checked;
 use tables::Walked;
 
 // The cell number that says: the observation cannot occur here.
@@ -126,7 +129,7 @@ fn search(table: &[u32], ranks: &mut [u32]) -> Outcome
 // The set is settled, and with any state more it is not: it is one of the cells.
 fn is_cell(table: &[u32], work: &[u32], k: u32, s: u32) -> bool
     requires { ⌜ (checked (now table) ≡ Fine) × Kept (game (now table)) k (now work) × (s < 2 ^ game (now table) .states) ⌝ }
-    ensures { λ r. ⌜ r ≡ isMaximal (game (now (table .entry)) .states) (settled (game (now (table .entry)))) s ⌝ }
+    ensures { λ r. ⌜ r ≡ isMaximal (game (now (table .entry)) .states) (isSettled (game (now (table .entry)))) s ⌝ }
 {
     if work[s as usize] <= k {
         return false;
@@ -227,4 +230,75 @@ fn write_cell(table: &[u32], cells: &[u32], s: u32, out: &mut [u32])
         out[0] = cards::word(10, s, 0, a);
         return;
     }
+}
+
+// The card's words at the front of its room.
+fn write_card(table: &[u32], cells: &[u32], card: &mut [u32])
+    requires { ⌜ (checked (now table) ≡ Fine) × (now cells ≡ cellsOf (game (now table))) × (cardLength (length (now cells)) (game (now table) .observations) ≤ length (now card)) ⌝ }
+    ensures { λ _. ⌜ now (card .exit) ≡ cardOf (game (now (table .entry))) ++ drop (cardLength (length (now (cells .entry))) (game (now (table .entry)) .observations)) (now (card .entry)) ⌝ }
+{
+    let part = 1 + tables::observations(table) as usize;
+    write_front(table, cells, &mut card[..part]);
+    let mut c: usize = 0;
+    while c < cells.len() {
+        let at = part + c * part;
+        write_cell(table, cells, cells[c], &mut card[at..at + part]);
+        c += 1;
+    }
+}
+
+// The answer of solve: yes with the settling count and the number of cells, no with the round number, or a refusal.
+pub enum Answer {
+    Yes(u32, u32),
+    No(u32),
+    Refused(u32, usize),
+}
+
+// A yes: the card is written if there is room for it.
+fn grant(table: &[u32], cells: &[u32], card: &mut [u32], settled: u32) -> Answer
+    requires { ⌜ (checked (now table) ≡ Fine) × (now cells ≡ cellsOf (game (now table))) ⌝ }
+    ensures { λ r. ⌜ leaves r (now (card .exit)) ≡ byVerdict (game (now (table .entry))) (now (card .entry)) (Yes settled (length (now (cells .entry)))) ⌝ }
+{
+    let part = 1 + tables::observations(table) as usize;
+    let m = cells.len();
+    let need = part + m * part;
+    if card.len() < need {
+        return Answer::Refused(9, need);
+    }
+    write_card(table, cells, card);
+    Answer::Yes(settled, m as u32)
+}
+
+// The search, and the card where it ends in a yes.
+fn decide(table: &[u32], work: &mut [u32], card: &mut [u32]) -> Answer
+    requires { ⌜ (checked (now table) ≡ Fine) × (length (now work) ≡ workWords (game (now table) .states)) ⌝ }
+    ensures { λ r. ⌜ leaves r (now (card .exit)) ≡ byVerdict (game (now (table .entry))) (now (card .entry)) (verdict (game (now (table .entry)))) ⌝ }
+{
+    let size = set_count(tables::states(table));
+    let found = search(table, &mut work[..size]);
+    match found {
+        Outcome::Lost(k) => Answer::No(k),
+        Outcome::Settled(k) => {
+            let m = collect(table, work, k);
+            grant(table, &work[size..size + m], card, k)
+        }
+    }
+}
+
+// Solve: the verdict on a table and the card of a yes.
+pub fn solve(table: &[u32], work: &mut [u32], card: &mut [u32]) -> Answer
+    ensures determined { λ r. ⌜ outcome r (now (work .exit)) (now (card .exit)) ≡ solved (now (table .entry)) (now (work .entry)) (now (card .entry)) ⌝ }
+    ensures promised { λ r. ⌜ Promise (now (table .entry)) (now (work .entry)) (now (card .entry)) r (now (card .exit)) ⌝ }
+{
+    let checked = tables::check(table);
+    if let Checked::Refused(number, place) = checked {
+        return Answer::Refused(number, place);
+    }
+    let need = 4 * set_count(tables::states(table));
+    if work.len() < need {
+        return Answer::Refused(8, need);
+    }
+    let answer = decide(table, &mut work[..need], card);
+    sets::fill(work, need, 0);
+    answer
 }

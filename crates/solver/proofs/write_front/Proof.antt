@@ -34,11 +34,12 @@ loop-holds : tie.Need-loop-holds Inv-loop μ-loop
 loop-holds c =
     let start = c .before .before .before .before .before in
     let w = start .pre in
-    let e = c .observations .ensures in
-    (cells-small (start .args .table .now) (start .args .cells .now) (start .args .out .now) w,
-    subst (λ (n : ℕ). n ≤ 8) (sym e) (observations-small (start .args .table .now) (start .args .cells .now) (start .args .out .now) w),
-    search needs,
-    filled-none (c .observations .result) (firstWord (game (start .args .table .now)) (start .args .cells .now)) (start .args .out .now) (w .room ∙ ap (λ (n : ℕ). 1 + n) (sym e)))
+    let e = c .observations .ensures in (
+      cells-small (start .args .table .now) (start .args .cells .now) (start .args .out .now) w,
+      subst (λ (n : ℕ). n ≤ 8) (sym e) (observations-small (start .args .table .now) (start .args .cells .now) (start .args .out .now) w),
+      search needs,
+      filled-none (c .observations .result) (firstWord (game (start .args .table .now)) (start .args .cells .now)) (start .args .out .now) (w .room ∙ ap (λ (n : ℕ). 1 + n) (sym e)),
+    )
 
 shown-requires : tie.Need-shown-requires Inv-loop μ-loop
 shown-requires c κs = (sized (c .before .before .before .before .before .before .before .args .table .now) (c .before .before .before .before .before .before .before .pre .fine), omega arith)
@@ -74,11 +75,14 @@ loop-again c =
     let at = c .before .before .before .before in
     let start = at .before .before .before .before .before .before in
     let g = game (start .args .table .now) in
-    let l = start .args .cells .now in
-    (at .loop .inv .0, at .loop .inv .1, search needs,
-    filled-more (at .before .observations .result) (firstWord g l) (at .loop .j) (at .loop .out) (c .word .result) (omega arith)
-    (first-word g l (at .loop .j) (c .word .result) (c .before .holding .result) (at .before .before .start .result) (c .before .before .shown .result) (c .word .ensures) (c .before .holding .ensures) (at .before .before .start .ensures) (c .before .before .shown .ensures))
-    (at .loop .inv .3))
+    let l = start .args .cells .now in (
+      at .loop .inv .0,
+      at .loop .inv .1,
+      search needs,
+      filled-more (at .before .observations .result) (firstWord g l) (at .loop .j) (at .loop .out) (c .word .result) (omega arith)
+          (first-word g l (at .loop .j) (c .word .result) (c .before .holding .result) (at .before .before .start .result) (c .before .before .shown .result) (c .word .ensures) (c .before .holding .ensures) (at .before .before .start .ensures) (c .before .before .shown .ensures))
+          (at .loop .inv .3),
+    )
 
 cast-word : tie.Need-cast-word Inv-loop μ-loop
 cast-word c = omega (arith, c .before .loop .inv .0)
@@ -89,9 +93,12 @@ actions-requires c κs = sized (c .before .before .before .before .before .befor
 word-requires-2 : tie.Need-word-requires-2 Inv-loop μ-loop
 word-requires-2 c κs =
     let at = c .before .before in
-    let start = at .before .before .before .before .before .before in
-    (search needs, omega (arith, at .loop .inv .0), omega (arith, at .loop .inv .1),
-    omega (arith, c .actions .ensures, actions-small (start .args .table .now) (start .args .cells .now) (start .args .out .now) (start .pre)))
+    let start = at .before .before .before .before .before .before in (
+      search needs,
+      omega (arith, at .loop .inv .0),
+      omega (arith, at .loop .inv .1),
+      omega (arith, c .actions .ensures, actions-small (start .args .table .now) (start .args .cells .now) (start .args .out .now) (start .pre)),
+    )
 
 slice-write-out-2 : tie.Need-slice-write-out-2 Inv-loop μ-loop
 slice-write-out-2 c = omega (arith, c .before .before .before .loop .inv .3 .size)
