@@ -5,6 +5,7 @@ mod field_rows;
 mod judge_rows;
 mod list_rows;
 mod print;
+mod solve_rows;
 mod stations;
 
 fn main() {
@@ -13,4 +14,5 @@ fn main() {
     list_rows::rows();
     judge_rows::rows();
     card_rows::rows();
+    solve_rows::rows();
 }
