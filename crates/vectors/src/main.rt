@@ -5,6 +5,8 @@ mod field_rows;
 mod judge_rows;
 mod list_rows;
 mod print;
+mod run_rows;
+mod show_rows;
 mod solve_rows;
 mod stations;
 
@@ -15,4 +17,6 @@ fn main() {
     judge_rows::rows();
     card_rows::rows();
     solve_rows::rows();
+    show_rows::rows();
+    run_rows::rows();
 }
