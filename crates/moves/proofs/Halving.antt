@@ -4,8 +4,8 @@ use mathlib.Core.Path.{_≡_, refl, sym, ap, ap₂, _∙_, subst}
 use mathlib.Core.Logic.{_⊎_, inl, inr, ⊎-elim}
 use mathlib.Core.Bool.{Bool, true, false, cond, _&&_, _||_, not}
 use mathlib.Core.List.{List, _++_}
-use Prim.Native.Nat.{ℕ, zero, suc, _+_, _-_, _*_, _/_, _%_, _^_, _≤_, _<_}
-use native.Mathlib.Nat.{le-refl, le-step, le-trans, eq-or-lt-of-le, not-suc-le-zero, mod-eq-of-lt, div-eq-of-lt, mod-lt, div-lt-iff-lt-mul, pow-suc, le-of-suc-le-suc, add-sub-cancel-left}
+use Prim.Native.Nat.{ℕ, zero, suc, _+_, _-_, _*_, _/_, _%_, _^_, _≤_, _<_, min}
+use native.Mathlib.Nat.{mod-le, le-refl, le-step, le-trans, eq-or-lt-of-le, not-suc-le-zero, mod-eq-of-lt, div-eq-of-lt, mod-lt, div-lt-iff-lt-mul, pow-suc, add-sub-cancel-left, mul-le-mul-right, suc-mul}
 use native.Mathlib.Numerals.{add-one}
 use native.Mathlib.Omega.{arith}
 use lib.Dec.{eqb, ltb}
@@ -22,7 +22,7 @@ use Rattle.sets.proofs.Mask.{member-beyond, member-below, member-or, member-sin
 use Rattle.games.specs.Game.{Game, Accepted, enabled}
 use Rattle.games.specs.Step.{enabledAt, post}
 use Rattle.games.proofs.Steps.{enabled-at, enabled-fails}
-use Rattle.games.specs.Words.{game, lowField, headStates, headObservations, tableLength}
+use Rattle.games.specs.Words.{game, lowField, headStates, headActions, headObservations, tableLength}
 use Rattle.tables.specs.Check.{checked}
 use Rattle.tables.specs.Layout.{Sized}
 use Rattle.tables.specs.declared.Checked.the-variants.{Fine}
@@ -60,8 +60,8 @@ module _ (size w : ℕ) (d : List ℕ) where
         same = length-set e (size + x) v ∙ k .same;
         front = λ y b. getD-set-other e (size + x) y v 0 (λ h. omega arith) ∙ k .front y b;
         behind = below-more (λ y. getD (set e (size + x) v) (size + y) 0 ≡ union (getD d y 0) w) x
-          (λ y b. getD-set-other e (size + x) (size + y) v 0 (λ h. omega arith) ∙ k .behind y b)
-          (getD-set-same e (size + x) v 0 (omega (arith, k .same)) ∙ is ∙ ap (λ (z : ℕ). union z w) (k .front x l))
+            (λ y b. getD-set-other e (size + x) (size + y) v 0 (λ h. omega arith) ∙ k .behind y b)
+            (getD-set-same e (size + x) v 0 (omega (arith, k .same)) ∙ is ∙ ap (λ (z : ℕ). union z w) (k .front x l));
       }
 
   pub doubling-end : (x : ℕ) (e : List ℕ) → size ≤ x → Doubling size w x d e → Doubled size w d e
@@ -81,7 +81,7 @@ halving-none moves d r =
       within = omega arith;
       power = refl;
       length-is = length-set d 0 0 ∙ r;
-      at = λ h l. at-zero h (omega arith)
+      at = λ h l. at-zero h (omega arith);
     }
   where
     at-zero : (h : ℕ) → h ≡ 0 → getD (set d 0 0) h 0 ≡ unionOver 0 h (marked moves)
@@ -97,7 +97,7 @@ module _ (moves : List ℕ) (i : ℕ) where
       let out = member-beyond i x i l (le-refl i) in
       unionOver-hit i (x + 2 ^ i) (marked moves) (member-add-same x i out)
       ∙ ap (λ (u : ℕ). union u (marked moves i))
-        (members-same i (x + 2 ^ i) x (marked moves) (λ j b. member-add-other x i out j (λ e. omega arith)))
+      (members-same i (x + 2 ^ i) x (marked moves) (λ j b. member-add-other x i out j (λ e. omega arith)))
 
   pub halving-more : (size w : ℕ) (d e : List ℕ) → i < length moves → w ≡ marked moves i → Halving moves i size d → Doubled size w d e → Halving moves (i + 1) (size + size) e
   halving-more size w d e l is k b =
@@ -105,7 +105,7 @@ module _ (moves : List ℕ) (i : ℕ) where
         within = omega arith;
         power = double-power;
         length-is = b .same ∙ k .length-is;
-        at = λ h m. ⊎-elim (λ f. low h (ltb-true h size f)) (λ f. high h m (ltb-false h size f)) (decided (ltb h size))
+        at = λ h m. ⊎-elim (λ f. low h (ltb-true h size f)) (λ f. high h m (ltb-false h size f)) (decided (ltb h size));
       }
     where
       double-power : size + size ≡ 2 ^ (i + 1)
@@ -136,8 +136,8 @@ halving-end moves half i size h k =
     record {
       size = k .length-is;
       at = λ x l.
-        k .at x (subst (λ (n : ℕ). x < n) (sym (k .power ∙ ap (λ (n : ℕ). 2 ^ n) e)) l)
-        ∙ ap (λ (n : ℕ). unionOver n x (marked moves)) e
+          k .at x (subst (λ (n : ℕ). x < n) (sym (k .power ∙ ap (λ (n : ℕ). 2 ^ n) e)) l)
+          ∙ ap (λ (n : ℕ). unionOver n x (marked moves)) e;
     }
 
 -- the doubled part fits
@@ -176,38 +176,38 @@ module _ (n k s : ℕ) (F : ℕ → ℕ) (within : k ≤ n) (few : k ≤ halfSta
       let i = w .0 in
       ⊎-elim
       (λ f.
-        let b = ltb-true i k f in
-        or-left (member (unionOver (n - k) (s / halfSets) (λ i. F (k + i))) j)
-        (unionOver-intro k (s % halfSets) F j i b (low-member s i (omega arith) ∙ w .2) (w .3)))
+      let b = ltb-true i k f in
+      or-left (member (unionOver (n - k) (s / halfSets) (λ i. F (k + i))) j)
+      (unionOver-intro k (s % halfSets) F j i b (low-member s i (omega arith) ∙ w .2) (w .3)))
       (λ f.
-        let b = ltb-false i k f in
-        let six = high-half i (w .1) b in
-        let back : halfStates + (i - k) ≡ i = omega arith in
-        let again : k + (i - k) ≡ i = omega arith in
-        or-right (member (unionOver k (s % halfSets) F) j)
-        (unionOver-intro (n - k) (s / halfSets) (λ i. F (k + i)) j (i - k) (omega (arith, w .1))
-        (high-member s (i - k) ∙ ap (member s) back ∙ w .2) (ap (λ (x : ℕ). member (F x) j) again ∙ w .3)))
+      let b = ltb-false i k f in
+      let six = high-half i (w .1) b in
+      let back : halfStates + (i - k) ≡ i = omega arith in
+      let again : k + (i - k) ≡ i = omega arith in
+      or-right (member (unionOver k (s % halfSets) F) j)
+      (unionOver-intro (n - k) (s / halfSets) (λ i. F (k + i)) j (i - k) (omega (arith, w .1))
+      (high-member s (i - k) ∙ ap (member s) back ∙ w .2) (ap (λ (x : ℕ). member (F x) j) again ∙ w .3)))
       (decided (ltb i k))
 
   from-halves : (j : ℕ) → (member (unionOver k (s % halfSets) F) j || member (unionOver (n - k) (s / halfSets) (λ i. F (k + i))) j) ≡ true → member (unionOver n s F) j ≡ true
   from-halves j h =
       ⊎-elim
       (λ f.
-        let w = unionOver-found k (s % halfSets) F j f in
-        unionOver-intro n s F j (w .0) (omega (arith, w .1)) (sym (low-member s (w .0) (omega (arith, w .1))) ∙ w .2) (w .3))
+      let w = unionOver-found k (s % halfSets) F j f in
+      unionOver-intro n s F j (w .0) (omega (arith, w .1)) (sym (low-member s (w .0) (omega (arith, w .1))) ∙ w .2) (w .3))
       (λ f.
-        let w = unionOver-found (n - k) (s / halfSets) (λ i. F (k + i)) j f in
-        let b : k + w .0 < n = omega (arith, w .1) in
-        let six = high-half (k + w .0) b (omega arith) in
-        unionOver-intro n s F j (k + w .0) b (ap (λ (x : ℕ). member s (x + w .0)) six ∙ sym (high-member s (w .0)) ∙ w .2) (w .3))
+      let w = unionOver-found (n - k) (s / halfSets) (λ i. F (k + i)) j f in
+      let b : k + w .0 < n = omega (arith, w .1) in
+      let six = high-half (k + w .0) b (omega arith) in
+      unionOver-intro n s F j (k + w .0) b (ap (λ (x : ℕ). member s (x + w .0)) six ∙ sym (high-member s (w .0)) ∙ w .2) (w .3))
       (or-cases (member (unionOver k (s % halfSets) F) j) (member (unionOver (n - k) (s / halfSets) (λ i. F (k + i))) j) h)
 
   pub halves : union (unionOver k (s % halfSets) F) (unionOver (n - k) (s / halfSets) (λ i. F (k + i))) ≡ unionOver n s F
   halves =
       ext-all (union (unionOver k (s % halfSets) F) (unionOver (n - k) (s / halfSets) (λ i. F (k + i)))) (unionOver n s F)
       (λ j.
-        member-or (unionOver k (s % halfSets) F) (unionOver (n - k) (s / halfSets) (λ i. F (k + i))) j
-        ∙ same-truth (member (unionOver k (s % halfSets) F) j || member (unionOver (n - k) (s / halfSets) (λ i. F (k + i))) j) (member (unionOver n s F) j) (from-halves j) (to-halves j))
+      member-or (unionOver k (s % halfSets) F) (unionOver (n - k) (s / halfSets) (λ i. F (k + i))) j
+      ∙ same-truth (member (unionOver k (s % halfSets) F) j || member (unionOver (n - k) (s / halfSets) (λ i. F (k + i))) j) (member (unionOver n s F) j) (from-halves j) (to-halves j))
 
 -- ---- what the marks tell
 
@@ -276,13 +276,13 @@ module _ (g : Game) (first count : ℕ) where
       record {
         size = same-len-mid at (at + 64 - at) side e (h .size ∙ sym (mid-len at (at + 64) side inside ∙ add-sub-cancel-left at 64)) ∙ w .size;
         at = λ c x d y. below-more (λ b. (x : ℕ) → x < 2 ^ count → getD (putMid at (at + 64 - at) side e) (b * halfSets + x) 0 ≡ unionOver count x (λ i. mark (g .successors b (first + i)))) a
-          (λ b c x y. put-before at (at + 64 - at) (b * halfSets + x) side e (before b x c (small x y)) (omega (arith, w .size)) ∙ w .at b x c y)
-          (λ x y.
+            (λ b c x y. put-before at (at + 64 - at) (b * halfSets + x) side e (before b x c (small x y)) (omega (arith, w .size)) ∙ w .at b x c y)
+            (λ x y.
             put-inside at (at + 64 - at) x side e (omega (arith, h .size, small x y)) (omega (arith, w .size))
             ∙ h .at x (subst (λ (n : ℕ). x < 2 ^ n) (sym long) y)
             ∙ ap (λ (n : ℕ). unionOver n x (marked moves)) long
             ∙ unionOver-ext count x (marked moves) (λ i. mark (g .successors a (first + i))) (λ i b m. is i b))
-          c d x y
+            c d x y;
       }
     where
       small : (x : ℕ) → x < 2 ^ count → x < 64
@@ -299,3 +299,61 @@ row-marks w z a first count i l b h =
     (getD-take count (drop (tableLength (headStates (getD w 0 0)) a (headObservations (getD w 0 0)) + first) w) i 0 h
     ∙ getD-drop (tableLength (headStates (getD w 0 0)) a (headObservations (getD w 0 0)) + first) w i 0
     ∙ ap (λ (p : ℕ). getD w p 0) (omega arith))
+
+pub high-small : (w : List ℕ) → checked w ≡ Fine → (s : ℕ) → s < 2 ^ game w .states → s / 64 < 64
+high-small w h s l =
+    let p = pow-mono {i = game w .states} {j = 12} (few-states w h) in
+    omega arith
+
+-- an action's row lies in the table, and so does a part of it
+pub row-inside : (w : List ℕ) → Sized w → (a first count : ℕ) → a < game w .actions → first + count ≤ game w .states → tableLength (headStates (getD w 0 0)) a (headObservations (getD w 0 0)) + first + count ≤ length w
+unfolding game
+row-inside w z a first count l b =
+    let m = mul-le-mul-right {m = suc a} {n = headActions (getD w 0 0)} (headStates (getD w 0 0)) l in
+    omega (arith, suc-mul a (headStates (getD w 0 0)), z .long)
+
+-- a part that is lent has the words asked for
+pub part-length : (w : List ℕ) (from count : ℕ) → from + count ≤ length w → length (take (from + count - from) (drop from w)) ≡ count
+part-length w from count h = mid-len from (from + count) w h ∙ add-sub-cancel-left from count
+
+pub side-length : (side : List ℕ) (a : ℕ) → length side ≡ 8 * halfSets → a < 8 → length (take (a * 64 + 64 - a * 64) (drop (a * 64) side)) ≡ halfSets
+side-length side a h l = part-length side (a * 64) 64 (omega arith)
+
+pub part-marks : (w : List ℕ) → Sized w → (a first count row : ℕ) → row ≡ tableLength (headStates (getD w 0 0)) a (headObservations (getD w 0 0)) → a < game w .actions → first + count ≤ game w .states → (i : ℕ) → i < count → marked (take (row + first + count - (row + first)) (drop (row + first) w)) i ≡ mark (game w .successors a (first + i))
+part-marks w z a first count row e l b i h =
+    ap₂ (λ (n p : ℕ). marked (take n (drop (p + first) w)) i) (add-sub-cancel-left (row + first) count) e ∙ row-marks w z a first count i l b h
+
+-- both sides together
+pub sides-tabled : (g : Game) (k : ℕ) (low high : List ℕ) → g .states ≤ 12 → k ≡ min (g .states) halfStates → Sided g 0 k (g .actions) low → Sided g k (g .states - k) (g .actions) high → Tabled g low high
+sides-tabled g k low high few is l h =
+    record {
+      low-size = l .size;
+      high-size = h .size;
+      at = λ a s b c.
+          ap₂ union
+          (l .at a (s % halfSets) b (low-below s c) ∙ unionOver-ext k (s % halfSets) (λ i. mark (g .successors a (0 + i))) (λ i. mark (g .successors a i)) (λ i x m. ap (λ (j : ℕ). mark (g .successors a j)) (omega arith)))
+          (h .at a (s / halfSets) b (high-below s c))
+          ∙ halves (g .states) k s (λ i. mark (g .successors a i)) (omega arith) (omega arith) (which (g .states) k is);
+    }
+  where
+    which : (n k : ℕ) → k ≡ min n halfStates → (k ≡ n) ⊎ (k ≡ halfStates)
+    which n k e = ⊎-elim (λ f. inl (let b = ltb-true n halfStates f in omega arith)) (λ f. inr (let b = ltb-false n halfStates f in omega arith)) (decided (ltb n halfStates))
+
+    low-below : (s : ℕ) → s < 2 ^ g .states → s % halfSets < 2 ^ k
+    low-below s c =
+        ⊎-elim
+        (λ e. let m = mod-le s halfSets in subst (λ (n : ℕ). s % halfSets < 2 ^ n) (sym e) (omega arith))
+        (λ e. subst (λ (n : ℕ). s % halfSets < 2 ^ n) (sym e) (omega arith))
+        (which (g .states) k is)
+
+    high-below : (s : ℕ) → s < 2 ^ g .states → s / halfSets < 2 ^ (g .states - k)
+    high-below s c =
+        ⊎-elim
+        (λ e.
+        let z : g .states - k ≡ 0 = omega arith in
+        let p = pow-mono {i = g .states} {j = halfStates} (omega arith) in
+        subst (λ (n : ℕ). s / halfSets < 2 ^ n) (sym z) (omega arith))
+        (λ e.
+        let z : g .states ≡ g .states - k + halfStates = omega arith in
+        shr-lt (g .states - k) halfStates (subst (λ (n : ℕ). s < 2 ^ n) z c))
+        (which (g .states) k is)
