@@ -8,6 +8,7 @@ ghost use Rattle.games.specs.Words.{game, cardLength};
 ghost use Rattle.games.specs.Step.{meets, step, good};
 ghost use Rattle.tables.specs.Check.{checked};
 ghost use Rattle.tables.specs.declared.Checked.the-variants.{Fine};
+ghost use Rattle.moves.specs.Halves.{Tabled};
 ghost use Rattle.solver.specs.Ranks.{Ranked, Tells, shownGood};
 ghost use Rattle.sets.specs.Family.{isMaximal};
 ghost use Rattle.games.specs.Verdict.{settled as isSettled, cells as cellsOf, verdict, Yes};
@@ -49,11 +50,19 @@ fn shown_good(table: &[u32], ranks: &[u32], u: u32, k: u32) -> bool
 }
 
 // The action is enabled at all members of s, and leads to sets that are good for k.
-fn action_meets(table: &[u32], ranks: &[u32], s: u32, a: Action, k: u32) -> bool
-    requires { ⌜ (checked (now table) ≡ Fine) × Tells (game (now table)) k (now ranks) × (a .0 < game (now table) .actions) ⌝ }
+fn action_meets(
+    table: &[u32],
+    low: &[u32],
+    high: &[u32],
+    ranks: &[u32],
+    s: u32,
+    a: Action,
+    k: u32,
+) -> bool
+    requires { ⌜ (checked (now table) ≡ Fine) × Tells (game (now table)) k (now ranks) × (a .0 < game (now table) .actions) × Tabled (game (now table)) (now low) (now high) × (s < 2 ^ game (now table) .states) ⌝ }
     ensures { λ r. ⌜ r ≡ meets (game (now (table .entry))) (good (game (now (table .entry))) k) s (a .0) ⌝ }
 {
-    let walked = tables::walk(table, s, a);
+    let walked = moves::post(table, low, high, s, a);
     let Walked::Post(u) = walked else {
         return false;
     };
@@ -61,8 +70,8 @@ fn action_meets(table: &[u32], ranks: &[u32], s: u32, a: Action, k: u32) -> bool
 }
 
 // The step: a set with no bad state for which one action meets it.
-fn stays_good(table: &[u32], ranks: &[u32], s: u32, k: u32) -> bool
-    requires { ⌜ (checked (now table) ≡ Fine) × Tells (game (now table)) k (now ranks) ⌝ }
+fn stays_good(table: &[u32], low: &[u32], high: &[u32], ranks: &[u32], s: u32, k: u32) -> bool
+    requires { ⌜ (checked (now table) ≡ Fine) × Tells (game (now table)) k (now ranks) × Tabled (game (now table)) (now low) (now high) × (s < 2 ^ game (now table) .states) ⌝ }
     ensures { λ r. ⌜ r ≡ step (game (now (table .entry))) (good (game (now (table .entry))) k) s ⌝ }
 {
     if s & tables::bad(table) != 0 {
@@ -71,7 +80,7 @@ fn stays_good(table: &[u32], ranks: &[u32], s: u32, k: u32) -> bool
     let actions = tables::actions(table);
     let mut a: u32 = 0;
     while a < actions {
-        if action_meets(table, ranks, s, Action(a), k) {
+        if action_meets(table, low, high, ranks, s, Action(a), k) {
             return true;
         }
         a += 1;
@@ -80,15 +89,15 @@ fn stays_good(table: &[u32], ranks: &[u32], s: u32, k: u32) -> bool
 }
 
 // One application of the step, in place: the sets that are good for k + 1 get that rank. How many they are.
-fn pass(table: &[u32], ranks: &mut [u32], k: u32) -> usize
-    requires { ⌜ (checked (now table) ≡ Fine) × Ranked (game (now table)) k (now ranks) × (k < 4096) ⌝ }
+fn pass(table: &[u32], low: &[u32], high: &[u32], ranks: &mut [u32], k: u32) -> usize
+    requires { ⌜ (checked (now table) ≡ Fine) × Ranked (game (now table)) k (now ranks) × (k < 4096) × Tabled (game (now table)) (now low) (now high) ⌝ }
     ensures { λ r. ⌜ Ranked (game (now (table .entry))) (k + 1) (now (ranks .exit)) × (r ≡ count (2 ^ game (now (table .entry)) .states) (good (game (now (table .entry))) (k + 1))) ⌝ }
 {
     let mut left: usize = 0;
     let mut s: usize = 0;
     while s < ranks.len() {
         if ranks[s] == k {
-            if stays_good(table, ranks, s as u32, k) {
+            if stays_good(table, low, high, ranks, s as u32, k) {
                 ranks[s] = k + 1;
                 left += 1;
             }
@@ -105,8 +114,8 @@ enum Outcome {
 }
 
 // Applies the step until a start set is lost or nothing changes.
-fn search(table: &[u32], ranks: &mut [u32]) -> Outcome
-    requires { ⌜ (checked (now table) ≡ Fine) × (length (now ranks) ≡ 2 ^ game (now table) .states) ⌝ }
+fn search(table: &[u32], low: &[u32], high: &[u32], ranks: &mut [u32]) -> Outcome
+    requires { ⌜ (checked (now table) ≡ Fine) × (length (now ranks) ≡ 2 ^ game (now table) .states) × Tabled (game (now table)) (now low) (now high) ⌝ }
     ensures { λ r. ⌜ Searched (game (now (table .entry))) r (now (ranks .exit)) ⌝ }
 {
     let start = tables::start(table);
@@ -114,7 +123,7 @@ fn search(table: &[u32], ranks: &mut [u32]) -> Outcome
     sets::fill(ranks, left, 0);
     let mut k: u32 = 0;
     loop {
-        let now = pass(table, ranks, k);
+        let now = pass(table, low, high, ranks, k);
         if !shown_good(table, ranks, start, k + 1) {
             return Outcome::Lost(k + 1);
         }
@@ -124,6 +133,24 @@ fn search(table: &[u32], ranks: &mut [u32]) -> Outcome
         left = now;
         k += 1;
     }
+}
+
+// Room for one side of every action's moves.
+fn side() -> [u32; 512]
+    ensures { λ r. ⌜ length r ≡ 512 ⌝ }
+{
+    [0; 512]
+}
+
+// The search, with the successors of every set at hand.
+fn search_with(table: &[u32], ranks: &mut [u32]) -> Outcome
+    requires { ⌜ (checked (now table) ≡ Fine) × (length (now ranks) ≡ 2 ^ game (now table) .states) ⌝ }
+    ensures { λ r. ⌜ Searched (game (now (table .entry))) r (now (ranks .exit)) ⌝ }
+{
+    let mut low = side();
+    let mut high = side();
+    moves::fill(table, &mut low, &mut high);
+    search(table, &low, &high, ranks)
 }
 
 // The set is settled, and with any state more it is not: it is one of the cells.
@@ -275,7 +302,7 @@ fn decide(table: &[u32], work: &mut [u32], card: &mut [u32]) -> Answer
     ensures { λ r. ⌜ leaves r (now (card .exit)) ≡ byVerdict (game (now (table .entry))) (now (card .entry)) (verdict (game (now (table .entry)))) ⌝ }
 {
     let size = set_count(tables::states(table));
-    let found = search(table, &mut work[..size]);
+    let found = search_with(table, &mut work[..size]);
     match found {
         Outcome::Lost(k) => Answer::No(k),
         Outcome::Settled(k) => {

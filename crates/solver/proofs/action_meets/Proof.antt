@@ -1,6 +1,5 @@
 use mathlib.Core.Path.{_≡_, _∙_}
 use Rattle.games.specs.Words.{game}
-use Rattle.tables.proofs.Checks.{sized}
 use Rattle.solver.proofs.Turns.{meets-blocked, meets-shown}
 use borrow.Author.Needs.{needs}
 use Rattle.solver.proofs.action_meets.Statement.{statement}
@@ -8,10 +7,10 @@ use Rattle.solver.proofs.action_meets.Tie as tie
 use Rattle.solver.proofs.action_meets.Reads as reads
 use Rattle.solver.proofs.action_meets.Lts as lts
 use Rattle.solver.proofs.shown_good.Reads as shown-good-reads
-use Rattle.tables.proofs.walk.Reads as walk-reads
+use Rattle.moves.proofs.post.Reads as post-reads
 
-walk-requires : tie.Need-walk-requires
-walk-requires c κs = (sized (c .before .before .args .table .now) (c .before .before .pre .0), c .before .before .pre .2)
+post-requires : tie.Need-post-requires
+post-requires c κs = (c .before .before .before .before .pre .0, c .before .before .before .before .pre .3, c .before .before .before .before .pre .4, c .before .before .before .before .pre .2)
 
 enum-known-walked : tie.Need-enum-known-walked
 enum-known-walked c = search needs
@@ -21,8 +20,8 @@ enum-told c = search needs
 
 returns : tie.Need-returns
 returns c =
-    let start = c .before .before .before .before .before in
-    meets-blocked (game (start .args .table .now)) (start .args .k) (start .args .s) (start .args .a .0) (c .before .before .walk .result) (c .before .before .walk .ensures) (c .enum-told .given .1)
+    let start = c .before .before .before .before .before .before .before in
+    meets-blocked (game (start .args .table .now)) (start .args .k) (start .args .s) (start .args .a .0) (c .before .before .post .result) (c .before .before .post .ensures) (c .enum-told .given .1)
 
 shown-good-requires : tie.Need-shown-good-requires
 shown-good-requires c κs = search needs
@@ -30,11 +29,11 @@ shown-good-requires c κs = search needs
 returns-2 : tie.Need-returns-2
 returns-2 c =
     let after = c .before .before in
-    let start = after .before .before .before .before .before in
+    let start = after .before .before .before .before .before .before .before in
     c .shown-good .ensures
-    ∙ meets-shown (game (start .args .table .now)) (start .args .k) (start .args .s) (start .args .a .0) (after .before .before .walk .result) (after .before .before .walk .ensures) (after .walked .given .0 .0) (after .walked .given .1)
+    ∙ meets-shown (game (start .args .table .now)) (start .args .k) (start .args .s) (start .args .a .0) (after .before .before .post .result) (after .before .before .post .ensures) (after .walked .given .0 .0) (after .walked .given .1)
 
 pub action-meets-spec : {M : Type 1} → statement M
 action-meets-spec =
     tie.close
-    (tie.spec walk-requires enum-known-walked enum-told returns shown-good-requires returns-2)
+    (tie.spec post-requires enum-known-walked enum-told returns shown-good-requires returns-2)

@@ -17,14 +17,14 @@ use Rattle.solver.proofs.pass.Lts as lts
 use Rattle.solver.proofs.stays_good.Reads as stays-good-reads
 
 abbrev Inv-loop : tie.InvT-loop
-Inv-loop table ranks₀ k left₀ s₀ ranks left s = (2 ^ game table .states ≤ 4096) × Counted (game table) k s left ranks
+Inv-loop table low high ranks₀ k left₀ s₀ ranks left s = (2 ^ game table .states ≤ 4096) × Counted (game table) k s left ranks
 
 abbrev μ-loop : tie.MeasureT-loop
-μ-loop table ranks₀ k left₀ s₀ ranks left s = 2 ^ game table .states - s
+μ-loop table low high ranks₀ k left₀ s₀ ranks left s = 2 ^ game table .states - s
 
 loop-holds : tie.Need-loop-holds Inv-loop μ-loop
 loop-holds c =
-    let start = c .before .before in
+    let start = c .before .before .before .before in
     (sets-few (start .args .table .now) (sized (start .args .table .now) (start .pre .0)), counted-none (game (start .args .table .now)) (start .args .k) (start .args .ranks .now) (start .pre .1))
 
 mul-if1 : tie.Need-mul-if1 Inv-loop μ-loop
@@ -39,8 +39,8 @@ cast-stays-good c = search needs
 stays-good-requires : tie.Need-stays-good-requires Inv-loop μ-loop
 stays-good-requires c κs =
     let at = c .before .before .before .before in
-    let start = at .before .before .before in
-    (start .pre .0, passing-tells (game (start .args .table .now)) (start .args .k) (at .loop .ranks) (at .loop .s) (at .loop .inv .1 .passing))
+    let start = at .before .before .before .before .before in
+    (start .pre .0, passing-tells (game (start .args .table .now)) (start .args .k) (at .loop .ranks) (at .loop .s) (at .loop .inv .1 .passing), start .pre .3, omega (arith, c .before .before .before .loop-test .taken, at .loop .inv .1 .passing .size))
 
 add-ranks : tie.Need-add-ranks Inv-loop μ-loop
 add-ranks c = search needs
@@ -54,7 +54,7 @@ slice-write-ranks c = search needs
 add-left : tie.Need-add-left Inv-loop μ-loop
 add-left c =
     let at = c .before .before .before .before .before .before in
-    omega (arith, count-le (at .loop .s) (good (game (at .before .before .before .args .table .now)) (suc (at .before .before .before .args .k))))
+    omega (arith, count-le (at .loop .s) (good (game (at .before .before .before .before .before .args .table .now)) (suc (at .before .before .before .before .before .args .k))))
 
 add-s : tie.Need-add-s Inv-loop μ-loop
 add-s c = search needs
@@ -65,7 +65,7 @@ loop-less c = search needs
 loop-again : tie.Need-loop-again Inv-loop μ-loop
 loop-again c =
     let at = c .before .before .before in
-    let start = at .before .before .before in
+    let start = at .before .before .before .before .before in
     let g = game (start .args .table .now) in
     let k = start .args .k in
     let d = at .loop .ranks in
@@ -84,7 +84,7 @@ same-length c = search needs
 returns : tie.Need-returns Inv-loop μ-loop
 returns c =
     let at = c .before in
-    let start = at .before .before .before in
+    let start = at .before .before .before .before .before in
     counted-end (game (start .args .table .now)) (start .args .k) (at .loop .ranks) (at .loop .s) (at .loop .left) (omega (arith, at .loop .inv .1 .passing .size)) (at .loop .inv .1)
 
 pub pass-spec : {M : Type 1} → statement M

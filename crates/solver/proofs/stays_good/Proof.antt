@@ -19,22 +19,22 @@ use Rattle.tables.proofs.actions.Reads as actions-reads
 use Rattle.tables.proofs.bad.Reads as bad-reads
 
 abbrev Inv-loop : tie.InvT-loop
-Inv-loop table ranks s k actions a₀ a = (a ≤ actions) × (any a (meets (game table) (good (game table) k) s) ≡ false)
+Inv-loop table low high ranks s k actions a₀ a = (a ≤ actions) × (any a (meets (game table) (good (game table) k) s) ≡ false)
 
 abbrev μ-loop : tie.MeasureT-loop
-μ-loop table ranks s k actions a₀ a = actions - a
+μ-loop table low high ranks s k actions a₀ a = actions - a
 
 bad-requires : tie.Need-bad-requires Inv-loop μ-loop
-bad-requires c κs = sized (c .before .before .args .table .now) (c .before .before .pre .0)
+bad-requires c κs = sized (c .before .before .before .before .args .table .now) (c .before .before .before .before .pre .0)
 
 returns : tie.Need-returns Inv-loop μ-loop
 returns c =
-    let start = c .before .before .before .before in
+    let start = c .before .before .before .before .before .before in
     let g = game (start .args .table .now) in
     step-bad g (good g (start .args .k)) (start .args .s) (rw (c .before .bad .ensures) at (c .if1 .taken))
 
 actions-requires : tie.Need-actions-requires Inv-loop μ-loop
-actions-requires c κs = let start = c .before .before .before .before in sized (start .args .table .now) (start .pre .0)
+actions-requires c κs = let start = c .before .before .before .before .before .before in sized (start .args .table .now) (start .pre .0)
 
 loop-holds : tie.Need-loop-holds Inv-loop μ-loop
 loop-holds c = (search needs, any-zero _)
@@ -45,7 +45,7 @@ action-meets-requires c κs = search needs
 returns-2 : tie.Need-returns-2 Inv-loop μ-loop
 returns-2 c =
     let at = c .before .before .before in
-    let start = at .before .before .before .before .before .before in
+    let start = at .before .before .before .before .before .before .before .before in
     let g = game (start .args .table .now) in
     step-hit g (good g (start .args .k)) (start .args .s) (rw (at .before .before .before .bad .ensures) at (at .before .before .if1 .left)) (at .loop .a) (omega arith) (cc)
 
@@ -58,14 +58,14 @@ loop-less c = search needs
 loop-again : tie.Need-loop-again Inv-loop μ-loop
 loop-again c =
     let at = c .before .before .before in
-    let start = at .before .before .before .before .before .before in
+    let start = at .before .before .before .before .before .before .before .before in
     let g = game (start .args .table .now) in
     (search needs, any-more (at .loop .a) (meets g (good g (start .args .k)) (start .args .s)) ∙ or-false-intro (at .loop .inv .1) (cc))
 
 returns-3 : tie.Need-returns-3 Inv-loop μ-loop
 returns-3 c =
     let at = c .before in
-    let start = at .before .before .before .before .before .before in
+    let start = at .before .before .before .before .before .before .before .before in
     let g = game (start .args .table .now) in
     let e : at .loop .a ≡ g .actions = omega arith in
     step-none g (good g (start .args .k)) (start .args .s) (rw e at (at .loop .inv .1))
