@@ -12,13 +12,13 @@ use lib.ListN.{length, take, length-append}
 use lib.Seq.{take-append-le, take-length}
 use Rattle.games.specs.Game.{Game}
 use Rattle.games.specs.Play.{Strategy, Play, PlayOf, Under, seen}
-use Rattle.games.specs.Automaton.{Automaton, noCell, cellAfter, actionAfter}
+use Rattle.games.specs.Automaton.{Automaton, cellAfter, actionAfter}
 use Rattle.games.specs.Words.{cardWords}
 use Rattle.games.specs.Demands.{Follows, Second}
 use Rattle.tables.specs.Fields.{filledBy}
 use Rattle.tables.proofs.Fills.{filled-ext}
 use Rattle.cards.specs.Card.{Fitting}
-use Rattle.cards.specs.Run.{entered, cellOr, moved}
+use Rattle.cards.specs.Run.{entered, opened, stepped, moved}
 use Rattle.cards.specs.declared.Move.{Move}
 use Rattle.cards.proofs.Runs.{Way, one, more, way-some, moved-entered, ran-one, ran-more, written-runs, play-way}
 use Rattle.runner.specs.declared.Ran.the-variants.{Done}
@@ -52,6 +52,13 @@ unfolding standing
 standing-more w [] j l = absurd (not-suc-le-zero l)
 standing-more w (i ∷ h) j l = standing-from-more w (starts w i) h j
 
+-- where a cell is entered, the runner is in it
+starts-entered : (w : List ℕ) (j c a : ℕ) → opened w j ≡ entered c a → starts w j ≡ stands c (entered c a)
+starts-entered w j c a e = rw e
+
+advances-entered : (w : List ℕ) (b j c a : ℕ) → stepped w b j ≡ entered c a → advances w b j ≡ stands c (entered c a)
+advances-entered w b j c a e = rw e
+
 -- the card written of an automaton, on a way of the automaton
 module _ (A : Automaton) (a o : ℕ) (F : Fitting A a o) where
   abbrev written : List ℕ
@@ -64,12 +71,12 @@ module _ (A : Automaton) (a o : ℕ) (F : Fitting A a o) where
   -- the runner is in the automaton's cell and gives its action
   pub runner-way : {h : List ℕ} → Way A o h → standing written h ≡ stands (cellAfter A h) (does h)
   runner-way (one {j} l n) =
-      standing-one written j ∙ ap (λ (m : Move). stands (cellOr m noCell) m) (sym (ran-one written j) ∙ written-runs A a o F (one l n))
+      standing-one written j ∙ starts-entered written j _ _ (sym (ran-one written j) ∙ written-runs A a o F (one l n))
   runner-way (more {h} {j} v l n) =
       let c = cellAfter A h in
       standing-more written h j (way-some v)
       ∙ ap (λ (s : Standing). advances written (s .cell) j) (runner-way v)
-      ∙ ap (λ (m : Move). stands (cellOr m c) m)
+      ∙ advances-entered written c j _ _
       (sym (ran-more written h j (way-some v) ∙ ap (λ (m : Move). moved written m j) (written-runs A a o F v) ∙ moved-entered written c (actionAfter A h) j)
       ∙ written-runs A a o F (more v l n))
 

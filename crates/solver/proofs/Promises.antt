@@ -238,3 +238,37 @@ module _ (w work d : List ℕ) (r : Answer) (e : List ℕ) where
   pub promised : (left : List ℕ) → outcome r left e ≡ solved w work d → Promise w work d r e
   unfolding solved
   promised left is = checked-promise (checked w) refl left is
+
+-- a yes comes of an accepted table, and there was room for its card
+module _ (w work d : List ℕ) (t m : ℕ) where
+  granted-room : (e : List ℕ) (v : Verdict) → leaves (SaysYes t m) e ≡ byVerdict (game w) d v → cardLength m (game w .observations) ≤ length d
+  unfolding byVerdict
+  granted-room e (No k) is = yes-not-no t m k (ap (λ (x : Leaves). x .answer) is)
+  granted-room e (Yes u n) is =
+      let need = cardLength n (game w .observations) in
+      let full = leaves (Refused 9 need) d in
+      let done = leaves (SaysYes u n) (cardOf (game w) ++ drop need d) in
+      ⊎-elim
+      (λ h. yes-not-refused t m 9 need (ap (λ (x : Leaves). x .answer) (is ∙ ap (λ (b : Bool). cond b full done) h)))
+      (λ h.
+      let s : SaysYes t m ≡ SaysYes u n = ap (λ (x : Leaves). x .answer) (is ∙ ap (λ (b : Bool). cond b full done) h) in
+      subst (λ (k : ℕ). cardLength k (game w .observations) ≤ length d) (cc) (ltb-false (length d) need h))
+      (decided (ltb (length d) need))
+
+  checked-room : (c : Checked) → checked w ≡ c → (left e : List ℕ) → outcome (SaysYes t m) left e ≡ afterCheck c (game w) work d → (checked w ≡ Fine) × (cardLength m (game w .observations) ≤ length d)
+  unfolding afterCheck
+  checked-room (Stopped n p) c left e is = yes-not-refused t m n p (ap (λ (x : Outcome). x .answer) is)
+  checked-room Fine c left e is =
+      let g = game w in
+      let need = workWords (g .states) in
+      let by = byVerdict g d (verdict g) in
+      let short = outcome (Refused 8 need) work d in
+      let done = outcome (by .answer) (fill need 0 work) (by .card) in
+      ⊎-elim
+      (λ h. yes-not-refused t m 8 need (ap (λ (x : Outcome). x .answer) (is ∙ ap (λ (b : Bool). cond b short done) h)))
+      (λ h. (c, granted-room e (verdict g) (ap (λ (x : Outcome). leaves (x .answer) (x .card)) (is ∙ ap (λ (b : Bool). cond b short done) h))))
+      (decided (ltb (length work) need))
+
+  pub yes-room : (r : Answer) (left e : List ℕ) → outcome r left e ≡ solved w work d → r ≡ SaysYes t m → (checked w ≡ Fine) × (cardLength m (game w .observations) ≤ length d)
+  unfolding solved
+  yes-room r left e is y = checked-room (checked w) refl left e (ap (λ (x : Answer). outcome x left e) (sym y) ∙ is)

@@ -1,0 +1,48 @@
+-- Runs of the cards of stations A and C, computed from the definitions: document 01's row 14 and the refusals of a runner among them.
+-- Assumes nothing.
+use mathlib.Core.Path.{_≡_, refl}
+use mathlib.Core.List.{List, [], _∷_}
+use Prim.Native.Nat.{ℕ}
+use lib.ListN.{set}
+use Rattle.sets.specs.Bounded.{first, gather}
+use Rattle.cards.specs.Card.{automaton, headFits, cellNamed, cellFits, partFits, wordFits, wordsChecked, checked}
+use Rattle.cards.specs.Run.{entered, enters, begun, followed, opened, stepped, moved, ranFrom, ran}
+use Rattle.cards.specs.declared.Move.the-variants.{Refused}
+use Rattle.runner.specs.declared.Ran.the-variants.{Done, Refused as Stopped}
+use Rattle.runner.specs.Runs.{Standing, stands, standingFrom, standing, ranUpTo, Outcome, leaves, ranInto}
+
+abbrev cardA : List ℕ
+cardA = 0x8021_0002 ∷ 0x9000_0000 ∷ 0xa000_0001 ∷ 0xb000_0001 ∷ 0xa010_0002 ∷ 0xb000_0000 ∷ []
+
+abbrev cardC : List ℕ
+cardC = 0x8022_0002 ∷ 0x9000_0000 ∷ 0x9001_0001 ∷ 0xa000_0001 ∷ 0xb000_ffff ∷ 0xb001_0001 ∷ 0xa010_0002 ∷ 0xb000_0000 ∷ 0xb001_ffff ∷ []
+
+-- a card and observations; the buffer, and how the run leaves it; the runner
+abbrev pub Row : Type 0
+Row = record { card : List ℕ; seen : List ℕ; out : List ℕ; run : Outcome; runner : Standing }
+
+pub data Rows : List Row → Type 0 where
+  none : Rows []
+  row : {w h d : List ℕ} {r : Outcome} {s : Standing} {l : List Row} → ranInto w h d ≡ r → standing w h ≡ s → Rows l → Rows (record { card = w; seen = h; out = d; run = r; runner = s } ∷ l)
+
+-- the buffer of each row
+abbrev room : List ℕ
+room = 9 ∷ 9 ∷ 9 ∷ 9 ∷ []
+
+pub rows : List Row
+rows =
+    record { card = cardA; seen = 0 ∷ 0 ∷ 0 ∷ []; out = room; run = leaves (Done 3) (0 ∷ 1 ∷ 0 ∷ 9 ∷ []); runner = stands 0 (entered 0 0) }
+    -- C in cell 0 cannot show 0
+    ∷ record { card = cardC; seen = 1 ∷ 0 ∷ 0 ∷ []; out = room; run = leaves (Stopped 14 0 2) room; runner = stands 0 (Refused 14 0) }
+    -- there is no observation 2
+    ∷ record { card = cardC; seen = 2 ∷ []; out = room; run = leaves (Stopped 12 2 0) room; runner = stands 65535 (Refused 12 2) }
+    -- a refused opening: the step after it is refused too
+    ∷ record { card = cardC; seen = 2 ∷ 0 ∷ []; out = room; run = leaves (Stopped 12 2 0) room; runner = stands 65535 (Refused 12 65535) }
+    ∷ record { card = set cardA 0 0x8021_0003; seen = 0 ∷ []; out = room; run = leaves (Stopped 13 6 0) room; runner = stands 65535 (Refused 13 6) }
+    -- five observations, four words
+    ∷ record { card = cardA; seen = 0 ∷ 0 ∷ 0 ∷ 0 ∷ 0 ∷ []; out = room; run = leaves (Stopped 9 5 0) room; runner = stands 0 (entered 0 0) }
+    ∷ []
+
+pub every-row : Rows rows
+unfolding rows ranInto ranUpTo standing standingFrom ran ranFrom moved opened stepped begun followed enters automaton checked wordsChecked wordFits headFits cellNamed cellFits partFits first gather
+every-row = row refl refl (row refl refl (row refl refl (row refl refl (row refl refl (row refl refl none)))))

@@ -1,0 +1,28 @@
+-- `items` is safe and ends: the measure is the number of items left.
+use borrow.Author.Needs.{needs}
+use native.Mathlib.Omega.{arith}
+use Prim.Native.Nat.{_-_}
+use lib.ListN.{length}
+use Rattle.vectors.proofs.print.items.Statement.{statement}
+use Rattle.vectors.proofs.print.items.Tie as tie
+
+abbrev Inv-loop : tie.InvT-loop
+Inv-loop list is-hex i₀ i = Unit {0}
+
+abbrev μ-loop : tie.MeasureT-loop
+μ-loop list is-hex i₀ i = length list - i
+
+pub items-spec : {M : Type 1} → statement M
+items-spec =
+    tie.close
+    (tie.spec
+    Inv-loop
+    μ-loop
+    (λ c. tt)
+    (λ c. search needs)
+    (λ c. search needs)
+    (λ c κs. search needs)
+    (λ c. search needs)
+    (λ c. search needs)
+    (λ c. tt)
+    (λ c. tt))

@@ -1,0 +1,28 @@
+-- `run` is safe and ends: the measure is the number of words left.
+use borrow.Author.Needs.{needs}
+use Prim.Native.Nat.{_-_, _≤_}
+use lib.ListN.{length}
+use Rattle.vectors.proofs.solve_rows.run.Statement.{statement}
+use Rattle.vectors.proofs.solve_rows.run.Tie as tie
+
+abbrev Inv-loop : tie.InvT-loop
+Inv-loop words from value i₀ count₀ i count = count ≤ i
+
+abbrev μ-loop : tie.MeasureT-loop
+μ-loop words from value i₀ count₀ i count = length words - i
+
+pub run-spec : {M : Type 1} → statement M
+run-spec =
+    tie.close
+    (tie.spec
+    Inv-loop
+    μ-loop
+    (λ c. search needs)
+    (λ c. search needs)
+    (λ c. search needs)
+    (λ c. search needs)
+    (λ c. search needs)
+    (λ c. search needs)
+    (λ c. search needs)
+    (λ c. tt)
+    (λ c. tt))
