@@ -1,6 +1,8 @@
 -- `abi::judge_words` meets its contract: the words of each case.
 -- Assumes nothing.
+use mathlib.Core.Path.{sym, ap, _∙_}
 use borrow.Author.Needs.{needs}
+use Rattle.abi.specs.Words.{judgeWords}
 use Rattle.abi.proofs.judge_words.Statement.{statement}
 use Rattle.abi.proofs.judge_words.Tie as tie
 
@@ -14,6 +16,6 @@ judge-words-spec =
     (λ c κs. search needs)
     (λ c. search needs)
     (λ c κs. search needs)
-    (λ c. cc)
-    (λ c. cc)
-    (λ c. cc))
+    (λ c. c .pair .ensures ∙ ap judgeWords (sym (c .before .enum-told .given .1)))
+    (λ c. c .pair2 .ensures ∙ ap judgeWords (sym (c .before .enum-told2 .given .1)))
+    (λ c. c .refused .ensures ∙ ap judgeWords (sym (c .before .before .a .given .1))))

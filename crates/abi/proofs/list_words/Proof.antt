@@ -1,6 +1,8 @@
 -- `abi::list_words` meets its contract: the words of each case.
 -- Assumes nothing.
+use mathlib.Core.Path.{sym, ap, _∙_}
 use borrow.Author.Needs.{needs}
+use Rattle.abi.specs.Words.{listWords}
 use Rattle.abi.proofs.list_words.Statement.{statement}
 use Rattle.abi.proofs.list_words.Tie as tie
 
@@ -12,5 +14,5 @@ list-words-spec =
     (λ c κs. search needs)
     (λ c. search needs)
     (λ c κs. search needs)
-    (λ c. cc)
-    (λ c. cc))
+    (λ c. c .span .ensures ∙ ap listWords (sym (c .before .before .a .given .1)))
+    (λ c. c .refused .ensures ∙ ap listWords (sym (c .before .before .a2 .given .1))))

@@ -1,6 +1,8 @@
 -- `abi::solve_words` meets its contract: the words of each case.
 -- Assumes nothing.
+use mathlib.Core.Path.{sym, ap, _∙_}
 use borrow.Author.Needs.{needs}
+use Rattle.abi.specs.Words.{solveWords}
 use Rattle.abi.proofs.solve_words.Statement.{statement}
 use Rattle.abi.proofs.solve_words.Tie as tie
 
@@ -14,6 +16,6 @@ solve-words-spec =
     (λ c κs. search needs)
     (λ c. search needs)
     (λ c κs. search needs)
-    (λ c. cc)
-    (λ c. cc)
-    (λ c. cc))
+    (λ c. c .pair .ensures ∙ ap solveWords (sym (c .before .before .a .given .1)))
+    (λ c. c .no .ensures ∙ ap solveWords (sym (c .before .before .a2 .given .1)))
+    (λ c. c .refused .ensures ∙ ap solveWords (sym (c .before .before .a3 .given .1))))
