@@ -142,7 +142,7 @@ module _ (w h : List ℕ) where
   -- ---- the outcome
 
   module _ (d : List ℕ) where
-    pub too-short : length d < length h → leaves (Stopped 9 (length h) 0) d ≡ ranInto w h d
+    pub too-short : length d < length h → leaves (Stopped 15 (length h) 0) d ≡ ranInto w h d
     unfolding ranInto
     too-short l = rw (ranInto, lt-ltb (length d) (length h) l)
 

@@ -40,7 +40,7 @@ rows =
     ∷ record { card = cardC; seen = 2 ∷ 0 ∷ []; out = room; run = leaves (Stopped 12 2 0) room; runner = stands 65535 (Refused 12 65535) }
     ∷ record { card = set cardA 0 0x8021_0003; seen = 0 ∷ []; out = room; run = leaves (Stopped 13 6 0) room; runner = stands 65535 (Refused 13 6) }
     -- five observations, four words
-    ∷ record { card = cardA; seen = 0 ∷ 0 ∷ 0 ∷ 0 ∷ 0 ∷ []; out = room; run = leaves (Stopped 9 5 0) room; runner = stands 0 (entered 0 0) }
+    ∷ record { card = cardA; seen = 0 ∷ 0 ∷ 0 ∷ 0 ∷ 0 ∷ []; out = room; run = leaves (Stopped 15 5 0) room; runner = stands 0 (entered 0 0) }
     ∷ []
 
 pub every-row : Rows rows

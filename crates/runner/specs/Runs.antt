@@ -80,6 +80,6 @@ abbrev pub writes : (card seen out : List ℕ) → Ran → Outcome
 writes w h d (Done k) = leaves (Done k) (filledBy k (λ i. actionOf (moveAt w h i)) d)
 writes w h d (Stopped number place i) = leaves (Stopped number place i) d
 
--- 9: there is no word for each observation, and none is taken; else the run
+-- 15: there is no word for each observation, and none is taken; else the run
 unfoldable pub ranInto : (card seen out : List ℕ) → Outcome
-ranInto w h d = cond (ltb (length d) (length h)) (leaves (Stopped 9 (length h) 0) d) (writes w h d (ranUpTo w h (length h)))
+ranInto w h d = cond (ltb (length d) (length h)) (leaves (Stopped 15 (length h) 0) d) (writes w h d (ranUpTo w h (length h)))

@@ -106,7 +106,7 @@ pub fn run(card: &[u32], seen: &[u32], out: &mut [u32]) -> Ran
 {
     let words = seen.len();
     if out.len() < words {
-        return Ran::Refused(9, words, 0);
+        return Ran::Refused(15, words, 0);
     }
     match try_run(card, seen) {
         Ran::Refused(number, place, taken) => Ran::Refused(number, place, taken),
