@@ -1,14 +1,13 @@
 // Runs the rows of document 01 and prints what each entry answers and leaves in its buffers.
-mod card_rows;
-mod check_rows;
-mod field_rows;
-mod judge_rows;
-mod list_rows;
-mod print;
+use rows::check_rows;
+use rows::field_rows;
+use small_rows::card_rows;
+use small_rows::judge_rows;
+use small_rows::list_rows;
+
 mod run_rows;
 mod show_rows;
 mod solve_rows;
-mod stations;
 
 fn main() {
     check_rows::rows();

@@ -1,9 +1,9 @@
 // A card run over a list of observations: the actions, or the first refusal and how many were taken before it.
-use crate::print;
-use crate::print::say;
-use crate::stations::A_CARD;
-use crate::stations::C_CARD;
-use crate::stations::GUARD;
+use rows::print;
+use rows::print::say;
+use rows::stations::A_CARD;
+use rows::stations::C_CARD;
+use rows::stations::GUARD;
 use runner::Ran;
 
 fn run(name: &[u8], card: &[u32], seen: &[u32]) {

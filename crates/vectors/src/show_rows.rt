@@ -1,14 +1,14 @@
 // Show: the move words of a cell's action, and refusals 13, 16 and 12 behind the table's.
-use crate::print;
-use crate::print::say;
-use crate::stations;
-use crate::stations::A;
-use crate::stations::A_CARD;
-use crate::stations::C;
-use crate::stations::C_CARD;
-use crate::stations::changed_a;
-use crate::stations::changed_card;
 use games::Cell;
+use rows::print;
+use rows::print::say;
+use rows::stations;
+use rows::stations::A;
+use rows::stations::A_CARD;
+use rows::stations::C;
+use rows::stations::C_CARD;
+use rows::stations::changed_a;
+use rows::stations::changed_card;
 use show::Shown;
 
 fn show(name: &[u8], table: &[u32], card: &[u32], cell: u32) {

@@ -1,11 +1,11 @@
 // Solving: the stations, refusals 8 and 9, and what is left in the buffers.
-use crate::print;
-use crate::print::say;
-use crate::stations;
-use crate::stations::A;
-use crate::stations::B;
-use crate::stations::GUARD;
-use crate::stations::changed_a;
+use rows::print;
+use rows::print::say;
+use rows::stations;
+use rows::stations::A;
+use rows::stations::B;
+use rows::stations::GUARD;
+use rows::stations::changed_a;
 use solver::Answer;
 
 fn print_answer(answer: Answer) {

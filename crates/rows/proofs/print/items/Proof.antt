@@ -3,8 +3,8 @@ use borrow.Author.Needs.{needs}
 use native.Mathlib.Omega.{arith}
 use Prim.Native.Nat.{_-_}
 use lib.ListN.{length}
-use Rattle.vectors.proofs.print.items.Statement.{statement}
-use Rattle.vectors.proofs.print.items.Tie as tie
+use Rattle.rows.proofs.print.items.Statement.{statement}
+use Rattle.rows.proofs.print.items.Tie as tie
 
 abbrev Inv-loop : tie.InvT-loop
 Inv-loop list is-hex i₀ i = Unit {0}

@@ -1,8 +1,8 @@
 // Join and meet of mask lists: refusals 2, 5 and 15.
-use crate::print;
-use crate::print::say;
-use crate::stations::GUARD;
 use lists::Answer;
+use rows::print;
+use rows::print::say;
+use rows::stations::GUARD;
 
 fn print_call(n: u32, first: &[u32], second: &[u32], words: usize) {
     print::decimal(n as u64);

@@ -1,13 +1,13 @@
 // A card's words, its opening and its steps: refusals 13, 12 and 14.
-use crate::print;
-use crate::print::say;
-use crate::stations::A_CARD;
-use crate::stations::C_CARD;
-use crate::stations::changed_card;
 use cards::CardCheck;
 use cards::Move;
 use games::Cell;
 use games::Observation;
+use rows::print;
+use rows::print::say;
+use rows::stations::A_CARD;
+use rows::stations::C_CARD;
+use rows::stations::changed_card;
 
 fn print_check(answer: CardCheck) {
     match answer {

@@ -1,10 +1,10 @@
 // The plain judge: L, refusals 17 and 5 behind the table's.
-use crate::print;
-use crate::print::say;
-use crate::stations;
-use crate::stations::A;
-use crate::stations::changed_a;
 use judge::Judged;
+use rows::print;
+use rows::print::say;
+use rows::stations;
+use rows::stations::A;
+use rows::stations::changed_a;
 
 fn judge(name: &[u8], table: &[u32], mask: u32, k: u32) {
     say(b"judge ");
