@@ -56,6 +56,22 @@ pub fn word(kind: u32, low: u32, number: u32, action: u32) -> u32
     kind * 268435456 + action * 1048576 + number * 65536 + low
 }
 
+// The word of a kind that names the cell to go to on an observation.
+pub fn naming(kind: u32, cell: Cell, seen: Observation) -> u32
+    requires { ⌜ (kind < 16) × (cell .0 < 65536) × (seen .0 < 16) ⌝ }
+    ensures { λ r. ⌜ r ≡ wordOf kind (cell .0) (seen .0) 0 ⌝ }
+{
+    word(kind, cell.0, seen.0, 0)
+}
+
+// The word of a cell: its set and the action picked there.
+pub fn picking(set: u32, picked: Action) -> u32
+    requires { ⌜ (set < 65536) × (picked .0 < 16) ⌝ }
+    ensures { λ r. ⌜ r ≡ wordOf 10 set 0 (picked .0) ⌝ }
+{
+    word(10, set, 0, picked.0)
+}
+
 fn up_to(limit: u32, n: u32) -> bool
     ensures { λ r. ⌜ r ≡ upTo limit n ⌝ }
 {

@@ -22,7 +22,7 @@ use Rattle.games.specs.Verdict.{startSet, cells}
 use Rattle.games.specs.Automaton.{card, chosen, holding}
 use Rattle.games.specs.Words.{game, cardLength, cellWords, cardWords, word}
 use Rattle.cards.proofs.Extra.{gather-length}
-use Rattle.solver.specs.Writing.{Cell, frontWords, setWords}
+use Rattle.solver.specs.Writing.{SettledSet, frontWords, setWords}
 use Rattle.solver.specs.Solve.{cardOf}
 use Rattle.solver.proofs.Choosing.{gather-ext}
 
@@ -157,9 +157,9 @@ prefix-room g l d o e h = omega arith
 pub parts-few : (o c m : ℕ) → 1 + o ≤ 9 → m ≤ 4096 → c ≤ m → c * (1 + o) ≤ 36864
 parts-few o c m b few within = le-trans (mul-le-mul-right (1 + o) (le-trans within few)) (mul-le-mul-left 4096 b)
 
-pub cell-of : (g : Game) → Accepted g → (l : List ℕ) → l ≡ cells g → (c : ℕ) → c < length l → Cell g (getD l c 0)
+pub cell-of : (g : Game) → Accepted g → (l : List ℕ) → l ≡ cells g → (c : ℕ) → c < length l → SettledSet g (getD l c 0)
 cell-of g A l e c h =
-    subst (λ (k : List ℕ). c < length k → Cell g (getD k c 0)) (sym e) (λ b. let w = cell-settled g A c b in record { below = w .0; is-settled = w .1 }) h
+    subst (λ (k : List ℕ). c < length k → SettledSet g (getD k c 0)) (sym e) (λ b. let w = cell-settled g A c b in record { below = w .0; is-settled = w .1 }) h
 
 pub needed : (g : Game) (m o : ℕ) → o ≡ g .observations → 1 + o + m * (1 + o) ≡ cardLength m (g .observations)
 needed g m o e = ap (λ (n : ℕ). 1 + n + m * (1 + n)) e

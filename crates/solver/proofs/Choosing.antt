@@ -24,7 +24,7 @@ use Rattle.tables.specs.Walk.{walked}
 use Rattle.tables.specs.declared.Walked.{Walked}
 use Rattle.tables.specs.declared.Walked.the-variants.{Blocked, Post}
 use Rattle.solver.specs.Ranks.{shownGood}
-use Rattle.solver.specs.Writing.{Cell, setWords}
+use Rattle.solver.specs.Writing.{SettledSet, setWords}
 use Rattle.solver.proofs.Turns.{meets-blocked, meets-shown, walked-post}
 use Rattle.solver.proofs.Words.{holdsAt, holding-empty, holding-at, Filled}
 
@@ -81,7 +81,7 @@ module _ (g : Game) (l : List ℕ) (s o last a : ℕ) (out : List ℕ) (w : Tryi
       (first-stop (g .actions) (meets g (settled g) s) a (subst (λ (n : ℕ). a < n) (w .actions-are) b) (w .none) h)
 
   -- an action that meets the step is found
-  pub never-none : Accepted g → Cell g s → last ≤ a → ⊥
+  pub never-none : Accepted g → SettledSet g s → last ≤ a → ⊥
   never-none A c b =
       let h = step-action g (settled g) s (sym (settled-step g A s (c .below)) ∙ c .is-settled) in
       clash (h .2) (first-nothing a (meets g (settled g) s) (w .none) (h .0) (omega (arith, w .actions-are, h .1)))

@@ -21,7 +21,7 @@ pub record Writing (table list out : List ℕ) : Type 0 where
   pub room : length out ≡ 1 + game table .observations
 
 -- a settled set
-pub record Cell (g : Game) (s : ℕ) : Type 0 where
+pub record SettledSet (g : Game) (s : ℕ) : Type 0 where
   pub below : s < 2 ^ g .states
   pub is-settled : settled g s ≡ true
 

@@ -15,8 +15,9 @@ ghost use Rattle.games.specs.Verdict.{settled as isSettled, cells as cellsOf, v
 ghost use Rattle.solver.specs.Solve.{leaves, byVerdict, cardOf, outcome, solved, Promise};
 ghost use Rattle.solver.specs.Search.{Searched, Kept, Collected, workWords};
 ghost use Rattle.games.specs.Automaton.{holding as holdingCell};
-ghost use Rattle.solver.specs.Writing.{Writing, Cell, frontWords, setWords};
+ghost use Rattle.solver.specs.Writing.{Writing, SettledSet, frontWords, setWords};
 use games::Action;
+use games::Cell;
 use games::Observation;
 use tables::Checked;
 use tables::Walked;
@@ -220,7 +221,7 @@ fn write_front(table: &[u32], cells: &[u32], out: &mut [u32])
     let mut j: u32 = 0;
     while j < o {
         let first = holding(cells, start & tables::shown(table, Observation(j)));
-        out[1 + j as usize] = cards::word(9, first, j, 0);
+        out[1 + j as usize] = cards::naming(9, Cell(first), Observation(j));
         j += 1;
     }
     out[0] = cards::word(8, cells.len() as u32, o, tables::actions(table));
@@ -228,7 +229,7 @@ fn write_front(table: &[u32], cells: &[u32], out: &mut [u32])
 
 // The words of the cell with the set s. Its action is the lowest that leads, for every observation, into a cell.
 fn write_cell(table: &[u32], cells: &[u32], s: u32, out: &mut [u32])
-    requires { ⌜ Writing (now table) (now cells) (now out) × Cell (game (now table)) s ⌝ }
+    requires { ⌜ Writing (now table) (now cells) (now out) × SettledSet (game (now table)) s ⌝ }
     ensures { λ _. ⌜ now (out .exit) ≡ setWords (game (now (table .entry))) s ⌝ }
 {
     let o = tables::observations(table);
@@ -252,9 +253,9 @@ fn write_cell(table: &[u32], cells: &[u32], s: u32, out: &mut [u32])
                 }
                 i += 1;
             };
-            out[1 + j as usize] = cards::word(11, cell, j, 0);
+            out[1 + j as usize] = cards::naming(11, Cell(cell), Observation(j));
         }
-        out[0] = cards::word(10, s, 0, a);
+        out[0] = cards::picking(s, Action(a));
         return;
     }
 }

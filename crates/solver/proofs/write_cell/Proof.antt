@@ -24,7 +24,8 @@ use Rattle.solver.proofs.write_cell.Statement.{statement}
 use Rattle.solver.proofs.write_cell.Tie as tie
 use Rattle.solver.proofs.write_cell.Reads as reads
 use Rattle.solver.proofs.write_cell.Lts as lts
-use Rattle.cards.proofs.word.Reads as word-reads
+use Rattle.cards.proofs.naming.Reads as naming-reads
+use Rattle.cards.proofs.picking.Reads as picking-reads
 use Rattle.tables.proofs.actions.Reads as actions-reads
 use Rattle.tables.proofs.observations.Reads as observations-reads
 use Rattle.tables.proofs.shown.Reads as shown-reads
@@ -193,8 +194,8 @@ loop2-less c = omega (arith, lt-by-ne _ _ (c .before .before .before .before .lo
 loop2-again : tie.Need-loop2-again Inv-loop2 μ-loop2 Inv-loop μ-loop Inv-actions μ-actions
 loop2-again c = (c .before .before .before .before .loop2 .inv .0, add-one-le (lt-by-ne _ _ (c .before .before .before .before .loop2 .inv .1) (c .before .before .if2 .left)), first-skip (c .before .before .before .before .loop2 .i) (holdsAt (c .before .before .before .before .before .before .before .before .before .before .before .before .before .before .before .before .before .before .before .args .cells .now) (common (c .before .before .before .before .before .before .before .before .before .walked .given .0 .0) (c .before .before .before .before .before .shown .result))) (c .before .before .before .before .loop2 .inv .2) (ne-eqb _ _ (c .if3 .left)))
 
-word-requires : tie.Need-word-requires Inv-loop2 μ-loop2 Inv-loop μ-loop Inv-actions μ-actions
-word-requires c κs =
+naming-requires : tie.Need-naming-requires Inv-loop2 μ-loop2 Inv-loop μ-loop Inv-actions μ-actions
+naming-requires c κs =
     let lp = c .before .before .before .before in
     let act = lp .before .before .before .before .before .before in
     let start = lp .before .before .before .before .before .before .before .before .before .before .before .before in
@@ -205,7 +206,7 @@ word-requires c κs =
     let s = start .args .s in
     let u = lp .before .before .walked .given .0 .0 in
     let j = lp .loop .j in
-    (search needs, subst (λ (x : ℕ). x < 65536) (sym (named c .0)) (holding-small _ _ (act .actions .inv .few)), omega (arith, c .before .before .before .loop-test .taken, act .actions .inv .observations-few), search needs)
+    (search needs, subst (λ (x : ℕ). x < 65536) (sym (named c .0)) (holding-small _ _ (act .actions .inv .few)), omega (arith, c .before .before .before .loop-test .taken, act .actions .inv .observations-few))
 
 cast-out : tie.Need-cast-out Inv-loop2 μ-loop2 Inv-loop μ-loop Inv-actions μ-actions
 cast-out c = search needs
@@ -243,13 +244,13 @@ loop-again c =
       c .before .before .loop2 .inv .0 ∙ lp .loop .inv .0,
       omega (arith, c .before .before .before .before .loop-test .taken),
       all-more j (λ i. settled g (common u (g .shown i))) ∙ and-intro (lp .loop .inv .2) (rw (shown .ensures) at (n .1)),
-      trying-with g l s o (lp .before .before .before .before .before .before .before .actions2 .result) (act .actions .a) (lp .loop .out) (lp .loop .inv .3) (set (lp .loop .out) (1 + j) (c .word .result)) (length-set (lp .loop .out) (1 + j) (c .word .result) ∙ lp .loop .inv .3 .size),
-      filled-more o (nextWord g l u) j (lp .loop .out) (c .word .result) (c .before .before .before .before .loop-test .taken)
-          (next-word g l u j (c .word .result) (c .before .if1 .cell) (shown .result) (common u (shown .result)) (c .word .ensures) (n .0) refl (shown .ensures)) (lp .loop .inv .4),
+      trying-with g l s o (lp .before .before .before .before .before .before .before .actions2 .result) (act .actions .a) (lp .loop .out) (lp .loop .inv .3) (set (lp .loop .out) (1 + j) (c .naming .result)) (length-set (lp .loop .out) (1 + j) (c .naming .result) ∙ lp .loop .inv .3 .size),
+      filled-more o (nextWord g l u) j (lp .loop .out) (c .naming .result) (c .before .before .before .before .loop-test .taken)
+          (next-word g l u j (c .naming .result) (c .before .if1 .cell) (shown .result) (common u (shown .result)) (c .naming .ensures) (n .0) refl (shown .ensures)) (lp .loop .inv .4),
     )
 
-word-requires-2 : tie.Need-word-requires-2 Inv-loop2 μ-loop2 Inv-loop μ-loop Inv-actions μ-actions
-word-requires-2 c κs =
+picking-requires : tie.Need-picking-requires Inv-loop2 μ-loop2 Inv-loop μ-loop Inv-actions μ-actions
+picking-requires c κs =
     let lp = c .before in
     let act = lp .before .before .before .before .before .before in
     let start = lp .before .before .before .before .before .before .before .before .before .before .before .before in
@@ -260,7 +261,7 @@ word-requires-2 c κs =
     let s = start .args .s in
     let u = lp .before .before .walked .given .0 .0 in
     let j = lp .loop .j in
-    (search needs, omega (arith, start .pre .1 .below, sets-few w (sized w (start .pre .0 .fine))), search needs, omega (arith, lp .loop .inv .0, lp .before .before .before .before .before .actions-test .taken, act .actions .inv .actions-few))
+    (omega (arith, start .pre .1 .below, sets-few w (sized w (start .pre .0 .fine))), omega (arith, lp .loop .inv .0, lp .before .before .before .before .before .actions-test .taken, act .actions .inv .actions-few))
 
 slice-write-out-2 : tie.Need-slice-write-out-2 Inv-loop2 μ-loop2 Inv-loop μ-loop Inv-actions μ-actions
 slice-write-out-2 c = omega (arith, c .before .before .loop .inv .3 .size)
@@ -268,7 +269,7 @@ slice-write-out-2 c = omega (arith, c .before .before .loop .inv .3 .size)
 same-length : tie.Need-same-length Inv-loop2 μ-loop2 Inv-loop μ-loop Inv-actions μ-actions
 same-length c =
     let lp = c .before .before in
-    length-set (lp .loop .out) 0 (c .word2 .result) ∙ lp .loop .inv .3 .size ∙ ap (λ (n : ℕ). 1 + n) (lp .before .before .before .before .before .before .actions .inv .observations-are) ∙ sym (lp .before .before .before .before .before .before .before .before .before .before .before .before .pre .0 .room)
+    length-set (lp .loop .out) 0 (c .picking .result) ∙ lp .loop .inv .3 .size ∙ ap (λ (n : ℕ). 1 + n) (lp .before .before .before .before .before .before .actions .inv .observations-are) ∙ sym (lp .before .before .before .before .before .before .before .before .before .before .before .before .pre .0 .room)
 
 returns : tie.Need-returns Inv-loop2 μ-loop2 Inv-loop μ-loop Inv-actions μ-actions
 returns c =
@@ -287,10 +288,10 @@ returns c =
     let is = act .actions .inv .observations-are in
     let e : j ≡ g .observations = le-antisymm (lp .loop .inv .1) (c .before .loop-test .left) ∙ is in
     let m = covered-meets g s a (lp .before .before .before .before .walk .result) (lp .before .before .before .before .walk .ensures) u (lp .before .before .walked .given .1) (rw e at (lp .loop .inv .2)) in
-    filled-end o (nextWord g l u) j (lp .loop .out) (c .word2 .result) (c .before .loop-test .left) (lp .loop .inv .1) (lp .loop .inv .4)
-    ∙ set-words g l (start .pre .0 .listed) s a u o (c .word2 .result) is (chosen-is g l s o (lp .before .before .before .before .before .before .before .actions2 .result) a (lp .loop .out) (lp .loop .inv .3) (lp .before .before .before .before .before .actions-test .taken) m)
+    filled-end o (nextWord g l u) j (lp .loop .out) (c .picking .result) (c .before .loop-test .left) (lp .loop .inv .1) (lp .loop .inv .4)
+    ∙ set-words g l (start .pre .0 .listed) s a u o (c .picking .result) is (chosen-is g l s o (lp .before .before .before .before .before .before .before .actions2 .result) a (lp .loop .out) (lp .loop .inv .3) (lp .before .before .before .before .before .actions-test .taken) m)
     (after-is g s a (lp .before .before .before .before .walk .result) (lp .before .before .before .before .walk .ensures) u (lp .before .before .walked .given .1))
-    (c .word2 .ensures ∙ ap (word 10 s 0) (lp .loop .inv .0))
+    (c .picking .ensures ∙ ap (word 10 s 0) (lp .loop .inv .0))
 
 same-length-2 : tie.Need-same-length-2 Inv-loop2 μ-loop2 Inv-loop μ-loop Inv-actions μ-actions
 same-length-2 c =
@@ -335,7 +336,7 @@ write-cell-spec =
     add-i
     loop2-less
     loop2-again
-    word-requires
+    naming-requires
     cast-out
     add-out
     mul-out
@@ -343,7 +344,7 @@ write-cell-spec =
     add-j
     loop-less
     loop-again
-    word-requires-2
+    picking-requires
     slice-write-out-2
     same-length
     returns

@@ -11,6 +11,7 @@ use Rattle.solver.proofs.write_front.Statement.{statement}
 use Rattle.solver.proofs.write_front.Tie as tie
 use Rattle.solver.proofs.write_front.Reads as reads
 use Rattle.solver.proofs.write_front.Lts as lts
+use Rattle.cards.proofs.naming.Reads as naming-reads
 use Rattle.cards.proofs.word.Reads as word-reads
 use Rattle.solver.proofs.holding.Reads as holding-reads
 use Rattle.tables.proofs.actions.Reads as actions-reads
@@ -47,10 +48,10 @@ shown-requires c κs = (sized (c .before .before .before .before .before .before
 holding-requires : tie.Need-holding-requires Inv-loop μ-loop
 holding-requires c κs = c .before .before .loop .inv .0
 
-word-requires : tie.Need-word-requires Inv-loop μ-loop
-word-requires c κs =
+naming-requires : tie.Need-naming-requires Inv-loop μ-loop
+naming-requires c κs =
     let at = c .before .before .before in
-    (search needs, subst (λ (x : ℕ). x < 65536) (sym (c .holding .ensures)) (holding-small _ _ (at .loop .inv .0)), omega arith, search needs)
+    (search needs, subst (λ (x : ℕ). x < 65536) (sym (c .holding .ensures)) (holding-small _ _ (at .loop .inv .0)), omega arith)
 
 cast-out : tie.Need-cast-out Inv-loop μ-loop
 cast-out c = search needs
@@ -79,8 +80,8 @@ loop-again c =
       at .loop .inv .0,
       at .loop .inv .1,
       search needs,
-      filled-more (at .before .observations .result) (firstWord g l) (at .loop .j) (at .loop .out) (c .word .result) (omega arith)
-          (first-word g l (at .loop .j) (c .word .result) (c .before .holding .result) (at .before .before .start .result) (c .before .before .shown .result) (c .word .ensures) (c .before .holding .ensures) (at .before .before .start .ensures) (c .before .before .shown .ensures))
+      filled-more (at .before .observations .result) (firstWord g l) (at .loop .j) (at .loop .out) (c .naming .result) (omega arith)
+          (first-word g l (at .loop .j) (c .naming .result) (c .before .holding .result) (at .before .before .start .result) (c .before .before .shown .result) (c .naming .ensures) (c .before .holding .ensures) (at .before .before .start .ensures) (c .before .before .shown .ensures))
           (at .loop .inv .3),
     )
 
@@ -90,8 +91,8 @@ cast-word c = omega (arith, c .before .loop .inv .0)
 actions-requires : tie.Need-actions-requires Inv-loop μ-loop
 actions-requires c κs = sized (c .before .before .before .before .before .before .before .args .table .now) (c .before .before .before .before .before .before .before .pre .fine)
 
-word-requires-2 : tie.Need-word-requires-2 Inv-loop μ-loop
-word-requires-2 c κs =
+word-requires : tie.Need-word-requires Inv-loop μ-loop
+word-requires c κs =
     let at = c .before .before in
     let start = at .before .before .before .before .before .before in (
       search needs,
@@ -107,7 +108,7 @@ same-length : tie.Need-same-length Inv-loop μ-loop
 same-length c =
     let at = c .before .before .before in
     let start = at .before .before .before .before .before .before in
-    length-set (at .loop .out) 0 (c .word2 .result) ∙ at .loop .inv .3 .size ∙ ap (λ (n : ℕ). 1 + n) (at .before .observations .ensures) ∙ sym (start .pre .room)
+    length-set (at .loop .out) 0 (c .word .result) ∙ at .loop .inv .3 .size ∙ ap (λ (n : ℕ). 1 + n) (at .before .observations .ensures) ∙ sym (start .pre .room)
 
 returns : tie.Need-returns Inv-loop μ-loop
 returns c =
@@ -115,8 +116,8 @@ returns c =
     let start = at .before .before .before .before .before .before in
     let g = game (start .args .table .now) in
     let l = start .args .cells .now in
-    filled-end (at .before .observations .result) (firstWord g l) (at .loop .j) (at .loop .out) (c .word2 .result) (c .before .before .loop-test .left) (at .loop .inv .2) (at .loop .inv .3)
-    ∙ front-is g l (start .pre .listed) (at .before .observations .result) (c .word2 .result) (at .before .observations .ensures) (c .word2 .ensures ∙ ap (word 8 (length l) (at .before .observations .result)) (c .before .actions .ensures))
+    filled-end (at .before .observations .result) (firstWord g l) (at .loop .j) (at .loop .out) (c .word .result) (c .before .before .loop-test .left) (at .loop .inv .2) (at .loop .inv .3)
+    ∙ front-is g l (start .pre .listed) (at .before .observations .result) (c .word .result) (at .before .observations .ensures) (c .word .ensures ∙ ap (word 8 (length l) (at .before .observations .result)) (c .before .actions .ensures))
 
 pub write-front-spec : {M : Type 1} → statement M
 write-front-spec =
@@ -129,7 +130,7 @@ write-front-spec =
     loop-holds
     shown-requires
     holding-requires
-    word-requires
+    naming-requires
     cast-out
     add-out
     mul-out
@@ -139,7 +140,7 @@ write-front-spec =
     loop-again
     cast-word
     actions-requires
-    word-requires-2
+    word-requires
     slice-write-out-2
     same-length
     returns)
