@@ -11,9 +11,9 @@ use Rattle.sets.specs.Bounded.{all, any}
 use Rattle.sets.specs.Family.{Family}
 use Rattle.sets.proofs.Logic.{and-intro, and-false-left, and-false-right, or-false-intro}
 use Rattle.sets.proofs.Bounded.{all-more, all-refuted, any-more}
-use Rattle.games.specs.Game.{Game}
+use Rattle.games.specs.Game.{Game, Accepted}
 use Rattle.games.specs.Step.{safe, enabledAt, post, after, meets, step, good}
-use Rattle.games.proofs.Steps.{step-intro}
+use Rattle.games.proofs.Steps.{step-intro, good-empty}
 use Rattle.tables.specs.Walk.{walked}
 use Rattle.tables.specs.declared.Walked.the-variants.{Blocked, Post}
 
@@ -24,6 +24,10 @@ module _ (g : Game) where
   pub no-round : (k s : ℕ) → k ≡ 0 → true ≡ good g k s
   unfolding good
   no-round k s e = rw e
+
+  -- nor does the empty set lose in any
+  pub empty-good : Accepted g → (k s : ℕ) → s ≡ 0 → true ≡ good g k s
+  empty-good A k s e = sym (ap (good g k) e ∙ good-empty g A k)
 
   -- with a round to go, good is one step
   one-round : (k s : ℕ) → (k ≡ 0 → ⊥) → good g k s ≡ step g (good g (k - 1)) s

@@ -3,7 +3,8 @@ ghost use mathlib.Core.Path.{_≡_};
 ghost use Prim.Native.Nat.{_<_};
 ghost use Rattle.games.specs.Step.{good, meets};
 ghost use Rattle.games.specs.Words.{game};
-ghost use Rattle.tables.specs.Layout.{Sized};
+ghost use Rattle.tables.specs.Check.{checked};
+ghost use Rattle.tables.specs.declared.Checked.the-variants.{Fine};
 ghost use Rattle.judge.specs.Judge.{answered, judged};
 use games::Action;
 use games::Observation;
@@ -22,11 +23,14 @@ pub enum Judged {
 
 // The set is good for k rounds: one action meets the step.
 fn action_turn(table: &[u32], s: u32, k: u32) -> bool
-    requires { ⌜ Sized (now table) ⌝ }
+    requires { ⌜ checked (now table) ≡ Fine ⌝ }
     ensures { λ r. ⌜ r ≡ good (game (now (table .entry))) k s ⌝ }
 {
     if k == 0 {
         return true; // no round to go
+    }
+    if s == 0 {
+        return true; // the empty set is always good
     }
     if sets::common(s, tables::bad(table)) != 0 {
         return false; // a bad member
@@ -44,7 +48,7 @@ fn action_turn(table: &[u32], s: u32, k: u32) -> bool
 
 // The action is enabled at all members and, for every observation, the successors that show it are good for k rounds.
 fn observation_turn(table: &[u32], s: u32, a: Action, k: u32) -> bool
-    requires { ⌜ Sized (now table) × (a .0 < game (now table) .actions) ⌝ }
+    requires { ⌜ (checked (now table) ≡ Fine) × (a .0 < game (now table) .actions) ⌝ }
     ensures { λ r. ⌜ r ≡ meets (game (now (table .entry))) (good (game (now (table .entry))) k) s (a .0) ⌝ }
 {
     let Walked::Post(u) = tables::walk(table, s, a) else {
@@ -64,7 +68,7 @@ fn observation_turn(table: &[u32], s: u32, a: Action, k: u32) -> bool
 
 // Refusals 17 and 5, else the answer.
 fn answer(table: &[u32], mask: u32, k: u32) -> Judged
-    requires { ⌜ Sized (now table) ⌝ }
+    requires { ⌜ checked (now table) ≡ Fine ⌝ }
     ensures { λ r. ⌜ r ≡ answered (now (table .entry)) mask k ⌝ }
 {
     if MOST_ROUNDS < k {

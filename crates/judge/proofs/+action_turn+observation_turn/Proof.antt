@@ -10,9 +10,10 @@ use Rattle.sets.specs.Bounded.{all, any}
 use Rattle.sets.proofs.Bounded.{all-zero, any-zero}
 use Rattle.games.specs.Step.{meets, good}
 use Rattle.games.specs.Words.{game}
+use Rattle.tables.proofs.Checks.{sized, accepted}
 use borrow.Fn.Kinds.{In}
 use borrow.Fn.PlainCycle.{Measures, is, falls, and}
-use Rattle.judge.proofs.Turns.{no-round, bad-member, action-meets, action-fails, no-action, goodIn, action-blocked, asked, observation-good, observation-fails, all-observations}
+use Rattle.judge.proofs.Turns.{no-round, empty-good, bad-member, action-meets, action-fails, no-action, goodIn, action-blocked, asked, observation-good, observation-fails, all-observations}
 use Rattle.judge.proofs.action_turn.Reads as action-turn
 use Rattle.judge.proofs.action_turn.Kinds as action-turn-kinds
 use Rattle.judge.proofs.+action_turn+observation_turn.Lts-action_turn as action-turn-lts
@@ -90,34 +91,38 @@ pub +action-turn+observation-turn-spec : {M : Type 1} → statement M
     action-turn-Inv-loop
     action-turn-μ-loop
     (λ c. let x = c .before .before .args in no-round (game (x .table .now)) (x .k) (x .s) (c .if1 .taken))
-    (λ c κs. search needs)
+    (λ c.
+    let begun = c .before .before .before in
+    let w = begun .args .table .now in
+    empty-good (game w) (accepted w (begun .pre .1)) (begun .args .k) (begun .args .s) (c .if2 .taken))
+    (λ c κs. let begun = c .before .before .before in sized (begun .args .table .now) (begun .pre .1))
     (λ c κs. search needs)
     (λ c.
     let asked = c .before in
-    let some = asked .before .before in
+    let some = asked .before .before .before in
     let x = some .before .before .args in
-    bad-member (game (x .table .now)) (x .k) (x .s) _ _ (some .if1 .left) (asked .before .bad .ensures) (asked .common .ensures) (c .if2 .taken))
-    (λ c κs. search needs)
+    bad-member (game (x .table .now)) (x .k) (x .s) _ _ (some .if1 .left) (asked .before .bad .ensures) (asked .common .ensures) (c .if3 .taken))
+    (λ c κs. let begun = c .before .before .before .before .before .before in sized (begun .args .table .now) (begun .pre .1))
     (λ c.
-    let x = c .before .before .before .before .before .before .args in
+    let x = c .before .before .before .before .before .before .before .args in
     (search needs, any-zero (meets (game (x .table .now)) (good (game (x .table .now)) (x .k - 1)) (x .s))))
-    (λ c. let some = c .before .before .before .before .before .before .if1 .left in omega arith)
+    (λ c. let some = c .before .before .before .before .before .before .before .if1 .left in omega arith)
     (λ c κs. search needs)
     (λ c.
     let at = c .before .before .before in
     let asked = at .before .before .before in
-    let some = asked .before .before in
+    let some = asked .before .before .before in
     let x = some .before .before .args in
-    action-meets (game (x .table .now)) (x .k) (x .s) _ _ (some .if1 .left) (asked .before .bad .ensures) (asked .common .ensures) (at .loop .a) (at .before .before .if2 .left) (search needs) (c .before .observation-turn .ensures) (c .if3 .taken))
+    action-meets (game (x .table .now)) (x .k) (x .s) _ _ (some .if1 .left) (asked .before .bad .ensures) (asked .common .ensures) (at .loop .a) (at .before .before .if3 .left) (search needs) (c .before .observation-turn .ensures) (c .if4 .taken))
     (λ c. search needs)
     (λ c. search needs)
     (λ c.
     let at = c .before .before .before in
-    let x = at .before .before .before .before .before .before .before .args in
-    (search needs, action-fails (game (x .table .now)) (x .k - 1) (x .s) (at .loop .a) (at .loop .inv .1) (c .before .observation-turn .ensures) (c .if3 .left)))
+    let x = at .before .before .before .before .before .before .before .before .args in
+    (search needs, action-fails (game (x .table .now)) (x .k - 1) (x .s) (at .loop .a) (at .loop .inv .1) (c .before .observation-turn .ensures) (c .if4 .left)))
     (λ c.
     let at = c .before in
-    let some = at .before .before .before .before .before in
+    let some = at .before .before .before .before .before .before in
     let x = some .before .before .args in
     let e : at .loop .a ≡ game (x .table .now) .actions = omega arith in
     no-action (game (x .table .now)) (x .k) (x .s) (some .if1 .left) (rw e at (at .loop .inv .1))))
@@ -137,19 +142,19 @@ pub +action-turn+observation-turn-spec : {M : Type 1} → statement M
     observation-turn.Post
     observation-turn-Inv-loop
     observation-turn-μ-loop
-    (λ c κs. search needs)
+    (λ c κs. (sized (c .before .args .table .now) (c .before .pre .1 .0), c .before .pre .1 .1))
     (λ c. search needs)
     (λ c. search needs)
     (λ c.
     let walked = c .before .before in
     let x = walked .before .before .args in
     action-blocked (game (x .table .now)) (good (game (x .table .now)) (x .k)) (x .s) (x .a .0) (cc))
-    (λ c κs. search needs)
+    (λ c κs. let begun = c .before .before .before .before .before in sized (begun .args .table .now) (begun .pre .1 .0))
     (λ c.
     let u = c .before .before in
     let x = u .before .before .before .before .args in
     (search needs, all-zero (goodIn (game (x .table .now)) (x .k) (u .u .given .0 .0))))
-    (λ c κs. search needs)
+    (λ c κs. let begun = c .before .before .before .before .before .before .before .before in (sized (begun .args .table .now) (begun .pre .1 .0), search needs))
     (λ c κs. search needs)
     (λ c κs. search needs)
     (λ c.

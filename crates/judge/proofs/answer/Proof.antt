@@ -1,6 +1,8 @@
 -- `judge::answer` meets its contract.
 -- Assumes nothing.
+use native.Mathlib.Omega.{arith}
 use borrow.Author.Needs.{needs}
+use Rattle.tables.proofs.Checks.{sized}
 use Rattle.games.specs.Words.{game}
 use Rattle.judge.proofs.Answers.{too-many-rounds, names-no-state, is-good, not-good}
 use Rattle.judge.proofs.answer.Statement.{statement}
@@ -8,14 +10,17 @@ use Rattle.judge.proofs.answer.Tie as tie
 
 single-requires : tie.Need-single-requires
 unfolding game
-single-requires c κs = search needs
+single-requires c κs =
+    let begun = c .before .before .before in
+    let z = sized (begun .args .table .now) (begun .pre) .limits .most-states in
+    omega (arith, c .states .ensures)
 
 pub answer-spec : {M : Type 1} → statement M
 answer-spec =
     tie.close
     (tie.spec
     (λ c. let x = c .before .before .args in too-many-rounds (x .table .now) (x .mask) (x .k) (c .if1 .taken))
-    (λ c κs. search needs)
+    (λ c κs. let begun = c .before .before in sized (begun .args .table .now) (begun .pre))
     single-requires
     (λ c.
     let sized = c .before .before in

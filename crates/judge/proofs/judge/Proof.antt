@@ -2,7 +2,6 @@
 -- Assumes nothing.
 use mathlib.Core.Path.{_∙_}
 use borrow.Author.Needs.{needs}
-use Rattle.tables.proofs.Checks.{sized}
 use Rattle.judge.proofs.Answers.{table-refused, table-fine}
 use Rattle.judge.proofs.judge.Statement.{statement}
 use Rattle.judge.proofs.judge.Tie as tie
@@ -14,7 +13,7 @@ judge-spec =
     (λ c κs. search needs)
     (λ c. search needs)
     (λ c. search needs)
-    (λ c κs. let x = c .before .before .before .before .args in sized (x .table .now) (cc))
+    (λ c κs. (cc))
     (λ c.
     let x = c .before .before .before .before .before .args in
     table-refused (x .table .now) (x .mask) (x .k) (c .before .number .given .0 .0) (c .before .number .given .0 .1 .0) (cc))
