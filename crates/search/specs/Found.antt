@@ -1,0 +1,24 @@
+-- What the search finds and what it leaves.
+-- Assumes nothing.
+use mathlib.Core.Path.{_≡_}
+use mathlib.Core.Bool.{true}
+use mathlib.Core.List.{List}
+use Prim.Native.Nat.{ℕ, _^_, _<_}
+use Rattle.families.specs.Bits.{Bits}
+use Rattle.games.specs.Game.{Game}
+use Rattle.games.specs.Step.{settling}
+use Rattle.games.specs.Verdict.{No, startsIn, settled, verdict}
+use Rattle.search.specs.declared.Outcome.{Outcome}
+use Rattle.search.specs.declared.Outcome.the-variants.{Settled, Lost}
+
+-- k is the settling count, the start sets are settled, and the bits are those of the settled family
+pub record SettledAt (g : Game) (k : ℕ) (bits : List ℕ) : Type 0 where
+  pub count-is : settling g ≡ k
+  pub starts : startsIn g (settled g) ≡ true
+  pub below : k < 2 ^ g .states
+  pub family : Bits (g .states) (settled g) bits
+
+-- a yes leaves the bits of the settled family, a no has the verdict's round number
+abbrev pub Searched : Game → Outcome → List ℕ → Type 0
+Searched g (Settled k) bits = SettledAt g k bits
+Searched g (Lost k) bits = (verdict g ≡ No k) × (k < 2 ^ g .states)
