@@ -1,13 +1,15 @@
-// The runner (document 01, "Entries": Run): a card's words, held and not copied, and the cell it is in. A function that takes or
-// makes a runner is proved by a walk of its MIR, by hand, so there are two, over the covered steps of `cards`. `run` needs no runner.
+// The runner (document 01, "Entries": Run): a card's words, held and not copied, and the cell it is in. A function that takes, makes
+// or has a local of a runner is proved by a walk of its MIR, by hand, so there are three: two over the covered steps of `cards`, and
+// `drive`, which has plain parameters and needs no walk in its callers. `run` needs no runner.
 use cards::Move;
 use games::Cell;
 use games::Observation;
 ghost use mathlib.Core.Path.{_≡_};
+ghost use mathlib.Core.List.{[], _∷_};
 ghost use Prim.Native.Nat.{_≤_};
 ghost use lib.ListN.{length};
 ghost use Rattle.tables.specs.Fields.{filledBy};
-ghost use Rattle.runner.specs.Runs.{stands, starts, advances, moveAt, moveOn, actionOf, ranUpTo, leaves, ranInto};
+ghost use Rattle.runner.specs.Runs.{stands, starts, advances, stood, standing, moveAt, moveOn, actionOf, ranUpTo, leaves, ranInto};
 
 // The cell before the first observation.
 const NO_CELL: u32 = 65535;
@@ -44,6 +46,42 @@ pub fn advance<'r, 'c>(r: &'r mut Runner<'c>, seen: Observation) -> Move
     let answer = cards::step(card, cell, seen);
     r.cell = cards::next_cell(card, cell, seen);
     answer
+}
+
+// The cell that a runner is in, and its last answer.
+pub struct Stood {
+    pub cell: Cell,
+    pub answer: Move,
+}
+
+// A runner after its first, second and third observation.
+pub struct Driven {
+    pub begun: Stood,
+    pub moved: Stood,
+    pub last: Stood,
+}
+
+// Opens a runner with the first observation and moves it by two more. A refused runner stays in its cell, and goes on from there.
+pub fn drive(card: &[u32], first: Observation, second: Observation, third: Observation) -> Driven
+    ensures { λ r. ⌜ (stood (r .begun) ≡ standing (now (card .entry)) (first .0 ∷ [])) × (stood (r .moved) ≡ standing (now (card .entry)) (first .0 ∷ second .0 ∷ [])) × (stood (r .last) ≡ standing (now (card .entry)) (first .0 ∷ second .0 ∷ third .0 ∷ [])) ⌝ }
+{
+    let opened = start(card, first);
+    let mut r = opened.runner;
+    let begun = Stood {
+        cell: r.cell,
+        answer: opened.answer,
+    };
+    let next = advance(&mut r, second);
+    let moved = Stood {
+        cell: r.cell,
+        answer: next,
+    };
+    let next = advance(&mut r, third);
+    let last = Stood {
+        cell: r.cell,
+        answer: next,
+    };
+    Driven { begun, moved, last }
 }
 
 // How many observations were taken, all of them; or a refusal: number, place, and how many were taken before it.
