@@ -8,6 +8,7 @@ use Prim.Native.Nat.{ℕ, _+_, _≤_, _<_}
 use native.Mathlib.Omega.{arith}
 use lib.ListN.{length, getD}
 use borrow.Author.Tests.{eq-eqb, ne-eqb, le-leb, lt-leb}
+use Rattle.games.specs.Format.{lowValues}
 use Rattle.games.specs.Automaton.{Automaton, noCell, cellFrom, cellAfter, actionAfter}
 use Rattle.games.specs.Words.{lowField, numberField, actionField}
 use Rattle.cards.specs.declared.CardCheck.{CardCheck}
@@ -93,7 +94,7 @@ stepped-wrong w c j n p e = rw (stepped, e)
 
 -- what the functions over a checked card read
 module _ (w : List ℕ) (e : checked w ≡ Fine) where
-  pub named-small : (c : ℕ) → Named (automaton w) c → c < 65536
+  pub named-small : (c : ℕ) → Named (automaton w) c → c < lowValues
   named-small c h =
       ⊎-elim (λ (l : c < automaton w .size). omega (arith, fitting w e .cells)) (λ (n : c ≡ noCell). omega arith) h
 

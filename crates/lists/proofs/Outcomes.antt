@@ -15,8 +15,9 @@ use Rattle.sets.specs.Bounded.{Found, nothing, found, first, count, select}
 use Rattle.sets.specs.Family.{join, meet}
 use Rattle.sets.proofs.Logic.{and-intro, and-false-left, and-false-right, true-not, false-not}
 use Rattle.sets.proofs.Bounded.{select-length}
+use Rattle.games.specs.Format.{maxStates, maxSets}
 use Rattle.lists.specs.declared.Answer.the-variants.{Words, Refused}
-use Rattle.lists.specs.Lists.{leaves, maxStates, isWidth, foreign, fitted, unlessFound, outcome}
+use Rattle.lists.specs.Lists.{leaves, isWidth, foreign, fitted, unlessFound, outcome}
 use Rattle.lists.specs.Tops.{top}
 use Rattle.lists.specs.Checks.{firstBeyond}
 use Rattle.lists.proofs.Tops.{select-top}
@@ -102,8 +103,8 @@ module _ (m : Bool) (n end : ℕ) (k l d : List ℕ) (w : Width n end) (a : Clea
 -- ---- room for what is collected
 
 -- the masks of any width fit
-pub width-room : {n end : ℕ} → Width n end → end ≤ 4096
-width-room w = subst (λ (x : ℕ). x ≤ 4096) (sym (w .power)) (pow-mono (w .high))
+pub width-room : {n end : ℕ} → Width n end → end ≤ maxSets
+width-room w = subst (λ (x : ℕ). x ≤ maxSets) (sym (w .power)) (pow-mono (w .high))
 
 -- what is collected is in front of a list at least as long
 pub room-for : (p : ℕ → Bool) (end r : ℕ) (x q : List ℕ) → r ≡ count end p → x ≡ select end p ++ q → r ≤ length x

@@ -10,11 +10,10 @@ ghost use Rattle.lists.specs.Lists.{leaves, outcome, joined, met};
 ghost use Rattle.lists.specs.Plain.{OfEither, OfBoth, MaximalOf};
 ghost use Rattle.lists.specs.Tops.{around as aroundOf, gathered, inhabited, top, NoneBetween, UnlistedBetween};
 ghost use Rattle.lists.specs.Checks.{firstBeyond};
+use games::MAX_STATES;
 
-// The widest masks, and how many masks of that width there are.
-const MAX_STATES: u32 = 12;
-
-const MAX_SETS: usize = 4096;
+// How many masks of the widest there are.
+const MAX_SETS: usize = games::MAX_SETS as usize;
 
 // The length of the result, which stands in front of `out`; or a refusal's number and place.
 pub enum Answer {

@@ -11,9 +11,6 @@ ghost use lib.ListN.{length};
 ghost use Rattle.tables.specs.Fields.{filledBy};
 ghost use Rattle.runner.specs.Runs.{stands, starts, advances, stood, standing, moveAt, moveOn, actionOf, ranUpTo, leaves, ranInto};
 
-// The cell before the first observation.
-const NO_CELL: u32 = 65535;
-
 pub struct Runner<'c> {
     pub card: &'c [u32],
     pub cell: Cell,
@@ -105,7 +102,7 @@ fn move_on(card: &[u32], taken: usize, cell: Cell, seen: Observation) -> Move
 fn try_run(card: &[u32], seen: &[u32]) -> Ran
     ensures { λ r. ⌜ r ≡ ranUpTo (now (card .entry)) (now (seen .entry)) (length (now (seen .entry))) ⌝ }
 {
-    let mut cell: u32 = NO_CELL;
+    let mut cell: u32 = games::NO_CELL;
     let mut i: usize = 0;
     while i < seen.len() {
         match move_on(card, i, Cell(cell), Observation(seen[i])) {
@@ -124,7 +121,7 @@ fn write_actions(card: &[u32], seen: &[u32], out: &mut [u32])
     requires { ⌜ (length (now seen) ≤ length (now out)) × (ranUpTo (now card) (now seen) (length (now seen)) ≡ Ran.Done (length (now seen))) ⌝ }
     ensures { λ _. ⌜ now (out .exit) ≡ filledBy (length (now (seen .entry))) (λ i. actionOf (moveAt (now (card .entry)) (now (seen .entry)) i)) (now (out .entry)) ⌝ }
 {
-    let mut cell: u32 = NO_CELL;
+    let mut cell: u32 = games::NO_CELL;
     let mut i: usize = 0;
     while i < seen.len() {
         match move_on(card, i, Cell(cell), Observation(seen[i])) {

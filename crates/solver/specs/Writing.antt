@@ -6,6 +6,7 @@ use mathlib.Core.List.{List, [], _∷_}
 use Prim.Native.Nat.{ℕ, _+_, _^_, _<_}
 use lib.ListN.{length}
 use Rattle.sets.specs.Bounded.{gather}
+use Rattle.games.specs.Format.{kindCard, kindFirst, kindCell, kindNext}
 use Rattle.games.specs.Game.{Game}
 use Rattle.games.specs.Step.{after}
 use Rattle.games.specs.Verdict.{startSet, settled, cells}
@@ -27,8 +28,8 @@ pub record SettledSet (g : Game) (s : ℕ) : Type 0 where
 
 -- the head and the first cells
 unfoldable pub frontWords : Game → List ℕ
-frontWords g = word 8 (length (cells g)) (g .observations) (g .actions) ∷ gather (g .observations) (λ j. word 9 (holding (cells g) (startSet g j)) j 0 ∷ [])
+frontWords g = word kindCard (length (cells g)) (g .observations) (g .actions) ∷ gather (g .observations) (λ j. word kindFirst (holding (cells g) (startSet g j)) j 0 ∷ [])
 
 -- a cell's set and action, and its next cells
 unfoldable pub setWords : Game → ℕ → List ℕ
-setWords g s = word 10 s 0 (chosen g s) ∷ gather (g .observations) (λ j. word 11 (holding (cells g) (after g s (chosen g s) j)) j 0 ∷ [])
+setWords g s = word kindCell s 0 (chosen g s) ∷ gather (g .observations) (λ j. word kindNext (holding (cells g) (after g s (chosen g s) j)) j 0 ∷ [])

@@ -4,11 +4,12 @@ ghost use Prim.Native.Nat.{_+_, _<_, _≤_, _^_};
 ghost use mathlib.Core.List.{_++_};
 ghost use lib.ListN.{length, drop};
 ghost use Rattle.sets.specs.Bounded.{count};
+ghost use Rattle.games.specs.Format.{maxStates, maxSets, maxCells};
 ghost use Rattle.games.specs.Words.{game, cardLength};
 ghost use Rattle.games.specs.Step.{meets, step, good};
 ghost use Rattle.tables.specs.Check.{checked};
 ghost use Rattle.tables.specs.declared.Checked.the-variants.{Fine};
-ghost use Rattle.moves.specs.Halves.{Tabled};
+ghost use Rattle.moves.specs.Halves.{sideWords, Tabled};
 ghost use Rattle.solver.specs.Ranks.{Ranked, Tells, shownGood};
 ghost use Rattle.sets.specs.Family.{isMaximal};
 ghost use Rattle.games.specs.Verdict.{settled as isSettled, cells as cellsOf, verdict, Yes};
@@ -18,16 +19,14 @@ ghost use Rattle.games.specs.Automaton.{holding as holdingCell};
 ghost use Rattle.solver.specs.Writing.{Writing, SettledSet, frontWords, setWords};
 use games::Action;
 use games::Cell;
+use games::NO_CELL;
 use games::Observation;
 use tables::Checked;
 use tables::Walked;
 
-// The cell number that says: the observation cannot occur here.
-const NO_CELL: u32 = 65535;
-
 // The number of sets of n states.
 fn set_count(n: u32) -> usize
-    requires { ⌜ n ≤ 12 ⌝ }
+    requires { ⌜ n ≤ maxStates ⌝ }
     ensures { λ r. ⌜ r ≡ 2 ^ n ⌝ }
 {
     1usize << n
@@ -91,7 +90,7 @@ fn stays_good(table: &[u32], low: &[u32], high: &[u32], ranks: &[u32], s: u32, k
 
 // One application of the step, in place: the sets that are good for k + 1 get that rank. How many they are.
 fn pass(table: &[u32], low: &[u32], high: &[u32], ranks: &mut [u32], k: u32) -> usize
-    requires { ⌜ (checked (now table) ≡ Fine) × Ranked (game (now table)) k (now ranks) × (k < 4096) × Tabled (game (now table)) (now low) (now high) ⌝ }
+    requires { ⌜ (checked (now table) ≡ Fine) × Ranked (game (now table)) k (now ranks) × (k < maxSets) × Tabled (game (now table)) (now low) (now high) ⌝ }
     ensures { λ r. ⌜ Ranked (game (now (table .entry))) (k + 1) (now (ranks .exit)) × (r ≡ count (2 ^ game (now (table .entry)) .states) (good (game (now (table .entry))) (k + 1))) ⌝ }
 {
     let mut left: usize = 0;
@@ -137,10 +136,10 @@ fn search(table: &[u32], low: &[u32], high: &[u32], ranks: &mut [u32]) -> Outcom
 }
 
 // Room for one side of every action's moves.
-fn side() -> [u32; 512]
-    ensures { λ r. ⌜ length r ≡ 512 ⌝ }
+fn side() -> [u32; moves::SIDE_WORDS]
+    ensures { λ r. ⌜ length r ≡ sideWords ⌝ }
 {
-    [0; 512]
+    [0; moves::SIDE_WORDS]
 }
 
 // The search, with the successors of every set at hand.
@@ -195,7 +194,7 @@ fn collect(table: &[u32], work: &mut [u32], k: u32) -> usize
 
 // The lowest-numbered cell whose set holds s, or NO_CELL if s has no state.
 fn holding(cells: &[u32], s: u32) -> u32
-    requires { ⌜ length (now cells) ≤ 4096 ⌝ }
+    requires { ⌜ length (now cells) ≤ maxCells ⌝ }
     ensures { λ r. ⌜ r ≡ holdingCell (now (cells .entry)) s ⌝ }
 {
     if s == 0 {
@@ -221,10 +220,15 @@ fn write_front(table: &[u32], cells: &[u32], out: &mut [u32])
     let mut j: u32 = 0;
     while j < o {
         let first = holding(cells, start & tables::shown(table, Observation(j)));
-        out[1 + j as usize] = cards::naming(9, Cell(first), Observation(j));
+        out[1 + j as usize] = cards::naming(games::KIND_FIRST, Cell(first), Observation(j));
         j += 1;
     }
-    out[0] = cards::word(8, cells.len() as u32, o, tables::actions(table));
+    out[0] = games::word(
+        games::KIND_CARD,
+        cells.len() as u32,
+        o,
+        tables::actions(table),
+    );
 }
 
 // The words of the cell with the set s. Its action is the lowest that leads, for every observation, into a cell.
@@ -253,7 +257,7 @@ fn write_cell(table: &[u32], cells: &[u32], s: u32, out: &mut [u32])
                 }
                 i += 1;
             };
-            out[1 + j as usize] = cards::naming(11, Cell(cell), Observation(j));
+            out[1 + j as usize] = cards::naming(games::KIND_NEXT, Cell(cell), Observation(j));
         }
         out[0] = cards::picking(s, Action(a));
         return;

@@ -12,10 +12,11 @@ use Rattle.sets.specs.Bounded.{first, any, Found, nothing, found}
 use Rattle.sets.proofs.Logic.{and-left, and-right, or-false-left, or-false-right, false-not, true-not}
 use Rattle.sets.proofs.Bounded.{first-zero, first-skip, first-stop, first-nothing, any-intro, any-found}
 use Rattle.sets.specs.Mask.{member}
+use Rattle.games.specs.Format.{within, maxStates, maxActions, maxObservations, headSpareAt}
 use Rattle.games.specs.Game.{Game, Shows, Accepted}
 use Rattle.games.specs.Words.{lowField, headStates, headActions, headObservations, tableLength, startPlace, movePlace, game}
-use Rattle.tables.specs.Layout.{maxStates, maxActions, maxObservations, bareWord, Limited, Sized}
-use Rattle.tables.specs.Check.{andThen, atFound, within, tooWide, limitsHold, headRight, sizeChecked, placed, faulty, wordsChecked, unseen, setsChecked, checked}
+use Rattle.tables.specs.Layout.{headTop, bareWord, Limited, Sized}
+use Rattle.tables.specs.Check.{andThen, atFound, tooWide, limitsHold, headRight, sizeChecked, placed, faulty, wordsChecked, unseen, setsChecked, checked}
 use Rattle.tables.specs.declared.Checked.{Checked}
 use Rattle.tables.specs.declared.Checked.the-variants.{Fine, Refused}
 use Rattle.tables.proofs.Bounds.{slot-below}
@@ -147,13 +148,13 @@ size-passed w e =
     (b .0, eqb-true (length w) l (cond-fine (eqb (length w) l) Fine 3 (length w) (b .1) .0))
 
 -- the head that is right
-pub head-top : (w : ℕ) → headRight w ≡ true → w / 2 ^ 24 ≡ 16
+pub head-top : (w : ℕ) → headRight w ≡ true → w / headSpareAt ≡ headTop
 unfolding headRight
-head-top w e = eqb-true (w / 2 ^ 24) 16 (and-left (eqb (w / 2 ^ 24) 16) (limitsHold (headStates w) (headActions w) (headObservations w)) e)
+head-top w e = eqb-true (w / headSpareAt) headTop (and-left (eqb (w / headSpareAt) headTop) (limitsHold (headStates w) (headActions w) (headObservations w)) e)
 
 pub head-limits : (w : ℕ) → headRight w ≡ true → limitsHold (headStates w) (headActions w) (headObservations w) ≡ true
 unfolding headRight
-head-limits w e = and-right (eqb (w / 2 ^ 24) 16) (limitsHold (headStates w) (headActions w) (headObservations w)) e
+head-limits w e = and-right (eqb (w / headSpareAt) headTop) (limitsHold (headStates w) (headActions w) (headObservations w)) e
 
 pub limits-hold : (n a o : ℕ) → limitsHold n a o ≡ true → Limited n a o
 limits-hold n a o e =

@@ -12,6 +12,7 @@ use lib.ListN.{length, getD, replicate}
 use Rattle.sets.specs.Bounded.{all, first, nothing}
 use Rattle.sets.proofs.Logic.{and-intro, and-false-right}
 use Rattle.sets.proofs.Bounded.{all-refuted, first-zero, first-skip, first-stop, first-nothing}
+use Rattle.games.specs.Format.{maxObservations, maxMoves, kindAt, headActionsAt, headObservationsAt, kindTable}
 use Rattle.games.specs.Game.{Game}
 use Rattle.games.specs.Words.{lowField, headStates, headObservations, game}
 use Rattle.tables.specs.Layout.{Limited, bareWord}
@@ -35,11 +36,11 @@ moves-are w k d =
     ap (λ (p : ℕ). lowField (getD w p 0)) e)
 
 module _ (w : List ℕ) where
-  pub fields-are : (f : Fields) → f .states ≡ game w .states → f .actions ≡ game w .actions → f .observations ≡ game w .observations → f .start ≡ game w .start → f .bad ≡ game w .bad → f .shown ≡ filledBy (f .observations) (masksFrom w 3) (replicate 8 0) → f .moves ≡ filledBy (f .actions * f .states) (masksFrom w (3 + f .observations)) (replicate 96 0) → f ≡ fieldsOf (game w)
+  pub fields-are : (f : Fields) → f .states ≡ game w .states → f .actions ≡ game w .actions → f .observations ≡ game w .observations → f .start ≡ game w .start → f .bad ≡ game w .bad → f .shown ≡ filledBy (f .observations) (masksFrom w 3) (replicate maxObservations 0) → f .moves ≡ filledBy (f .actions * f .states) (masksFrom w (3 + f .observations)) (replicate maxMoves 0) → f ≡ fieldsOf (game w)
   unfolding fieldsOf game
   fields-are f en ea eo es eb esh emv =
-      let sh : f .shown ≡ filledBy (game w .observations) (game w .shown) (replicate 8 0) = esh ∙ ap (λ (k : ℕ). filledBy k (masksFrom w 3) (replicate 8 0)) eo in
-      let mv : f .moves ≡ filledBy (game w .actions * game w .states) (λ j. game w .successors (j / game w .states) (j % game w .states)) (replicate 96 0) = emv ∙ ap₂ (λ (k o : ℕ). filledBy k (masksFrom w (3 + o)) (replicate 96 0)) (ap₂ _*_ ea en) eo ∙ moves-are w (game w .actions * game w .states) (replicate 96 0) in
+      let sh : f .shown ≡ filledBy (game w .observations) (game w .shown) (replicate maxObservations 0) = esh ∙ ap (λ (k : ℕ). filledBy k (masksFrom w 3) (replicate maxObservations 0)) eo in
+      let mv : f .moves ≡ filledBy (game w .actions * game w .states) (λ j. game w .successors (j / game w .states) (j % game w .states)) (replicate maxMoves 0) = emv ∙ ap₂ (λ (k o : ℕ). filledBy k (masksFrom w (3 + o)) (replicate maxMoves 0)) (ap₂ _*_ ea en) eo ∙ moves-are w (game w .actions * game w .states) (replicate maxMoves 0) in
       λ i. record { states = en i; actions = ea i; observations = eo i; start = es i; bad = eb i; shown = sh i; moves = mv i }
 
   pub read-fine : (f : Fields) → checked w ≡ Fine → f ≡ fieldsOf (game w) → record { answer = Fine; fields = f } ≡ readOf w
@@ -188,7 +189,7 @@ module _ (f : Fields) where
 -- ---- the words
 
 module _ (g : Game) where
-  pub word-head : (p : ℕ) → p ≡ 0 → wordAt g p ≡ 268435456 + g .observations * 65536 + g .actions * 256 + g .states
+  pub word-head : (p : ℕ) → p ≡ 0 → wordAt g p ≡ kindTable * kindAt + g .observations * headObservationsAt + g .actions * headActionsAt + g .states
   unfolding wordAt
   word-head p e = rw (eq-eqb p 0 e)
 

@@ -16,9 +16,10 @@ use lib.Seq.{ext-getD, take-at}
 use Rattle.sets.specs.Bounded.{gather}
 use Rattle.sets.proofs.Logic.{decided, and-intro, and-left, and-right, or-left, or-right, or-cases}
 use Rattle.sets.proofs.Bounded.{all-intro, all-at, first-none}
+use Rattle.games.specs.Format.{maxStates, maxObservations, maxMoves, lowValues, kindAt, headActionsAt, headObservationsAt, headSpareAt, kindTable}
 use Rattle.games.specs.Game.{Game}
 use Rattle.games.specs.Words.{lowField, headStates, headActions, headObservations, tableLength, movePlace, game}
-use Rattle.tables.specs.Layout.{Limited, bareWord}
+use Rattle.tables.specs.Layout.{headTop, Limited, bareWord}
 use Rattle.tables.specs.Check.{headRight, placed, faulty, setsChecked, checked}
 use Rattle.tables.specs.Fields.{filledBy, fieldsOf, fieldsBeside, readOf, gameOf, maskAt, wordAt, wordsLength, unusedZero, wideAt, fieldsChecked, Outcome, leaves, writtenTo, writeOf}
 use Rattle.tables.specs.declared.Checked.{Checked}
@@ -76,12 +77,12 @@ module _ (g : Game) (p : ℕ) (from-one : 1 ≤ p) (inside : p < wordsLength g) 
       by-place (λ p. maskAt h p ≡ maskAt g p) o p from-one
       (λ e. mask-start h p e ∙ sym (mask-start g p e))
       (λ d e. mask-bad h p d e ∙ sym (mask-bad g p d e))
-      (λ d e k. mask-shown h p d e k ∙ getD-filled (g .shown) o (replicate 8 0) (p - 3) (omega arith) ∙ sym (mask-shown g p d e k))
+      (λ d e k. mask-shown h p d e k ∙ getD-filled (g .shown) o (replicate maxObservations 0) (p - 3) (omega arith) ∙ sym (mask-shown g p d e k))
       (λ d e k.
       let slot = p - (3 + o) in
       mask-move h p d e k
       ∙ ap (λ (j : ℕ). getD (fieldsOf g .moves) j 0) (div-add-mod' slot n)
-      ∙ getD-filled (λ j. g .successors (j / n) (j % n)) (g .actions * n) (replicate 96 0) slot (omega arith)
+      ∙ getD-filled (λ j. g .successors (j / n) (j % n)) (g .actions * n) (replicate maxMoves 0) slot (omega arith)
       ∙ sym (mask-move g p d e k))
 
 -- unused slots are 0
@@ -136,7 +137,7 @@ module _ (w : List ℕ) (fine : checked w ≡ Fine) where
       let f = fieldsOf (game w) in
       let g = gameOf f in
       let limits = head-limits (getD w 0 0) (fine-head w fine) in
-      let slots = slots-fine f limits (and-intro (unused-filled (game w .observations) 8 (game w .shown)) (unused-filled (game w .actions * game w .states) 96 (λ j. game w .successors (j / game w .states) (j % game w .states)))) in
+      let slots = slots-fine f limits (and-intro (unused-filled (game w .observations) maxObservations (game w .shown)) (unused-filled (game w .actions * game w .states) maxMoves (λ j. game w .successors (j / game w .states) (j % game w .states)))) in
       let masks = masks-fine g (first-none (wordsLength g) (wideAt g) narrow) in
       sets-end f slots masks ∙ sets-same (game w) ∙ fine-sets w fine
 
@@ -155,7 +156,7 @@ module _ (w : List ℕ) (fine : checked w ≡ Fine) where
 -- ---- accepted fields, written and read
 
 -- a word's mask comes back
-low-of : (n o p m : ℕ) → 1 ≤ p → m < 2 ^ 16 → lowField (bareWord n o p + m) ≡ m
+low-of : (n o p m : ℕ) → 1 ≤ p → m < lowValues → lowField (bareWord n o p + m) ≡ m
 low-of n o p m l k =
     by-place (λ p. lowField (bareWord n o p + m) ≡ m) o p l
     (λ e. ap (λ (x : ℕ). lowField (x + m)) (bare-start n o p e) ∙ omega arith)
@@ -174,7 +175,7 @@ module _ (f : Fields) (fine : fieldsChecked f ≡ Fine) where
   back : (p : ℕ) → p < wordsLength (gameOf f) → getD (wordsOf f) p 0 ≡ wordAt (gameOf f) p
   back p l = getD-values (wordAt (gameOf f)) (wordsLength (gameOf f)) p l
 
-  head-back : getD (wordsOf f) 0 0 ≡ 268435456 + f .observations * 65536 + f .actions * 256 + f .states
+  head-back : getD (wordsOf f) 0 0 ≡ kindTable * kindAt + f .observations * headObservationsAt + f .actions * headActionsAt + f .states
   unfolding gameOf
   head-back = back 0 (omega arith) ∙ word-head (gameOf f) 0 refl
 
@@ -187,12 +188,12 @@ module _ (f : Fields) (fine : fieldsChecked f ≡ Fine) where
   observations-back : headObservations (getD (wordsOf f) 0 0) ≡ f .observations
   observations-back = let l = limited in ap headObservations head-back ∙ omega arith
 
-  mask-short : (p : ℕ) → 1 ≤ p → p < wordsLength (gameOf f) → maskAt (gameOf f) p < 2 ^ 16
+  mask-short : (p : ℕ) → 1 ≤ p → p < wordsLength (gameOf f) → maskAt (gameOf f) p < lowValues
   unfolding gameOf
   mask-short p l k =
       let h = limited in
       let m = mask-low (gameOf f) (fields-passed f fine .1) p l k in
-      omega (arith, pow-mono {j = 12} (h .most-states))
+      omega (arith, pow-mono {j = maxStates} (h .most-states))
 
   place-back : (p : ℕ) → 1 ≤ p → p < wordsLength (gameOf f) → getD (wordsOf f) p 0 ≡ bareWord (f .states) (f .observations) p + maskAt (gameOf f) p
   unfolding gameOf
@@ -237,8 +238,8 @@ module _ (f : Fields) (fine : fieldsChecked f ≡ Fine) where
   unfolding headRight
   head-right =
       let l = limited in
-      let top : getD (wordsOf f) 0 0 / 2 ^ 24 ≡ 16 = ap (λ (x : ℕ). x / 2 ^ 24) head-back ∙ omega arith in
-      and-intro (eq-eqb (getD (wordsOf f) 0 0 / 2 ^ 24) 16 top) (rw (states-back, actions-back, observations-back) (slots-passed f (fields-passed f fine .0) .0))
+      let top : getD (wordsOf f) 0 0 / headSpareAt ≡ headTop = ap (λ (x : ℕ). x / headSpareAt) head-back ∙ omega arith in
+      and-intro (eq-eqb (getD (wordsOf f) 0 0 / headSpareAt) headTop top) (rw (states-back, actions-back, observations-back) (slots-passed f (fields-passed f fine .0) .0))
 
   sound-at : (p : ℕ) → p < length (wordsOf f) → faulty (wordsOf f) p ≡ false
   unfolding faulty placed gameOf
@@ -282,7 +283,7 @@ module _ (f : Fields) (fine : fieldsChecked f ≡ Fine) where
       (λ m. getD-rest v used (replicate size 0) j m ∙ zeros size j ∙ sym (clean used l e j (omega (arith, same)) m))
       (below-or j used))
 
-  module _ (eight : length (f .shown) ≡ 8) (most : length (f .moves) ≡ 96) where
+  module _ (shown-slots : length (f .shown) ≡ maxObservations) (most : length (f .moves) ≡ maxMoves) where
     fields-back : f ≡ fieldsOf (game (wordsOf f))
     unfolding fieldsOf game
     fields-back =
@@ -291,13 +292,13 @@ module _ (f : Fields) (fine : fieldsChecked f ≡ Fine) where
         let u = slots-passed f (fields-passed f fine .0) .1 in
         let both-shown = unusedZero (f .observations) (f .shown) in
         let both-moves = unusedZero (f .actions * f .states) (f .moves) in
-        let sh : filledBy (f .observations) (g .shown) (replicate 8 0) ≡ f .shown =
-        slots-back (f .observations) 8 (g .shown) (f .shown) eight (l .most-observations) (and-left both-shown both-moves u) shown-back in
-        let mv : filledBy (f .actions * f .states) (λ j. g .successors (j / f .states) (j % f .states)) (replicate 96 0) ≡ f .moves =
-        slots-back (f .actions * f .states) 96 (λ j. g .successors (j / f .states) (j % f .states)) (f .moves) most (moves-below (f .actions) (f .states) (l .most-actions) (l .most-states)) (and-right both-shown both-moves u) moves-back in
-        let sh′ : f .shown ≡ filledBy (g .observations) (g .shown) (replicate 8 0) = sym (ap (λ (k : ℕ). filledBy k (g .shown) (replicate 8 0)) observations-back ∙ sh) in
-        let mv′ : f .moves ≡ filledBy (g .actions * g .states) (λ j. g .successors (j / g .states) (j % g .states)) (replicate 96 0) =
-        sym (ap₂ (λ (a n : ℕ). filledBy (a * n) (λ j. g .successors (j / n) (j % n)) (replicate 96 0)) actions-back states-back ∙ mv) in
+        let sh : filledBy (f .observations) (g .shown) (replicate maxObservations 0) ≡ f .shown =
+        slots-back (f .observations) maxObservations (g .shown) (f .shown) shown-slots (l .most-observations) (and-left both-shown both-moves u) shown-back in
+        let mv : filledBy (f .actions * f .states) (λ j. g .successors (j / f .states) (j % f .states)) (replicate maxMoves 0) ≡ f .moves =
+        slots-back (f .actions * f .states) maxMoves (λ j. g .successors (j / f .states) (j % f .states)) (f .moves) most (moves-below (f .actions) (f .states) (l .most-actions) (l .most-states)) (and-right both-shown both-moves u) moves-back in
+        let sh′ : f .shown ≡ filledBy (g .observations) (g .shown) (replicate maxObservations 0) = sym (ap (λ (k : ℕ). filledBy k (g .shown) (replicate maxObservations 0)) observations-back ∙ sh) in
+        let mv′ : f .moves ≡ filledBy (g .actions * g .states) (λ j. g .successors (j / g .states) (j % g .states)) (replicate maxMoves 0) =
+        sym (ap₂ (λ (a n : ℕ). filledBy (a * n) (λ j. g .successors (j / n) (j % n)) (replicate maxMoves 0)) actions-back states-back ∙ mv) in
         λ i.
         record {
           states = sym states-back i;
@@ -333,9 +334,9 @@ module _ (f : Fields) (d : List ℕ) (k : ℕ) where
       absurd (omega arith)
 
   -- write, then read what was written: the same fields
-  pub write-then-read : length (f .shown) ≡ 8 → length (f .moves) ≡ 96 → writeOf f d .answer ≡ Words k → readOf (take k (writeOf f d .out)) ≡ record { answer = Fine; fields = f }
-  write-then-read eight most e =
+  pub write-then-read : length (f .shown) ≡ maxObservations → length (f .moves) ≡ maxMoves → writeOf f d .answer ≡ Words k → readOf (take k (writeOf f d .out)) ≡ record { answer = Fine; fields = f }
+  write-then-read shown-slots most e =
       let h = gave-at (fieldsChecked f) refl e in
       ap (λ (v : List ℕ). readOf (take k v)) (h .2)
       ∙ ap readOf (take-at (wordsOf f) (drop k d) k (length-values (wordAt (gameOf f)) (wordsLength (gameOf f)) ∙ sym (h .1)))
-      ∙ read-back f (h .0) eight most
+      ∙ read-back f (h .0) shown-slots most

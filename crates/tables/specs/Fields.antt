@@ -2,13 +2,14 @@
 -- Assumes nothing.
 use mathlib.Core.Bool.{Bool, cond, _&&_, _||_}
 use mathlib.Core.List.{List, [], _∷_, _++_}
-use Prim.Native.Nat.{ℕ, _+_, _-_, _*_, _/_, _%_, _^_}
+use Prim.Native.Nat.{ℕ, _+_, _-_, _*_, _/_, _%_}
 use lib.Dec.{eqb, ltb}
 use lib.ListN.{length, getD, drop, replicate}
 use Rattle.sets.specs.Bounded.{all, first, gather}
 use Rattle.games.specs.Game.{Game}
+use Rattle.games.specs.Format.{maxObservations, maxMoves, kindAt, headActionsAt, headObservationsAt, kindTable}
 use Rattle.games.specs.Words.{lowField, startPlace, badPlace, shownPlace, tableLength, game}
-use Rattle.tables.specs.Layout.{maxStates, maxActions, maxObservations, bareWord}
+use Rattle.tables.specs.Layout.{bareWord}
 use Rattle.tables.specs.Check.{andThen, atFound, limitsHold, tooWide, setsChecked, checked}
 use Rattle.tables.specs.declared.Checked.{Checked}
 use Rattle.tables.specs.declared.Checked.the-variants.{Fine, Refused}
@@ -38,12 +39,12 @@ fieldsOf g =
       start = g .start;
       bad = g .bad;
       shown = filledBy (g .observations) (g .shown) (replicate maxObservations 0);
-      moves = filledBy (g .actions * g .states) (λ j. g .successors (j / g .states) (j % g .states)) (replicate (maxActions * maxStates) 0);
+      moves = filledBy (g .actions * g .states) (λ j. g .successors (j / g .states) (j % g .states)) (replicate maxMoves 0);
     }
 
 abbrev pub noFields : Fields
 noFields =
-    record { states = 0; actions = 0; observations = 0; start = 0; bad = 0; shown = replicate maxObservations 0; moves = replicate (maxActions * maxStates) 0 }
+    record { states = 0; actions = 0; observations = 0; start = 0; bad = 0; shown = replicate maxObservations 0; moves = replicate maxMoves 0 }
 
 -- the fields of an accepted table, fields of 0 beside a refusal
 abbrev pub fieldsBeside : Checked → Game → Fields
@@ -79,7 +80,7 @@ maskAt g p =
 -- the words of a table: the head, then kind, index and mask of each place
 unfoldable pub wordAt : Game → ℕ → ℕ
 wordAt g p =
-    cond (eqb p 0) (1 * 2 ^ 28 + g .observations * 2 ^ 16 + g .actions * 2 ^ 8 + g .states)
+    cond (eqb p 0) (kindTable * kindAt + g .observations * headObservationsAt + g .actions * headActionsAt + g .states)
     (bareWord (g .states) (g .observations) p + maskAt g p)
 
 abbrev pub wordsLength : Game → ℕ

@@ -6,7 +6,7 @@ use borrow.Author.Needs.{needs}
 use borrow.Author.Tests.{ltb-true, ltb-false}
 use native.Mathlib.Omega.{arith}
 use Rattle.sets.specs.Family.{join, meet}
-use Rattle.lists.specs.Lists.{maxStates}
+use Rattle.games.specs.Format.{maxStates}
 use Rattle.lists.specs.Tops.{top}
 use Rattle.lists.proofs.Checks.{beyond-none}
 use Rattle.lists.proofs.Outcomes.{Width, Clean, refused-width, refused-first, refused-second, refused-long, written, width-room, room-for}

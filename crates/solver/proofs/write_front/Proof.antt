@@ -12,7 +12,7 @@ use Rattle.solver.proofs.write_front.Tie as tie
 use Rattle.solver.proofs.write_front.Reads as reads
 use Rattle.solver.proofs.write_front.Lts as lts
 use Rattle.cards.proofs.naming.Reads as naming-reads
-use Rattle.cards.proofs.word.Reads as word-reads
+use Rattle.games.proofs.word.Reads as word-reads
 use Rattle.solver.proofs.holding.Reads as holding-reads
 use Rattle.tables.proofs.actions.Reads as actions-reads
 use Rattle.tables.proofs.observations.Reads as observations-reads

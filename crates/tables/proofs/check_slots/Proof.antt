@@ -5,6 +5,7 @@ use mathlib.Core.Path.{_≡_, sym}
 use Prim.Native.Nat.{_*_, _≤_, _-_}
 use native.Mathlib.Omega.{arith}
 use borrow.Author.Needs.{needs}
+use Rattle.games.specs.Format.{maxMoves}
 use Rattle.tables.specs.Check.{limitsHold}
 use Rattle.tables.proofs.Fieldwise.{slots-limits, slots-dirty, slots-fine}
 use Rattle.tables.proofs.Checks.{limits-hold}
@@ -15,7 +16,7 @@ use Rattle.tables.proofs.check_slots.Tie as tie
 within : (c : tie.Then1) → limitsHold (c .before .before .args .f .states) (c .before .before .args .f .actions) (c .before .before .args .f .observations) ≡ true
 within c = cc
 
-moves : (c : tie.Then1) → c .before .before .args .f .actions * c .before .before .args .f .states ≤ 96
+moves : (c : tie.Then1) → c .before .before .args .f .actions * c .before .before .args .f .states ≤ maxMoves
 moves c =
     let f = c .before .before .args .f in
     let l = limits-hold (f .states) (f .actions) (f .observations) (within c) in

@@ -1,4 +1,4 @@
--- `tables::word_at` meets its contract: the sum fits, since the mask is below 2 ^ 12.
+-- `tables::word_at` meets its contract: the sum fits, since the mask is below 2 ^ `maxStates`.
 -- Assumes nothing.
 use mathlib.Core.Path.{sym}
 use Prim.Native.Nat.{_-_}

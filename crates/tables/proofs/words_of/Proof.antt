@@ -1,4 +1,4 @@
--- `tables::words_of` meets its contract: the product is at most 96.
+-- `tables::words_of` meets its contract: the product is at most `maxMoves`.
 -- Assumes nothing.
 use native.Mathlib.Omega.{arith}
 use borrow.Author.Needs.{needs}
