@@ -56,13 +56,21 @@ pub record Lane (bits : List ℕ) (lane : ℕ) : Type 0 where
   pub here : lane < length bits
   pub few : length bits ≤ 2 ^ highStates
 
+-- the lane lacks the state i (of the states from 6 up), and the lane with it has t
+abbrev pub hasWith : List ℕ → ℕ → ℕ → ℕ → Bool
+hasWith bits lane i t = not (member lane i) && member (getD bits (lane + 2 ^ i) 0) t
+
 -- a lane with one state more has t
 abbrev pub largerHas : List ℕ → ℕ → ℕ → Bool
-largerHas bits lane t = any highStates (λ i. not (member lane i) && member (getD bits (lane + 2 ^ i) 0) t)
+largerHas bits lane t = any highStates (λ i. hasWith bits lane i t)
+
+-- t lacks the state i, and the word has t with it
+abbrev pub wordWith : ℕ → ℕ → ℕ → Bool
+wordWith word i t = not (member t i) && member word (t + 2 ^ i)
 
 -- the word has t with one state more
 abbrev pub coveredBy : ℕ → ℕ → Bool
-coveredBy word t = any laneStates (λ i. not (member t i) && member word (t + 2 ^ i))
+coveredBy word t = any laneStates (λ i. wordWith word i t)
 
 -- a mask of the list stands in the lane, and holds t there
 abbrev pub inserted : List ℕ → ℕ → ℕ → Bool

@@ -1,13 +1,12 @@
 // Families of sets of states as bits, 64 sets to a machine word (lane).
 ghost use mathlib.Core.Path.{_≡_};
-ghost use mathlib.Core.Bool.{not, _&&_};
 ghost use mathlib.Core.List.{_++_};
 ghost use Prim.Native.Nat.{ℕ, _+_, _*_, _/_, _^_, _≤_, _<_};
 ghost use lib.ListN.{length, getD, take, drop, replicate};
 ghost use Rattle.sets.specs.Mask.{member, subset};
 ghost use Rattle.sets.specs.Bounded.{count as countOf, select};
 ghost use Rattle.sets.specs.Family.{Family, holds, isMaximal, maximal};
-ghost use Rattle.families.specs.Bits.{laneStates, laneSets, mostStates, highStates, lanes, has as isIn, Bits, Closed, Holding, Lane, largerHas, coveredBy, inserted, aboveHas, raised};
+ghost use Rattle.families.specs.Bits.{laneStates, laneSets, mostStates, highStates, lanes, has as isIn, Bits, Closed, Holding, Lane, hasWith, largerHas, wordWith, coveredBy, inserted, aboveHas, raised};
 
 // The most lanes: those of the sets of 12 states.
 pub const MAX_LANES: usize = 64;
@@ -143,9 +142,10 @@ pub fn larger(bits: &[u64], lane: usize) -> u64
 // The lane with the state i of the lanes put in; no set where this lane has it or there is no such lane.
 fn with_state(bits: &[u64], lane: usize, i: u32) -> u64
     requires { ⌜ Lane (now bits) lane × i < highStates ⌝ }
-    ensures { λ r. ⌜ ((t : ℕ) → member r t ≡ (not (member lane i) && member (getD (now (bits .entry)) (lane + 2 ^ i) 0) t)) ⌝ }
+    ensures { λ r. ⌜ ((t : ℕ) → member r t ≡ hasWith (now (bits .entry)) lane i t) ⌝ }
 {
-    let with = lane + (1 << i);
+    let step: usize = 1 << i;
+    let with = lane + step;
     if (lane >> i) % 2 == 0 && with < bits.len() {
         return bits[with];
     }
@@ -168,10 +168,11 @@ fn covered(word: u64) -> u64
 // The sets that lack i and are in the word with it.
 fn shifted(word: u64, i: u32) -> u64
     requires { ⌜ i < laneStates ⌝ }
-    ensures { λ r. ⌜ ((t : ℕ) → t < laneSets → member r t ≡ (not (member t i) && member word (t + 2 ^ i))) ⌝ }
+    ensures { λ r. ⌜ ((t : ℕ) → t < laneSets → member r t ≡ wordWith word i t) ⌝ }
 {
     let at = i as usize;
-    (word >> (1 << i)) & WITHOUT[at]
+    let step: u32 = 1 << i;
+    (word >> step) & WITHOUT[at]
 }
 
 // The maximal sets of a lane.
@@ -197,7 +198,7 @@ fn unpack(word: u64, base: u32, k: usize, out: &mut [u32]) -> usize
         let t = u64::trailing_zeros(rest);
         out[at] = base + t;
         at += 1;
-        rest = rest & (rest - 1);
+        rest = rest - (1 << t);
     }
     at
 }
