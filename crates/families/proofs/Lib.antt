@@ -1,2 +1,4 @@
 pub mod Table
 pub mod Lanes
+pub mod Maximal
+pub mod Words

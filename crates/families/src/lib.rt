@@ -178,7 +178,7 @@ fn shifted(word: u64, i: u32) -> u64
 // The maximal sets of a lane.
 fn tops(bits: &[u64], n: u32, lane: usize) -> u64
     requires { ⌜ Closed n (now bits) × lane < length (now bits) ⌝ }
-    ensures { λ r. ⌜ ((t : ℕ) → t < laneSets → member r t ≡ isMaximal n (isIn (now (bits .entry))) (laneSets * lane + t)) ⌝ }
+    ensures { λ r. ⌜ ((t : ℕ) → t < laneSets → member r t ≡ isMaximal n (isIn (now (bits .entry))) (lane * laneSets + t)) ⌝ }
 {
     let word = bits[lane];
     if word == 0 {
@@ -190,7 +190,7 @@ fn tops(bits: &[u64], n: u32, lane: usize) -> u64
 // Writes the sets of a word from place k on, each with `base` added; the next place.
 fn unpack(word: u64, base: u32, k: usize, out: &mut [u32]) -> usize
     requires { ⌜ k + countOf laneSets (member word) ≤ length (now out) × base < 65536 ⌝ }
-    ensures { λ r. ⌜ (r ≡ k + countOf laneSets (member word)) × (now (out .exit) ≡ take k (now (out .entry)) ++ raised base (select laneSets (member word)) ++ drop r (now (out .entry))) ⌝ }
+    ensures { λ r. ⌜ (r ≡ k + countOf laneSets (member word)) × (now (out .exit) ≡ (take k (now (out .entry)) ++ raised base (select laneSets (member word))) ++ drop r (now (out .entry))) ⌝ }
 {
     let mut rest = word;
     let mut at = k;
