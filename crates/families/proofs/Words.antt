@@ -10,7 +10,7 @@ use native.Mathlib.Numerals.{add-one}
 use native.Mathlib.Omega.{arith}
 use lib.Dec.{eqb, leb}
 use lib.Count.{trailingZeros, under}
-use lib.ListN.{length, take, drop, set, length-append, length-set, take-append-drop}
+use lib.ListN.{length, take, drop, set, length-append, length-set, length-drop, take-append-drop}
 use lib.Seq.{take-suc-set, drop-set-lt, drop-drop, take-at, drop-append-add}
 use borrow.Author.Tests.{eqb-true, eqb-false, eq-eqb, ne-eqb, leb-true, leb-false}
 use Rattle.sets.specs.Mask.{member}
@@ -197,6 +197,11 @@ module _ (p : ℕ → Bool) (out₀ : List ℕ) (lane k : ℕ) (out : List ℕ) 
       ∙ sym (select-raised (lane * laneSets) laneSets p) ∙ ap (λ (x : ℕ). select x p) (sym next))
       (ap₂ drop (d ∙ ap (λ (x : ℕ). x + size word) (sym n)) f ∙ drop-append-add (select (lane * laneSets) p) (drop k out₀) (size word) ∙ drop-drop (size word) k out₀
       ∙ ap (λ (x : ℕ). drop x out₀) (sym d))
+
+-- what is stored in front leaves the length
+pub front-length : (p : ℕ → Bool) (m k : ℕ) (out₀ out : List ℕ) → k ≡ count m p → k ≤ length out₀ → out ≡ select m p ++ drop k out₀ → length out ≡ length out₀
+front-length p m k out₀ out e l f =
+    ap length f ∙ length-append (select m p) (drop k out₀) ∙ omega (arith, select-length m p, length-drop k out₀)
 
 -- all lanes are done
 module _ (n : ℕ) (bits : List ℕ) (c : Closed n bits) where
