@@ -72,9 +72,13 @@ wordWith word i t = not (member t i) && member word (t + 2 ^ i)
 abbrev pub coveredBy : ℕ → ℕ → Bool
 coveredBy word t = any laneStates (λ i. wordWith word i t)
 
--- a mask of the list stands in the lane, and holds t there
+-- the list's mask at i stands in the lane, and holds t there
+abbrev pub insertedBy : List ℕ → ℕ → ℕ → ℕ → Bool
+insertedBy list lane i t = eqb (getD list i 0 / laneSets) lane && subset t (getD list i 0 % laneSets)
+
+-- some mask of the list does
 abbrev pub inserted : List ℕ → ℕ → ℕ → Bool
-inserted list lane t = any (length list) (λ i. eqb (getD list i 0 / laneSets) lane && subset t (getD list i 0 % laneSets))
+inserted list lane t = any (length list) (λ i. insertedBy list lane i t)
 
 -- a lane that holds this one has t
 abbrev pub aboveHas : List ℕ → ℕ → ℕ → Bool

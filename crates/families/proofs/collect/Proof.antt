@@ -15,8 +15,6 @@ use Rattle.families.proofs.Lanes.{few-lanes}
 use Rattle.families.proofs.Words.{size, lane-count, lane-written, front-length, collect-room, collect-end}
 use Rattle.families.proofs.collect.Statement.{statement}
 use Rattle.families.proofs.collect.Tie as tie
-use Rattle.families.proofs.collect.Reads as reads
-use Rattle.families.proofs.collect.Lts as lts
 
 abbrev Inv-loop : tie.InvT-loop
 Inv-loop bits n out₀ k₀ lane₀ out k lane =

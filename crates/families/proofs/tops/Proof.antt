@@ -12,8 +12,6 @@ use Rattle.families.proofs.Lanes.{few-lanes}
 use Rattle.families.proofs.Maximal.{neither, top-is, no-top}
 use Rattle.families.proofs.tops.Statement.{statement}
 use Rattle.families.proofs.tops.Tie as tie
-use Rattle.families.proofs.tops.Reads as reads
-use Rattle.families.proofs.tops.Lts as lts
 
 returns : tie.Need-returns
 returns c t l =

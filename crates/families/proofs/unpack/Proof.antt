@@ -11,8 +11,6 @@ use Rattle.families.proofs.Lanes.{shift-one}
 use Rattle.families.proofs.Words.{Writing, writing-none, writing-room, writing-more, writing-end, taken-lt, taken-le, taken-less}
 use Rattle.families.proofs.unpack.Statement.{statement}
 use Rattle.families.proofs.unpack.Tie as tie
-use Rattle.families.proofs.unpack.Reads as reads
-use Rattle.families.proofs.unpack.Lts as lts
 
 abbrev Inv-loop : tie.InvT-loop
 Inv-loop word base k out₀ rest₀ at₀ out rest at = Writing word base k out₀ rest at out
