@@ -1,0 +1,117 @@
+-- Laws of lanes and their words.
+-- Assumes nothing.
+use mathlib.Core.Path.{_≡_, refl, sym, ap, ap₂, _∙_, subst}
+use mathlib.Core.Logic.{_⊎_, ⊎-elim}
+use mathlib.Core.Bool.{Bool, true, false, not, _&&_, _||_, and-comm}
+use mathlib.Core.List.{List}
+use Prim.Native.Nat.{ℕ, zero, suc, _+_, _-_, _*_, _/_, _%_, _^_, _≤_, _<_}
+use native.Mathlib.Nat.{one-mul, mod-eq-of-lt, add-comm, add-assoc}
+use native.Mathlib.Omega.{arith}
+use lib.Dec.{eqb}
+use lib.ListN.{length, getD, List·getD-eq-default}
+use lib.Pow.{pow-lt, pow-mono, pow-add, high, low, split}
+use borrow.Author.Tests.{eq-eqb, ne-eqb}
+use Rattle.sets.specs.Mask.{member, common, union, subset}
+use Rattle.sets.specs.Bounded.{any}
+use Rattle.families.specs.Bits.{laneStates, laneSets, highStates, mostStates, lanes, has, hasWith, wordWith}
+use Rattle.sets.proofs.Logic.{false-not, and-false-left, and-false-right, true-not}
+use Rattle.sets.proofs.Bounded.{any-zero, any-more}
+use Rattle.sets.proofs.Mask.{member-zero, member-and, member-or, member-shift, member-low, add-lt, subset-parts}
+
+-- a 1 shifted by fewer places than the word has
+pub shift-one : (w i : ℕ) → i < w → 1 * 2 ^ i % 2 ^ w ≡ 2 ^ i
+shift-one w i h = rw one-mul (mod-eq-of-lt (pow-lt h))
+
+-- ---- a union made in a loop
+
+-- before the first turn
+pub unite-none : (n : ℕ) (f : ℕ → ℕ → Bool) (t : ℕ) → t < n → member 0 t ≡ any 0 (λ i. f i t)
+unite-none n f t h = member-zero t ∙ sym (any-zero (λ i. f i t))
+
+-- one turn
+pub unite-more : (n : ℕ) (f : ℕ → ℕ → Bool) (i a b : ℕ) → ((t : ℕ) → t < n → member a t ≡ any i (λ i. f i t)) → ((t : ℕ) → t < n → member b t ≡ f i t) → (t : ℕ) → t < n → member (union a b) t ≡ any (i + 1) (λ i. f i t)
+unite-more n f i a b h k t l = member-or a b t ∙ ap₂ _||_ (h t l) (k t l) ∙ sym (any-more i (λ i. f i t))
+
+-- ---- the lane with a state more
+
+module _ (bits : List ℕ) (lane i with : ℕ) (e : with ≡ lane + 2 ^ i) where
+  -- this lane lacks the state
+  pub with-hit : lane / 2 ^ i % 2 ≡ 0 → (t : ℕ) → member (getD bits with 0) t ≡ hasWith bits lane i t
+  with-hit q t =
+      ap (λ (x : ℕ). member (getD bits x 0) t) e
+      ∙ ap (λ (b : Bool). b && member (getD bits (lane + 2 ^ i) 0) t) (sym (false-not (ne-eqb (lane / 2 ^ i % 2) 1 (λ f. omega arith))))
+
+  -- it has the state
+  pub with-state : (lane / 2 ^ i % 2 ≡ 0 → ⊥) → (t : ℕ) → member 0 t ≡ hasWith bits lane i t
+  with-state q t =
+      member-zero t ∙ sym (and-false-left (member (getD bits (lane + 2 ^ i) 0) t) (true-not (eq-eqb (lane / 2 ^ i % 2) 1 (omega arith))))
+
+  -- there is no such lane
+  pub with-none : length bits ≤ with → (t : ℕ) → member 0 t ≡ hasWith bits lane i t
+  with-none l t =
+      member-zero t
+      ∙ sym (and-false-right (not (member lane i)) (ap (λ (x : ℕ). member x t) (List·getD-eq-default bits 0 (subst (λ (x : ℕ). length bits ≤ x) e l)) ∙ member-zero t))
+
+-- ---- the word shifted by one state
+
+-- `lacking` has the sets that lack i
+pub shifted-word : (word i step lacking : ℕ) → step ≡ 2 ^ i → ((t : ℕ) → t < laneSets → member lacking t ≡ not (member t i)) → (t : ℕ) → t < laneSets → member (common (word / 2 ^ step) lacking) t ≡ wordWith word i t
+shifted-word word i step lacking e h t l =
+    member-and (word / 2 ^ step) lacking t
+    ∙ ap₂ _&&_ (member-shift word step t ∙ ap (member word) (ap (λ (x : ℕ). x + t) e ∙ add-comm (2 ^ i) t)) (h t l)
+    ∙ and-comm (member word (t + 2 ^ i)) (not (member t i))
+
+-- ---- sets by lane and place
+
+-- the set t of a lane
+pub has-at : (bits : List ℕ) (lane t : ℕ) → t < laneSets → has bits (lane * laneSets + t) ≡ member (getD bits lane 0) t
+has-at bits lane t l = ap₂ (λ (x y : ℕ). member (getD bits x 0) y) (high lane laneStates l) (low lane laneStates l)
+
+-- its states below 6 are those of t
+pub state-low : (lane t i : ℕ) → t < laneSets → i < laneStates → member (lane * laneSets + t) i ≡ member t i
+state-low lane t i l h = sym (member-low (lane * laneSets + t) laneStates i h) ∙ ap (λ (x : ℕ). member x i) (low lane laneStates l)
+
+-- those from 6 up are the lane's
+pub state-high : (lane t j : ℕ) → t < laneSets → member (lane * laneSets + t) (laneStates + j) ≡ member lane j
+state-high lane t j l = sym (member-shift (lane * laneSets + t) laneStates j) ∙ ap (λ (x : ℕ). member x j) (high lane laneStates l)
+
+-- a state below 6 put in: the same lane
+pub has-low : (bits : List ℕ) (lane t i : ℕ) → t < laneSets → i < laneStates → member t i ≡ false → has bits (lane * laneSets + t + 2 ^ i) ≡ member (getD bits lane 0) (t + 2 ^ i)
+has-low bits lane t i l h f =
+    ap (has bits) (add-assoc (lane * laneSets) t (2 ^ i)) ∙ has-at bits lane (t + 2 ^ i) (add-lt t i f laneStates l h)
+
+-- a state from 6 up put in: the same place in the lane with it
+pub has-high : (bits : List ℕ) (lane t j : ℕ) → t < laneSets → has bits (lane * laneSets + t + 2 ^ (laneStates + j)) ≡ member (getD bits (lane + 2 ^ j) 0) t
+has-high bits lane t j l =
+    let e : lane * laneSets + t + 2 ^ (laneStates + j) ≡ (lane + 2 ^ j) * laneSets + t = omega (arith, pow-add 2 laneStates j) in
+    ap (has bits) e ∙ has-at bits (lane + 2 ^ j) t l
+
+-- a set is its lane's number and its place there
+pub by-lane : (s : ℕ) → s / laneSets * laneSets + s % laneSets ≡ s
+by-lane s = split s laneStates
+
+-- a subset, by lane and place
+pub subset-lane : (s t : ℕ) → subset s t ≡ (subset (s / laneSets) (t / laneSets) && subset (s % laneSets) (t % laneSets))
+subset-lane s t = subset-parts laneStates s t
+
+-- there are at most as many lanes as six states tell apart
+pub lanes-few : (n : ℕ) → n ≤ mostStates → lanes n ≤ 2 ^ highStates
+unfolding lanes
+lanes-few n h =
+    let l : n - laneStates ≤ highStates = omega arith in
+    pow-mono l
+
+-- a family of so many states has no more
+pub few-lanes : (n : ℕ) (bits : List ℕ) → n ≤ mostStates → length bits ≡ lanes n → length bits ≤ 2 ^ highStates
+few-lanes n bits h e = omega (arith, lanes-few n h)
+
+-- they have room for all sets
+pub lanes-room : (n : ℕ) → 2 ^ n ≤ lanes n * laneSets
+unfolding lanes
+lanes-room n =
+    let l : n ≤ n - laneStates + laneStates = omega arith in
+    subst (λ (x : ℕ). 2 ^ n ≤ x) (pow-add 2 (n - laneStates) laneStates) (pow-mono l)
+
+-- a set of n states has a lane
+pub lane-there : (n s : ℕ) → s < 2 ^ n → s / laneSets < lanes n
+lane-there n s h = omega (arith, lanes-room n)

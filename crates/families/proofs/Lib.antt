@@ -1,0 +1,5 @@
+pub mod Table
+pub mod Lanes
+pub mod Maximal
+pub mod Words
+pub mod Closing

@@ -1,0 +1,265 @@
+// Families of sets of states as bits, 64 sets to a machine word (lane).
+ghost use mathlib.Core.Path.{_≡_};
+ghost use mathlib.Core.List.{_++_};
+ghost use Prim.Native.Nat.{ℕ, _+_, _*_, _/_, _^_, _≤_, _<_};
+ghost use lib.ListN.{length, getD, take, drop, replicate};
+ghost use Rattle.sets.specs.Mask.{member, subset};
+ghost use Rattle.sets.specs.Bounded.{count as countOf, select};
+ghost use Rattle.sets.specs.Family.{Family, holds, isMaximal, maximal};
+ghost use Rattle.families.specs.Bits.{laneStates, laneSets, mostStates, highStates, lanes, has as isIn, Bits, Closed, Holding, Lane, hasWith, largerHas, wordWith, coveredBy, inserted, aboveHas, raised};
+
+// The most lanes: those of the sets of 12 states.
+pub const MAX_LANES: usize = 64;
+
+const LANE_STATES: u32 = 6;
+
+const LANE_SETS: u32 = 64;
+
+// The states from 6 up: they tell the lanes apart.
+const HIGH_STATES: u32 = 6;
+
+// For each set of the states below 6, its subsets.
+const SUBSETS_OF: [u64; 64] = [
+    1,
+    3,
+    5,
+    15,
+    17,
+    51,
+    85,
+    255,
+    257,
+    771,
+    1285,
+    3855,
+    4369,
+    13107,
+    21845,
+    65535,
+    65537,
+    196611,
+    327685,
+    983055,
+    1114129,
+    3342387,
+    5570645,
+    16711935,
+    16843009,
+    50529027,
+    84215045,
+    252645135,
+    286331153,
+    858993459,
+    1431655765,
+    4294967295,
+    4294967297,
+    12884901891,
+    21474836485,
+    64424509455,
+    73014444049,
+    219043332147,
+    365072220245,
+    1095216660735,
+    1103806595329,
+    3311419785987,
+    5519032976645,
+    16557098929935,
+    18764712120593,
+    56294136361779,
+    93823560602965,
+    281470681808895,
+    281479271743489,
+    844437815230467,
+    1407396358717445,
+    4222189076152335,
+    4785147619639313,
+    14355442858917939,
+    23925738098196565,
+    71777214294589695,
+    72340172838076673,
+    217020518514230019,
+    361700864190383365,
+    1085102592571150095,
+    1229782938247303441,
+    3689348814741910323,
+    6148914691236517205,
+    18446744073709551615,
+];
+
+// For each state below 6, the sets that lack it.
+const WITHOUT: [u64; 6] = [
+    6148914691236517205,
+    3689348814741910323,
+    1085102592571150095,
+    71777214294589695,
+    281470681808895,
+    4294967295,
+];
+
+// How many lanes the sets of n states take.
+pub fn lane_count(n: u32) -> usize
+    requires { ⌜ n ≤ mostStates ⌝ }
+    ensures { λ r. ⌜ r ≡ lanes n ⌝ }
+{
+    if n <= LANE_STATES {
+        return 1;
+    }
+    1 << (n - LANE_STATES)
+}
+
+// The set s is in the family.
+pub fn has(bits: &[u64], s: u32) -> bool
+    requires { ⌜ s / laneSets < length (now bits) ⌝ }
+    ensures { λ r. ⌜ r ≡ isIn (now (bits .entry)) s ⌝ }
+{
+    let lane = (s / LANE_SETS) as usize;
+    (bits[lane] >> (s % LANE_SETS)) % 2 == 1
+}
+
+// The subsets of h, a set of the states below 6.
+pub fn subsets(h: u32) -> u64
+    requires { ⌜ h < laneSets ⌝ }
+    ensures { λ r. ⌜ ((t : ℕ) → t < laneSets → member r t ≡ subset t h) ⌝ }
+{
+    let at = h as usize;
+    SUBSETS_OF[at]
+}
+
+// What the lanes with one state more have, united.
+pub fn larger(bits: &[u64], lane: usize) -> u64
+    requires { ⌜ Lane (now bits) lane ⌝ }
+    ensures { λ r. ⌜ ((t : ℕ) → t < laneSets → member r t ≡ largerHas (now (bits .entry)) lane t) ⌝ }
+{
+    let mut all = 0;
+    let mut i = 0;
+    while i < HIGH_STATES {
+        all = all | with_state(bits, lane, i);
+        i += 1;
+    }
+    all
+}
+
+// The lane with the state i of the lanes put in; no set where this lane has it or there is no such lane.
+fn with_state(bits: &[u64], lane: usize, i: u32) -> u64
+    requires { ⌜ Lane (now bits) lane × i < highStates ⌝ }
+    ensures { λ r. ⌜ ((t : ℕ) → member r t ≡ hasWith (now (bits .entry)) lane i t) ⌝ }
+{
+    let step: usize = 1 << i;
+    let with = lane + step;
+    if (lane >> i) % 2 == 0 && with < bits.len() {
+        return bits[with];
+    }
+    0
+}
+
+// The sets of the word that lie in another of it with one state more.
+fn covered(word: u64) -> u64
+    ensures { λ r. ⌜ ((t : ℕ) → t < laneSets → member r t ≡ coveredBy word t) ⌝ }
+{
+    let mut all = 0;
+    let mut i: u32 = 0;
+    while i < LANE_STATES {
+        all = all | shifted(word, i);
+        i += 1;
+    }
+    all
+}
+
+// The sets that lack i and are in the word with it.
+fn shifted(word: u64, i: u32) -> u64
+    requires { ⌜ i < laneStates ⌝ }
+    ensures { λ r. ⌜ ((t : ℕ) → t < laneSets → member r t ≡ wordWith word i t) ⌝ }
+{
+    let at = i as usize;
+    let step: u32 = 1 << i;
+    (word >> step) & WITHOUT[at]
+}
+
+// The maximal sets of a lane.
+fn tops(bits: &[u64], n: u32, lane: usize) -> u64
+    requires { ⌜ Closed n (now bits) × lane < length (now bits) ⌝ }
+    ensures { λ r. ⌜ ((t : ℕ) → t < laneSets → member r t ≡ isMaximal n (isIn (now (bits .entry))) (lane * laneSets + t)) ⌝ }
+{
+    let word = bits[lane];
+    if word == 0 {
+        return 0;
+    }
+    word & !(larger(bits, lane) | covered(word))
+}
+
+// Writes the sets of a word from place k on, each with `base` added; the next place.
+fn unpack(word: u64, base: u32, k: usize, out: &mut [u32]) -> usize
+    requires { ⌜ k + countOf laneSets (member word) ≤ length (now out) × base < 65536 ⌝ }
+    ensures { λ r. ⌜ (r ≡ k + countOf laneSets (member word)) × (now (out .exit) ≡ (take k (now (out .entry)) ++ raised base (select laneSets (member word))) ++ drop r (now (out .entry))) ⌝ }
+{
+    let mut rest = word;
+    let mut at = k;
+    while rest != 0 {
+        let t = u64::trailing_zeros(rest);
+        out[at] = base + t;
+        at += 1;
+        rest = rest - (1 << t);
+    }
+    at
+}
+
+// The maximal sets, ascending, in front of `out`; how many.
+pub fn collect(bits: &[u64], n: u32, out: &mut [u32]) -> usize
+    requires { ⌜ Closed n (now bits) × 2 ^ n ≤ length (now out) ⌝ }
+    ensures { λ r. ⌜ (r ≡ length (maximal n (isIn (now (bits .entry))))) × (now (out .exit) ≡ maximal n (isIn (now (bits .entry))) ++ drop r (now (out .entry))) ⌝ }
+{
+    let mut k = 0;
+    let mut lane = 0;
+    while lane < bits.len() {
+        k = unpack(tops(bits, n, lane), lane as u32 * LANE_SETS, k, out);
+        lane += 1;
+    }
+    k
+}
+
+// No set.
+fn clear(bits: &mut [u64])
+    ensures { λ _. ⌜ now (bits .exit) ≡ replicate (length (now (bits .entry))) 0 ⌝ }
+{
+    let mut i = 0;
+    while i < bits.len() {
+        bits[i] = 0;
+        i += 1;
+    }
+}
+
+// In each mask's own lane, its subsets.
+fn insert(list: &[u32], n: u32, bits: &mut [u64])
+    requires { ⌜ Holding n (now list) (now bits) × (now bits ≡ replicate (length (now bits)) 0) ⌝ }
+    ensures { λ _. ⌜ (length (now (bits .exit)) ≡ length (now (bits .entry))) × ((lane t : ℕ) → t < laneSets → member (getD (now (bits .exit)) lane 0) t ≡ inserted (now (list .entry)) lane t) ⌝ }
+{
+    let mut i = 0;
+    while i < list.len() {
+        let m = list[i];
+        let lane = (m / LANE_SETS) as usize;
+        bits[lane] = bits[lane] | subsets(m % LANE_SETS);
+        i += 1;
+    }
+}
+
+// Each lane with what the lanes that hold it have, from the highest down.
+fn close(bits: &mut [u64])
+    requires { ⌜ length (now bits) ≤ 2 ^ highStates ⌝ }
+    ensures { λ _. ⌜ (length (now (bits .exit)) ≡ length (now (bits .entry))) × ((lane t : ℕ) → t < laneSets → member (getD (now (bits .exit)) lane 0) t ≡ aboveHas (now (bits .entry)) lane t) ⌝ }
+{
+    let mut lane = bits.len();
+    while 0 < lane {
+        lane -= 1;
+        bits[lane] = bits[lane] | larger(bits, lane);
+    }
+}
+
+// The subsets of the list's sets.
+pub fn below(list: &[u32], n: u32, bits: &mut [u64])
+    requires { ⌜ Holding n (now list) (now bits) ⌝ }
+    ensures { λ _. ⌜ Bits n (holds (now (list .entry))) (now (bits .exit)) ⌝ }
+{
+    clear(bits);
+    insert(list, n, bits);
+    close(bits);
+}
