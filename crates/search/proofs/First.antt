@@ -7,8 +7,8 @@ use Prim.Native.Nat.{ℕ, suc, _+_, _^_, _≤_, _<_}
 use native.Mathlib.Nat.{le-refl, lt-of-lt-of-le}
 use native.Mathlib.Omega.{arith}
 use lib.Dec.{eqb}
-use lib.ListN.{length, getD, set}
-use lib.Seq.{getD-set-same, getD-set-other}
+use lib.ListN.{length, getD, set, take}
+use lib.Seq.{getD-set-same, getD-set-other, getD-take}
 use lib.Pow.{pow-pos, pow-mono, pow-lt}
 use borrow.Author.Count.{below-none, below-more}
 use borrow.Author.Tests.{eq-eqb, not-true}
@@ -68,6 +68,10 @@ opens-more g masks a mask l w h =
     below-more (λ b. OpenStates g b (g .states) (getD (set masks a mask) b 0)) a
     (λ b m. subst (OpenStates g b (g .states)) (sym (getD-set-other masks a b mask 0 (λ q. absurd (omega (arith, q))))) (h b m))
     (subst (OpenStates g a (g .states)) (sym (getD-set-same masks a mask 0 l)) w)
+
+-- they are those of the front
+pub opens-front : (g : Game) (masks : List ℕ) → Opens g (g .actions) masks → Opens g (g .actions) (take (g .actions) masks)
+opens-front g masks w a l = subst (OpenStates g a (g .states)) (sym (getD-take (g .actions) masks a 0 l)) (w a l)
 
 module _ (g : Game) (masks : List ℕ) (size : length masks ≡ g .actions) (w : Opens g (g .actions) masks) where
   -- a set of the list is an action's

@@ -28,13 +28,7 @@ use Rattle.games.proofs.Lasting.{start-below, starts-at}
 use Rattle.games.proofs.Settling.{Settles, settles, settled-good, Drops, lost-round, fixed-at}
 use Rattle.games.proofs.Decided.{verdict-no}
 use Rattle.search.specs.Stages.{shownIn, Stage}
-use Rattle.search.specs.Found.{SettledAt}
-
--- after k rounds: the bits of the sets good for k, no start set lost, the families never the same so far
-pub record Searching (g : Game) (k : ℕ) (bits : List ℕ) : Type 0 where
-  pub family : Bits (g .states) (good g k) bits
-  pub starts : (j : ℕ) → j < k + 1 → startsIn g (good g j) ≡ true
-  pub unsettled : (j : ℕ) → j < k → fixed g j ≡ false
+use Rattle.search.specs.Found.{SettledAt, Reached}
 
 not-over : (a b : ℕ) → (b < a → ⊥) → a ≤ b
 not-over a b h = ⊎-elim (λ e. leb-true a b e) (λ e. absurd (h (leb-false a b e))) (decided (leb a b))
@@ -137,7 +131,7 @@ module _ (g : Game) (A : Accepted g) where
         let f = whole-fixed h in
         settled-at 0 bits (record { size = w .size; at = λ s l. w .at s l ∙ sym (fixed-at g A 0 f s l); within = w .within }) f (below-none (λ j. fixed g j ≡ false)) every-start
 
-    pub first-on : shownIn g (has bits) (g .start) ≡ true → has bits (2 ^ g .states - 1) ≡ false → Searching g 1 bits
+    pub first-on : shownIn g (has bits) (g .start) ≡ true → has bits (2 ^ g .states - 1) ≡ false → Reached g 1 bits
     first-on y h =
         record {
           family = w;
@@ -148,7 +142,7 @@ module _ (g : Game) (A : Accepted g) where
 
   -- ---- one turn
 
-  module _ (k : ℕ) (bits : List ℕ) (w : Searching g k bits) where
+  module _ (k : ℕ) (bits : List ℕ) (w : Reached g k bits) where
     -- not yet settled, so k is below 2 ^ n
     pub searching-bound : k < 2 ^ g .states
     searching-bound = let s = settles g A in omega (arith, s .below, not-over k (settling g) (λ l. clash (s .agrees) (w .unsettled (settling g) l)))
@@ -174,7 +168,7 @@ module _ (g : Game) (A : Accepted g) where
           (λ h. let l = w .family .within s h in next-at s l ∙ sym (fixed-at g A k f s l) ∙ sym (w .family .at s l) ∙ h)
           (λ h. let l = v .within s h in w .family .at s l ∙ fixed-at g A k f s l ∙ sym (next-at s l) ∙ h)
 
-      pub turn-on : shownIn g (has next) (g .start) ≡ true → (((s : ℕ) → has bits s ≡ has next s) → ⊥) → Searching g (k + 1) next
+      pub turn-on : shownIn g (has next) (g .start) ≡ true → (((s : ℕ) → has bits s ≡ has next s) → ⊥) → Reached g (k + 1) next
       turn-on h e =
           record {
             family = v;

@@ -83,6 +83,10 @@ pub few-states : (w : List ℕ) → Sized w → game w .states ≤ 12
 unfolding game
 few-states w z = z .limits .most-states
 
+pub few-actions : (w : List ℕ) → Sized w → game w .actions ≤ 8
+unfolding game
+few-actions w z = z .limits .most-actions
+
 pub sets-few : (w : List ℕ) → Sized w → 2 ^ game w .states ≤ 4096
 unfolding game
 sets-few w z = pow-mono (z .limits .most-states)

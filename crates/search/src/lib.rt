@@ -10,7 +10,7 @@ ghost use Rattle.tables.specs.Check.{checked};
 ghost use Rattle.tables.specs.declared.Checked.the-variants.{Fine};
 ghost use Rattle.moves.specs.Halves.{Tabled};
 ghost use Rattle.search.specs.Stages.{shownIn, Stage, Sound, Passed, isOpen, OpenStates, Same};
-ghost use Rattle.search.specs.Found.{Searched};
+ghost use Rattle.search.specs.Found.{Reached, Searched};
 use games::Action;
 use games::Observation;
 use games::State;
@@ -140,6 +140,21 @@ fn open_states(table: &[u32], a: Action) -> u32
     mask
 }
 
+// The sets that are good for one round: the subsets of each action's open states.
+fn first_family(table: &[u32], family: &mut [u64])
+    requires { ⌜ (checked (now table) ≡ Fine) × (length (now family) ≡ lanes (game (now table) .states)) ⌝ }
+    ensures { λ _. ⌜ Bits (game (now (table .entry)) .states) (good (game (now (table .entry))) 1) (now (family .exit)) ⌝ }
+{
+    let actions = tables::actions(table);
+    let mut masks = [0u32; 8];
+    let mut a: u32 = 0;
+    while a < actions {
+        masks[a as usize] = open_states(table, Action(a));
+        a += 1;
+    }
+    families::below(&masks[..actions as usize], tables::states(table), family);
+}
+
 // The two have the same words.
 fn same(first: &[u64], second: &[u64]) -> bool
     requires { ⌜ length (now first) ≡ length (now second) ⌝ }
@@ -170,4 +185,41 @@ fn copy(from: &[u64], out: &mut [u64])
 pub enum Outcome {
     Settled(u32),
     Lost(u32),
+}
+
+// Applies the step, from good for one round on, until a start set is lost or nothing changes.
+fn settle(table: &[u32], low: &[u32], high: &[u32], family: &mut [u64], next: &mut [u64]) -> Outcome
+    requires { ⌜ (checked (now table) ≡ Fine) × Reached (game (now table)) 1 (now family) × (length (now next) ≡ length (now family)) × Tabled (game (now table)) (now low) (now high) ⌝ }
+    ensures { λ r. ⌜ Searched (game (now (table .entry))) r (now (family .exit)) ⌝ }
+{
+    let start = tables::start(table);
+    let mut k: u32 = 1;
+    loop {
+        pass(table, low, high, family, next);
+        let round = k + 1;
+        if !shown_in(table, next, start) {
+            return Outcome::Lost(round);
+        }
+        if same(family, next) {
+            return Outcome::Settled(k);
+        }
+        copy(next, family);
+        k = round;
+    }
+}
+
+// The search: good for one round at once, then the step. `next` is scratch.
+pub fn search(table: &[u32], low: &[u32], high: &[u32], family: &mut [u64], next: &mut [u64]) -> Outcome
+    requires { ⌜ (checked (now table) ≡ Fine) × (length (now family) ≡ lanes (game (now table) .states)) × (length (now next) ≡ length (now family)) × Tabled (game (now table)) (now low) (now high) ⌝ }
+    ensures { λ r. ⌜ Searched (game (now (table .entry))) r (now (family .exit)) ⌝ }
+{
+    let all = sets::single(tables::states(table)) - 1;
+    first_family(table, family);
+    if !shown_in(table, family, tables::start(table)) {
+        return Outcome::Lost(1);
+    }
+    if families::has(family, all) {
+        return Outcome::Settled(0);
+    }
+    settle(table, low, high, family, next)
 }
