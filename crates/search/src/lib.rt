@@ -36,14 +36,7 @@ fn shown_in(table: &[u32], family: &[u64], u: u32) -> bool
 }
 
 // The action is enabled at all members of s, and leads to sets of the family.
-fn action_meets(
-    table: &[u32],
-    low: &[u32],
-    high: &[u32],
-    family: &[u64],
-    s: u32,
-    a: Action,
-) -> bool
+fn action_meets(table: &[u32], low: &[u32], high: &[u32], family: &[u64], s: u32, a: Action) -> bool
     requires { ⌜ (checked (now table) ≡ Fine) × (length (now family) ≡ lanes (game (now table) .states)) × (a .0 < game (now table) .actions) × Tabled (game (now table)) (now low) (now high) × (s < 2 ^ game (now table) .states) ⌝ }
     ensures { λ r. ⌜ r ≡ meets (game (now (table .entry))) (isIn (now (family .entry))) s (a .0) ⌝ }
 {
@@ -209,7 +202,13 @@ fn settle(table: &[u32], low: &[u32], high: &[u32], family: &mut [u64], next: &m
 }
 
 // The search: good for one round at once, then the step. `next` is scratch.
-pub fn search(table: &[u32], low: &[u32], high: &[u32], family: &mut [u64], next: &mut [u64]) -> Outcome
+pub fn search(
+    table: &[u32],
+    low: &[u32],
+    high: &[u32],
+    family: &mut [u64],
+    next: &mut [u64],
+) -> Outcome
     requires { ⌜ (checked (now table) ≡ Fine) × (length (now family) ≡ lanes (game (now table) .states)) × (length (now next) ≡ length (now family)) × Tabled (game (now table)) (now low) (now high) ⌝ }
     ensures { λ r. ⌜ Searched (game (now (table .entry))) r (now (family .exit)) ⌝ }
 {

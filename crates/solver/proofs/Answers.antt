@@ -17,8 +17,7 @@ use Rattle.games.proofs.Decided.{verdict-yes}
 use Rattle.tables.specs.Check.{checked}
 use Rattle.tables.specs.declared.Checked.{Checked}
 use Rattle.tables.specs.declared.Checked.the-variants.{Fine, Refused as Stopped}
-use Rattle.solver.specs.Search.{workWords}
-use Rattle.solver.specs.Solve.{Leaves, leaves, cardOf, byVerdict, Outcome, outcome, afterCheck, solved}
+use Rattle.solver.specs.Solve.{workWords, Leaves, leaves, cardOf, byVerdict, Outcome, outcome, afterCheck, solved}
 use Rattle.solver.specs.declared.Answer.{Answer}
 use Rattle.solver.specs.declared.Answer.the-variants.{Yes as SaysYes, No as SaysNo, Refused}
 

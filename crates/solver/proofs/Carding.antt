@@ -15,8 +15,7 @@ use Rattle.games.proofs.Winning.{cell-settled}
 use Rattle.tables.specs.Check.{checked}
 use Rattle.tables.specs.declared.Checked.the-variants.{Fine}
 use Rattle.tables.proofs.Checks.{sized}
-use Rattle.solver.proofs.Turns.{sets-few}
-use Rattle.solver.proofs.Cells.{cells-few}
+use Rattle.search.proofs.Turns.{sets-few}
 use Rattle.games.specs.Step.{after}
 use Rattle.games.specs.Verdict.{startSet, cells}
 use Rattle.games.specs.Automaton.{card, chosen, holding}
@@ -24,6 +23,7 @@ use Rattle.games.specs.Words.{game, cardLength, cellWords, cardWords, word}
 use Rattle.cards.proofs.Extra.{gather-length}
 use Rattle.solver.specs.Writing.{SettledSet, frontWords, setWords}
 use Rattle.solver.specs.Solve.{cardOf}
+use Rattle.solver.proofs.Words.{cells-few}
 use Rattle.solver.proofs.Choosing.{gather-ext}
 
 pub set-words-length : (g : Game) (s : ℕ) → length (setWords g s) ≡ 1 + g .observations

@@ -40,13 +40,11 @@ use Rattle.cards.specs.Run.{ran, entered}
 use Rattle.cards.proofs.Written.{Agree, card-long, written-checked, written-agrees, written-observations, written-actions}
 use Rattle.cards.proofs.Checked.{fitting}
 use Rattle.cards.proofs.Runs.{Way, ran-way, play-way}
-use Rattle.solver.specs.Search.{workWords}
-use Rattle.solver.specs.Solve.{Leaves, leaves, cardOf, byVerdict, Outcome, outcome, afterCheck, solved, Room, written, Promise}
+use Rattle.solver.specs.Solve.{workWords, Leaves, leaves, cardOf, byVerdict, Outcome, outcome, afterCheck, solved, Room, written, Promise}
 use Rattle.solver.specs.declared.Answer.{Answer}
 use Rattle.solver.specs.declared.Answer.the-variants.{Yes as SaysYes, No as SaysNo, Refused}
-use Rattle.solver.proofs.Turns.{sets-few}
-use Rattle.solver.proofs.Words.{holdsAt}
-use Rattle.solver.proofs.Cells.{cells-few}
+use Rattle.search.proofs.Turns.{sets-few}
+use Rattle.solver.proofs.Words.{cells-few, holdsAt}
 
 -- the cell that holds a set is one of the list, or none
 holding-named : (l : List ℕ) (s : ℕ) → (holding l s < length l) ⊎ (holding l s ≡ noCell)

@@ -5,7 +5,7 @@ use mathlib.Core.Logic.{_⊎_, ⊎-elim}
 use mathlib.Core.Bool.{Bool, true, false, cond, _&&_}
 use mathlib.Core.List.{List, [], _∷_, _++_}
 use Prim.Native.Nat.{ℕ, zero, suc, _+_, _*_, _^_, _≤_, _<_}
-use native.Mathlib.Nat.{le-refl, le-antisymm, not-suc-le-zero}
+use native.Mathlib.Nat.{eq-or-lt-of-le, le-refl, le-antisymm, not-suc-le-zero}
 use native.Mathlib.Numerals.{add-one}
 use native.Mathlib.Omega.{arith}
 use lib.Dec.{eqb}
@@ -25,12 +25,22 @@ use Rattle.games.specs.Words.{game, word}
 use Rattle.tables.specs.Layout.{Sized}
 use Rattle.tables.proofs.Checks.{sized, accepted}
 use Rattle.solver.specs.Writing.{Writing, frontWords, setWords}
-use Rattle.solver.proofs.Turns.{sets-few}
-use Rattle.solver.proofs.Cells.{cells-few}
+use Rattle.search.proofs.Turns.{sets-few}
 use Rattle.games.specs.Automaton.{noCell, holding, chosen}
 use Rattle.games.proofs.Winning.{at-mem, mem-at}
 use Rattle.games.proofs.Settling.{cells-hold, settled-step}
 use Rattle.games.proofs.Steps.{good-empty, step-action, after-below}
+
+pub lt-by-ne : (a b : ℕ) → a ≤ b → (a ≡ b → ⊥) → a < b
+lt-by-ne a b l n = ⊎-elim (λ e. absurd (n e)) (λ h. h) (eq-or-lt-of-le l)
+
+pub size-is : (g : Game) (n size : ℕ) → n ≡ g .states → size ≡ 2 ^ n → size ≡ 2 ^ g .states
+size-is g n size e h = h ∙ ap (λ (m : ℕ). 2 ^ m) e
+
+-- there are at most 2 ^ n cells
+pub cells-few : (g : Game) → length (cells g) ≤ 2 ^ g .states
+unfolding cells antichain
+cells-few g = maximal-length (g .states) _
 
 -- the test of a cell
 abbrev pub holdsAt : List ℕ → ℕ → ℕ → Bool

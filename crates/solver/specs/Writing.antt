@@ -3,15 +3,18 @@
 use mathlib.Core.Path.{_≡_}
 use mathlib.Core.Bool.{true}
 use mathlib.Core.List.{List, [], _∷_}
-use Prim.Native.Nat.{ℕ, _+_, _^_, _<_}
-use lib.ListN.{length}
-use Rattle.sets.specs.Bounded.{gather}
+use Prim.Native.Nat.{ℕ, _+_, _^_, _≤_, _<_}
+use lib.ListN.{length, getD}
+use Rattle.sets.specs.Mask.{subset}
+use Rattle.sets.specs.Bounded.{nothing, first, gather}
+use Rattle.families.specs.Bits.{Bits}
 use Rattle.games.specs.Format.{kindCard, kindFirst, kindCell, kindNext}
-use Rattle.games.specs.Game.{Game}
+use Rattle.games.specs.Game.{Game, Accepted}
 use Rattle.games.specs.Step.{after}
 use Rattle.games.specs.Verdict.{startSet, settled, cells}
 use Rattle.games.specs.Automaton.{holding, chosen}
 use Rattle.games.specs.Words.{game, word}
+use Rattle.moves.specs.Halves.{Tabled}
 use Rattle.tables.specs.Check.{checked}
 use Rattle.tables.specs.declared.Checked.the-variants.{Fine}
 
@@ -20,6 +23,23 @@ pub record Writing (table list out : List ℕ) : Type 0 where
   pub fine : checked table ≡ Fine
   pub listed : list ≡ cells (game table)
   pub room : length out ≡ 1 + game table .observations
+
+-- the successors of every set, and the settled family
+pub record AtHand (g : Game) (low high family : List ℕ) : Type 0 where
+  pub tabled : Tabled g low high
+  pub settled-family : Bits (g .states) (settled g) family
+
+-- the family, its maximal sets, and a set to look for among them
+pub record Scanning (g : Game) (family list : List ℕ) (t : ℕ) : Type 0 where
+  pub accepted : Accepted g
+  pub settled-family : Bits (g .states) (settled g) family
+  pub listed : list ≡ cells g
+  pub below : t < 2 ^ g .states
+
+-- no set of the list before place i holds t
+pub record NoneBefore (list : List ℕ) (t i : ℕ) : Type 0 where
+  pub within : i ≤ length list
+  pub none : first i (λ c. subset t (getD list c 0)) ≡ nothing
 
 -- a settled set
 pub record SettledSet (g : Game) (s : ℕ) : Type 0 where

@@ -73,13 +73,14 @@ returns-2 c =
 settle-requires : tie.Need-settle-requires
 settle-requires c κs =
     let start = c .before .before .before .before .before .before .before .before .before .before .before .before .before .before .before .before .before .before .before .before in
-    let w = start .args .table .now in
-    (start .pre .0,
-    first-on (game w) (accepted w (start .pre .0)) _ (c .before .before .before .before .before .before .before .before .before .before .before .first-family .ensures)
-    (rw (c .before .before .before .before .before .before .before .start .ensures) at (sym (c .before .before .before .before .before .before .shown-in .ensures) ∙ not-false (c .before .before .before .before .before .before .shown-in .result) (c .before .before .before .before .before .if1 .left)))
-    (rw (sets-are (c .before .before .before .before .before .before .before .before .before .before .before .before .before)) at (sym (c .before .before .before .has .ensures) ∙ c .before .before .if2 .left)),
-    search needs,
-    start .pre .3)
+    let w = start .args .table .now in (
+      start .pre .0,
+      first-on (game w) (accepted w (start .pre .0)) _ (c .before .before .before .before .before .before .before .before .before .before .before .first-family .ensures)
+          (rw (c .before .before .before .before .before .before .before .start .ensures) at (sym (c .before .before .before .before .before .before .shown-in .ensures) ∙ not-false (c .before .before .before .before .before .before .shown-in .result) (c .before .before .before .before .before .if1 .left)))
+          (rw (sets-are (c .before .before .before .before .before .before .before .before .before .before .before .before .before)) at (sym (c .before .before .before .has .ensures) ∙ c .before .before .if2 .left)),
+      search needs,
+      start .pre .3,
+    )
 
 same-length-3 : tie.Need-same-length-3
 same-length-3 c = search needs

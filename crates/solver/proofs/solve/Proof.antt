@@ -5,7 +5,8 @@ use lib.ListN.{length, take}
 use lib.Seq.{length-take-le}
 use Rattle.games.specs.Words.{game}
 use Rattle.tables.proofs.Checks.{sized}
-use Rattle.solver.proofs.Turns.{few-states, sets-few, size-is}
+use Rattle.search.proofs.Turns.{few-states, sets-few}
+use Rattle.solver.proofs.Words.{size-is}
 use Rattle.solver.proofs.Answers.{solved-stopped, solved-short, solved-done, cleared}
 use Rattle.solver.proofs.Promises.{promised}
 use borrow.Author.Needs.{needs}
