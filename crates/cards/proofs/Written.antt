@@ -13,9 +13,10 @@ use lib.Seq.{getD-append-add}
 use borrow.Author.Tests.{eq-eqb, ne-eqb, lt-ltb, le-leb, ltb-true, ltb-false}
 use Rattle.sets.specs.Bounded.{gather}
 use Rattle.sets.proofs.Logic.{decided, and-intro, or-left, or-right, true-not}
-use Rattle.games.specs.Automaton.{Automaton, noCell}
 use Rattle.games.specs.Format.{within, maxActions, maxObservations, maxSets, maxCells, lowValues, numberValues, actionValues, kindCard, kindFirst, kindCell, kindNext}
+use Rattle.games.specs.Automaton.{Automaton, noCell}
 use Rattle.games.specs.Words.{lowField, numberField, actionField, word, cardLength, cellWords, cardWords}
+use Rattle.games.proofs.Limits.{within-limit}
 use Rattle.cards.specs.declared.CardCheck.{CardCheck}
 use Rattle.cards.specs.declared.CardCheck.the-variants.{Fine, Refused}
 use Rattle.cards.specs.Card.{headPlace, firstPlace, cellPlace, nextPlace, cardCells, cardObservations, cardActions, automaton, headFits, cellNamed, cellFits, partFits, wordFits, wrongWord, wordsChecked, checked, Named, Fitting}
@@ -35,9 +36,6 @@ pub action-of-word : (k x n y : ℕ) → x < lowValues → n < numberValues → 
 action-of-word k x n y a b c = omega arith
 
 -- the words that are written are right
-in-limit : (limit n : ℕ) → 1 ≤ n → n ≤ limit → within n limit ≡ true
-in-limit limit n a b = and-intro (le-leb 1 n a) (le-leb n limit b)
-
 pub head-right : (m o a : ℕ) → 1 ≤ m → m ≤ maxCells → 1 ≤ o → o ≤ maxObservations → 1 ≤ a → a ≤ maxActions → headFits (word kindCard m o a) ≡ true
 unfolding headFits
 head-right m o a p q r s t u =
@@ -47,9 +45,9 @@ head-right m o a p q r s t u =
     let g : actionField x ≡ a = action-of-word kindCard m o a (omega arith) (omega arith) (omega arith) in
     and-intro
     (and-intro
-    (and-intro (eq-eqb x (word kindCard (lowField x) (numberField x) (actionField x)) (omega arith)) (in-limit maxCells (lowField x) (omega arith) (omega arith)))
-    (in-limit maxObservations (numberField x) (omega arith) (omega arith)))
-    (in-limit maxActions (actionField x) (omega arith) (omega arith))
+    (and-intro (eq-eqb x (word kindCard (lowField x) (numberField x) (actionField x)) (omega arith)) (within-limit (lowField x) maxCells (omega arith) (omega arith)))
+    (within-limit (numberField x) maxObservations (omega arith) (omega arith)))
+    (within-limit (actionField x) maxActions (omega arith) (omega arith))
 
 one-named : (m x : ℕ) → (x < m) ⊎ (x ≡ noCell) → (ltb x m || eqb x noCell) ≡ true
 one-named m x h = ⊎-elim (λ l. or-left (eqb x noCell) (lt-ltb x m l)) (λ e. or-right (ltb x m) (eq-eqb x noCell e)) h
