@@ -7,19 +7,19 @@ use mathlib.Core.List.{List}
 use Prim.Native.Nat.{ℕ, suc, _+_, _*_, _-_, _%_, _≤_, _<_}
 use native.Mathlib.Nat.{suc-mul, mul-le-mul-right, mul-mod-left, mul-add-mod-self-right, mod-eq-of-lt, mul-le-mul}
 use native.Mathlib.Omega.{arith}
-use lib.Dec.{eqb, leb, ltb}
+use lib.Dec.{eqb, ltb}
 use lib.ListN.{length, getD}
-use borrow.Author.Tests.{eq-eqb, ne-eqb, lt-ltb, le-ltb, eqb-true, leb-true, ltb-true, not-false}
+use borrow.Author.Tests.{eq-eqb, ne-eqb, lt-ltb, le-ltb, eqb-true, ltb-true, not-false}
 use Rattle.sets.specs.Bounded.{Found, nothing, found, first}
-use Rattle.sets.proofs.Logic.{decided, clash, and-left, and-right, or-cases, true-not, false-not}
+use Rattle.sets.proofs.Logic.{and-left, and-right, or-cases, true-not, false-not}
 use Rattle.sets.proofs.Bounded.{first-zero, first-skip, first-stop, first-nothing}
 use Rattle.games.specs.Format.{within, maxActions, maxObservations, maxSets, maxCells, lowValues, numberValues, kindCard, kindFirst, kindCell, kindNext}
-use Rattle.games.specs.Automaton.{Automaton, noCell}
+use Rattle.games.specs.Automaton.{noCell}
 use Rattle.games.specs.Words.{lowField, numberField, actionField, word, cardLength}
 use Rattle.games.proofs.Limits.{within-low, within-high}
 use Rattle.cards.specs.declared.CardCheck.{CardCheck}
 use Rattle.cards.specs.declared.CardCheck.the-variants.{Fine, Refused}
-use Rattle.cards.specs.Card.{headPlace, firstPlace, cellPlace, nextPlace, cardCells, cardObservations, cardActions, automaton, headFits, cellNamed, cellFits, partFits, wordFits, wrongWord, wordsChecked, checked, Named, Fitting}
+use Rattle.cards.specs.Card.{headPlace, firstPlace, cellPlace, nextPlace, cardCells, cardObservations, cardActions, automaton, headFits, cellNamed, cellFits, partFits, wordFits, wrongWord, wordsChecked, checked, Fitting}
 
 -- the word at a place, by where the place lies
 pub word-head : (w : List ℕ) (p : ℕ) → p ≡ 0 → wordFits w p ≡ headFits (getD w p 0)

@@ -1,28 +1,27 @@
 -- The words that are written of an automaton are a card, and mean that automaton.
 -- Assumes nothing.
 use mathlib.Core.Path.{_≡_, refl, sym, ap, subst, _∙_}
-use mathlib.Core.Logic.{_⊎_, inl, inr, ⊎-elim}
-use mathlib.Core.Bool.{Bool, true, false, not, _&&_, _||_}
+use mathlib.Core.Logic.{_⊎_, ⊎-elim}
+use mathlib.Core.Bool.{true, not, _||_}
 use mathlib.Core.List.{List, [], _∷_, _++_}
 use Prim.Native.Nat.{ℕ, zero, suc, _+_, _*_, _-_, _/_, _%_, _≤_, _<_}
-use native.Mathlib.Nat.{div-div-eq-div-mul, div-add-mod', mod-lt, div-lt-iff-lt-mul}
+use native.Mathlib.Nat.{div-add-mod', mod-lt, div-lt-iff-lt-mul}
 use native.Mathlib.Omega.{arith}
-use lib.Dec.{eqb, leb, ltb}
+use lib.Dec.{eqb, ltb}
 use lib.ListN.{length, getD, length-append, List·getD-append}
 use lib.Seq.{getD-append-add}
-use borrow.Author.Tests.{eq-eqb, ne-eqb, lt-ltb, le-leb, ltb-true, ltb-false}
+use borrow.Author.Tests.{eq-eqb, lt-ltb, ltb-true, ltb-false}
 use Rattle.sets.specs.Bounded.{gather}
 use Rattle.sets.proofs.Logic.{decided, and-intro, or-left, or-right, true-not}
 use Rattle.games.specs.Format.{within, maxActions, maxObservations, maxSets, maxCells, lowValues, numberValues, actionValues, kindCard, kindFirst, kindCell, kindNext}
 use Rattle.games.specs.Automaton.{Automaton, noCell}
 use Rattle.games.specs.Words.{lowField, numberField, actionField, word, cardLength, cellWords, cardWords}
 use Rattle.games.proofs.Limits.{within-limit}
-use Rattle.cards.specs.declared.CardCheck.{CardCheck}
-use Rattle.cards.specs.declared.CardCheck.the-variants.{Fine, Refused}
-use Rattle.cards.specs.Card.{headPlace, firstPlace, cellPlace, nextPlace, cardCells, cardObservations, cardActions, automaton, headFits, cellNamed, cellFits, partFits, wordFits, wrongWord, wordsChecked, checked, Named, Fitting}
+use Rattle.cards.specs.declared.CardCheck.the-variants.{Fine}
+use Rattle.cards.specs.Card.{headPlace, firstPlace, cellPlace, nextPlace, cardCells, cardObservations, cardActions, automaton, headFits, cellNamed, cellFits, wordFits, checked, Named, Fitting}
 use Rattle.sets.proofs.Bounded.{first-none}
 use Rattle.cards.proofs.Extra.{gather-length, gather-at}
-use Rattle.cards.proofs.Checked.{word-head, word-begins, word-cell, word-next, only-words, Passed, passed-all}
+use Rattle.cards.proofs.Checked.{word-head, word-begins, word-cell, word-next, only-words, passed-all}
 use Rattle.cards.proofs.Running.{size-of, set-of, action-of, begins-of, next-of}
 
 -- the fields of a word

@@ -5,8 +5,8 @@ use mathlib.Core.Bool.{Bool, true, false, cond, not, _&&_, _||_}
 use mathlib.Core.List.{List}
 use Prim.Native.Nat.{ℕ, zero, suc, _+_, _/_, _^_, _≤_, _<_}
 use native.Mathlib.Omega.{arith}
-use borrow.Author.Tests.{eq-eqb, ne-eqb, eqb-true, eqb-false, leb-true, leb-false, lt-ltb, not-false}
-use lib.Dec.{eqb, leb}
+use borrow.Author.Tests.{eq-eqb, ne-eqb, eqb-true, eqb-false, leb-false, lt-ltb, not-false}
+use lib.Dec.{eqb}
 use lib.ListN.{length, getD}
 use Rattle.sets.specs.Bounded.{first, any, Found, nothing, found}
 use Rattle.sets.proofs.Logic.{and-left, and-right, or-false-left, or-false-right, false-not, true-not}
