@@ -7,18 +7,19 @@ use mathlib.Core.List.{List}
 use Prim.Native.Nat.{ℕ, suc, _+_, _*_, _-_, _%_, _≤_, _<_}
 use native.Mathlib.Nat.{suc-mul, mul-le-mul-right, mul-mod-left, mul-add-mod-self-right, mod-eq-of-lt, mul-le-mul}
 use native.Mathlib.Omega.{arith}
-use lib.Dec.{eqb, leb, ltb}
+use lib.Dec.{eqb, ltb}
 use lib.ListN.{length, getD}
-use borrow.Author.Tests.{eq-eqb, ne-eqb, lt-ltb, le-ltb, eqb-true, leb-true, ltb-true, not-false}
+use borrow.Author.Tests.{eq-eqb, ne-eqb, lt-ltb, le-ltb, eqb-true, ltb-true, not-false}
 use Rattle.sets.specs.Bounded.{Found, nothing, found, first}
-use Rattle.sets.proofs.Logic.{decided, clash, and-left, and-right, or-cases, true-not, false-not}
+use Rattle.sets.proofs.Logic.{and-left, and-right, or-cases, true-not, false-not}
 use Rattle.sets.proofs.Bounded.{first-zero, first-skip, first-stop, first-nothing}
-use Rattle.games.specs.Automaton.{Automaton, noCell}
-use Rattle.games.specs.Format.{within, maxActions, maxObservations, maxSets, maxCells, lowValues, numberValues, actionValues, kindCard, kindFirst, kindCell, kindNext}
+use Rattle.games.specs.Format.{within, maxActions, maxObservations, maxSets, maxCells, lowValues, numberValues, kindCard, kindFirst, kindCell, kindNext}
+use Rattle.games.specs.Automaton.{noCell}
 use Rattle.games.specs.Words.{lowField, numberField, actionField, word, cardLength}
+use Rattle.games.proofs.Limits.{within-low, within-high}
 use Rattle.cards.specs.declared.CardCheck.{CardCheck}
 use Rattle.cards.specs.declared.CardCheck.the-variants.{Fine, Refused}
-use Rattle.cards.specs.Card.{headPlace, firstPlace, cellPlace, nextPlace, cardCells, cardObservations, cardActions, automaton, headFits, cellNamed, cellFits, partFits, wordFits, wrongWord, wordsChecked, checked, Named, Fitting}
+use Rattle.cards.specs.Card.{headPlace, firstPlace, cellPlace, nextPlace, cardCells, cardObservations, cardActions, automaton, headFits, cellNamed, cellFits, partFits, wordFits, wrongWord, wordsChecked, checked, Fitting}
 
 -- the word at a place, by where the place lies
 pub word-head : (w : List ℕ) (p : ℕ) → p ≡ 0 → wordFits w p ≡ headFits (getD w p 0)
@@ -144,9 +145,6 @@ pub record Headed (x : ℕ) : Type 0 where
   pub some-action : 1 ≤ actionField x
   pub actions : actionField x ≤ maxActions
 
-in-limit : (limit n : ℕ) → within n limit ≡ true → (1 ≤ n) × (n ≤ limit)
-in-limit limit n e = (leb-true 1 n (and-left (leb 1 n) (leb n limit) e), leb-true n limit (and-right (leb 1 n) (leb n limit) e))
-
 four-and : (a b c d : Bool) → (a && b && c && d) ≡ true → (a ≡ true) × (b ≡ true) × (c ≡ true) × (d ≡ true)
 four-and a b c d e =
     let f = and-left (a && b && c) d e in
@@ -159,12 +157,12 @@ headed x e =
     let f = four-and (eqb x (word kindCard (lowField x) (numberField x) (actionField x))) (within (lowField x) maxCells) (within (numberField x) maxObservations) (within (actionField x) maxActions) e in
     record {
       shape = eqb-true x (word kindCard (lowField x) (numberField x) (actionField x)) (f .0);
-      some-cell = in-limit maxCells (lowField x) (f .1) .0;
-      cells = in-limit maxCells (lowField x) (f .1) .1;
-      some-observation = in-limit maxObservations (numberField x) (f .2) .0;
-      observations = in-limit maxObservations (numberField x) (f .2) .1;
-      some-action = in-limit maxActions (actionField x) (f .3) .0;
-      actions = in-limit maxActions (actionField x) (f .3) .1;
+      some-cell = within-low (lowField x) maxCells (f .1);
+      cells = within-high (lowField x) maxCells (f .1);
+      some-observation = within-low (numberField x) maxObservations (f .2);
+      observations = within-high (numberField x) maxObservations (f .2);
+      some-action = within-low (actionField x) maxActions (f .3);
+      actions = within-high (actionField x) maxActions (f .3);
     }
 
 -- the places of a cell's words, counted behind the first words

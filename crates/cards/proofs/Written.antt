@@ -1,27 +1,27 @@
 -- The words that are written of an automaton are a card, and mean that automaton.
 -- Assumes nothing.
 use mathlib.Core.Path.{_≡_, refl, sym, ap, subst, _∙_}
-use mathlib.Core.Logic.{_⊎_, inl, inr, ⊎-elim}
-use mathlib.Core.Bool.{Bool, true, false, not, _&&_, _||_}
+use mathlib.Core.Logic.{_⊎_, ⊎-elim}
+use mathlib.Core.Bool.{true, not, _||_}
 use mathlib.Core.List.{List, [], _∷_, _++_}
 use Prim.Native.Nat.{ℕ, zero, suc, _+_, _*_, _-_, _/_, _%_, _≤_, _<_}
-use native.Mathlib.Nat.{div-div-eq-div-mul, div-add-mod', mod-lt, div-lt-iff-lt-mul}
+use native.Mathlib.Nat.{div-add-mod', mod-lt, div-lt-iff-lt-mul}
 use native.Mathlib.Omega.{arith}
-use lib.Dec.{eqb, leb, ltb}
+use lib.Dec.{eqb, ltb}
 use lib.ListN.{length, getD, length-append, List·getD-append}
 use lib.Seq.{getD-append-add}
-use borrow.Author.Tests.{eq-eqb, ne-eqb, lt-ltb, le-leb, ltb-true, ltb-false}
+use borrow.Author.Tests.{eq-eqb, lt-ltb, ltb-true, ltb-false}
 use Rattle.sets.specs.Bounded.{gather}
 use Rattle.sets.proofs.Logic.{decided, and-intro, or-left, or-right, true-not}
-use Rattle.games.specs.Automaton.{Automaton, noCell}
 use Rattle.games.specs.Format.{within, maxActions, maxObservations, maxSets, maxCells, lowValues, numberValues, actionValues, kindCard, kindFirst, kindCell, kindNext}
+use Rattle.games.specs.Automaton.{Automaton, noCell}
 use Rattle.games.specs.Words.{lowField, numberField, actionField, word, cardLength, cellWords, cardWords}
-use Rattle.cards.specs.declared.CardCheck.{CardCheck}
-use Rattle.cards.specs.declared.CardCheck.the-variants.{Fine, Refused}
-use Rattle.cards.specs.Card.{headPlace, firstPlace, cellPlace, nextPlace, cardCells, cardObservations, cardActions, automaton, headFits, cellNamed, cellFits, partFits, wordFits, wrongWord, wordsChecked, checked, Named, Fitting}
+use Rattle.games.proofs.Limits.{within-limit}
+use Rattle.cards.specs.declared.CardCheck.the-variants.{Fine}
+use Rattle.cards.specs.Card.{headPlace, firstPlace, cellPlace, nextPlace, cardCells, cardObservations, cardActions, automaton, headFits, cellNamed, cellFits, wordFits, checked, Named, Fitting}
 use Rattle.sets.proofs.Bounded.{first-none}
 use Rattle.cards.proofs.Extra.{gather-length, gather-at}
-use Rattle.cards.proofs.Checked.{word-head, word-begins, word-cell, word-next, only-words, Passed, passed-all}
+use Rattle.cards.proofs.Checked.{word-head, word-begins, word-cell, word-next, only-words, passed-all}
 use Rattle.cards.proofs.Running.{size-of, set-of, action-of, begins-of, next-of}
 
 -- the fields of a word
@@ -35,9 +35,6 @@ pub action-of-word : (k x n y : ℕ) → x < lowValues → n < numberValues → 
 action-of-word k x n y a b c = omega arith
 
 -- the words that are written are right
-in-limit : (limit n : ℕ) → 1 ≤ n → n ≤ limit → within n limit ≡ true
-in-limit limit n a b = and-intro (le-leb 1 n a) (le-leb n limit b)
-
 pub head-right : (m o a : ℕ) → 1 ≤ m → m ≤ maxCells → 1 ≤ o → o ≤ maxObservations → 1 ≤ a → a ≤ maxActions → headFits (word kindCard m o a) ≡ true
 unfolding headFits
 head-right m o a p q r s t u =
@@ -47,9 +44,9 @@ head-right m o a p q r s t u =
     let g : actionField x ≡ a = action-of-word kindCard m o a (omega arith) (omega arith) (omega arith) in
     and-intro
     (and-intro
-    (and-intro (eq-eqb x (word kindCard (lowField x) (numberField x) (actionField x)) (omega arith)) (in-limit maxCells (lowField x) (omega arith) (omega arith)))
-    (in-limit maxObservations (numberField x) (omega arith) (omega arith)))
-    (in-limit maxActions (actionField x) (omega arith) (omega arith))
+    (and-intro (eq-eqb x (word kindCard (lowField x) (numberField x) (actionField x)) (omega arith)) (within-limit (lowField x) maxCells (omega arith) (omega arith)))
+    (within-limit (numberField x) maxObservations (omega arith) (omega arith)))
+    (within-limit (actionField x) maxActions (omega arith) (omega arith))
 
 one-named : (m x : ℕ) → (x < m) ⊎ (x ≡ noCell) → (ltb x m || eqb x noCell) ≡ true
 one-named m x h = ⊎-elim (λ l. or-left (eqb x noCell) (lt-ltb x m l)) (λ e. or-right (ltb x m) (eq-eqb x noCell e)) h

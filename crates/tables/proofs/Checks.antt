@@ -5,8 +5,8 @@ use mathlib.Core.Bool.{Bool, true, false, cond, not, _&&_, _||_}
 use mathlib.Core.List.{List}
 use Prim.Native.Nat.{ℕ, zero, suc, _+_, _/_, _^_, _≤_, _<_}
 use native.Mathlib.Omega.{arith}
-use borrow.Author.Tests.{eq-eqb, ne-eqb, eqb-true, eqb-false, leb-true, leb-false, lt-ltb, not-false}
-use lib.Dec.{eqb, leb}
+use borrow.Author.Tests.{eq-eqb, ne-eqb, eqb-true, eqb-false, leb-false, lt-ltb, not-false}
+use lib.Dec.{eqb}
 use lib.ListN.{length, getD}
 use Rattle.sets.specs.Bounded.{first, any, Found, nothing, found}
 use Rattle.sets.proofs.Logic.{and-left, and-right, or-false-left, or-false-right, false-not, true-not}
@@ -15,6 +15,7 @@ use Rattle.sets.specs.Mask.{member}
 use Rattle.games.specs.Format.{within, maxStates, maxActions, maxObservations, headSpareAt}
 use Rattle.games.specs.Game.{Game, Shows, Accepted}
 use Rattle.games.specs.Words.{lowField, headStates, headActions, headObservations, tableLength, startPlace, movePlace, game}
+use Rattle.games.proofs.Limits.{within-low, within-high}
 use Rattle.tables.specs.Layout.{headTop, bareWord, Limited, Sized}
 use Rattle.tables.specs.Check.{andThen, atFound, tooWide, limitsHold, headRight, sizeChecked, placed, faulty, wordsChecked, unseen, setsChecked, checked}
 use Rattle.tables.specs.declared.Checked.{Checked}
@@ -126,12 +127,6 @@ cond-passed false k p c e = (refl, e)
 pub found-none : (f : Found) (r : ℕ → Checked) → ((i : ℕ) → r i ≡ Fine → ⊥) → atFound f r Fine ≡ Fine → f ≡ nothing
 found-none nothing r h e = refl
 found-none (found i) r h e = absurd (h i e)
-
-within-low : (x most : ℕ) → within x most ≡ true → 1 ≤ x
-within-low x most e = leb-true 1 x (and-left (leb 1 x) (leb x most) e)
-
-within-high : (x most : ℕ) → within x most ≡ true → x ≤ most
-within-high x most e = leb-true x most (and-right (leb 1 x) (leb x most) e)
 
 limits-at : (n a o : ℕ) → limitsHold n a o ≡ true → (within n maxStates ≡ true) × (within a maxActions ≡ true) × (within o maxObservations ≡ true)
 unfolding limitsHold

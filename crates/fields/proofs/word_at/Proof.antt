@@ -1,15 +1,15 @@
--- `tables::word_at` meets its contract: the sum fits, since the mask is below 2 ^ `maxStates`.
+-- `fields::word_at` meets its contract: the sum fits, since the mask is below 2 ^ `maxStates`.
 -- Assumes nothing.
 use mathlib.Core.Path.{sym}
 use Prim.Native.Nat.{_-_}
 use native.Mathlib.Omega.{arith}
 use borrow.Author.Needs.{needs}
 use lib.Pow.{pow-mono}
 use Rattle.tables.specs.Fields.{gameOf}
-use Rattle.tables.proofs.Fieldwise.{word-head, word-place, mask-low}
+use Rattle.fields.proofs.Laws.{word-head, word-place, mask-low}
 use Rattle.tables.proofs.Bounds.{moves-below}
-use Rattle.tables.proofs.word_at.Statement.{statement}
-use Rattle.tables.proofs.word_at.Tie as tie
+use Rattle.fields.proofs.word_at.Statement.{statement}
+use Rattle.fields.proofs.word_at.Tie as tie
 
 mul-result : tie.Need-mul-result
 mul-result c = search needs

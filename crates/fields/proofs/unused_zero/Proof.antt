@@ -1,4 +1,4 @@
--- `tables::unused_zero` meets its contract: before each turn each slot so far is used or 0.
+-- `fields::unused_zero` meets its contract: before each turn each slot so far is used or 0.
 -- Assumes nothing.
 use mathlib.Core.Path.{_≡_, sym, _∙_}
 use mathlib.Core.Bool.{true}
@@ -10,9 +10,9 @@ use lib.ListN.{length}
 use Rattle.sets.specs.Bounded.{all}
 use Rattle.sets.proofs.Bounded.{all-zero, all-more}
 use Rattle.sets.proofs.Logic.{and-intro}
-use Rattle.tables.proofs.Fieldwise.{slotClean, unused-dirty, unused-clean}
-use Rattle.tables.proofs.unused_zero.Statement.{statement}
-use Rattle.tables.proofs.unused_zero.Tie as tie
+use Rattle.fields.proofs.Laws.{slotClean, unused-dirty, unused-clean}
+use Rattle.fields.proofs.unused_zero.Statement.{statement}
+use Rattle.fields.proofs.unused_zero.Tie as tie
 
 abbrev Inv-loop : tie.InvT-loop
 Inv-loop slots used j₀ j = (j ≤ length slots) × (all j (slotClean used slots) ≡ true)

@@ -1,10 +1,10 @@
--- `tables::read` meets its contract: the answer of `check`, with its fields.
+-- `fields::read` meets its contract: the answer of `check`, with its fields.
 -- Assumes nothing.
 use borrow.Author.Needs.{needs}
-use Rattle.tables.proofs.Fieldwise.{read-fine, read-refused}
+use Rattle.fields.proofs.Laws.{read-fine, read-refused}
 use Rattle.tables.proofs.Checks.{sized}
-use Rattle.tables.proofs.read.Statement.{statement}
-use Rattle.tables.proofs.read.Tie as tie
+use Rattle.fields.proofs.read.Statement.{statement}
+use Rattle.fields.proofs.read.Tie as tie
 
 check-requires : tie.Need-check-requires
 check-requires c κs = search needs

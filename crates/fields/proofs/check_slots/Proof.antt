@@ -1,4 +1,4 @@
--- `tables::check_slots` meets its contract: one law for each answer.
+-- `fields::check_slots` meets its contract: one law for each answer.
 -- Assumes nothing.
 use mathlib.Core.Bool.{true}
 use mathlib.Core.Path.{_≡_, sym}
@@ -6,12 +6,12 @@ use Prim.Native.Nat.{_*_, _≤_, _-_}
 use native.Mathlib.Omega.{arith}
 use borrow.Author.Needs.{needs}
 use Rattle.games.specs.Format.{maxMoves}
 use Rattle.tables.specs.Check.{limitsHold}
-use Rattle.tables.proofs.Fieldwise.{slots-limits, slots-dirty, slots-fine}
+use Rattle.fields.proofs.Laws.{slots-limits, slots-dirty, slots-fine}
 use Rattle.tables.proofs.Checks.{limits-hold}
 use Rattle.tables.proofs.Bounds.{moves-below}
-use Rattle.tables.proofs.check_slots.Statement.{statement}
-use Rattle.tables.proofs.check_slots.Tie as tie
+use Rattle.fields.proofs.check_slots.Statement.{statement}
+use Rattle.fields.proofs.check_slots.Tie as tie
 
 within : (c : tie.Then1) → limitsHold (c .before .before .args .f .states) (c .before .before .args .f .actions) (c .before .before .args .f .observations) ≡ true
 within c = cc

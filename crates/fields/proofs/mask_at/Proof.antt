@@ -1,10 +1,10 @@
--- `tables::mask_at` meets its contract: one law for each kind of place.
+-- `fields::mask_at` meets its contract: one law for each kind of place.
 -- Assumes nothing.
 use mathlib.Core.Path.{sym}
 use borrow.Author.Needs.{needs}
-use Rattle.tables.proofs.Fieldwise.{field-start, field-bad, field-shown, field-move}
-use Rattle.tables.proofs.mask_at.Statement.{statement}
-use Rattle.tables.proofs.mask_at.Tie as tie
+use Rattle.fields.proofs.Laws.{field-start, field-bad, field-shown, field-move}
+use Rattle.fields.proofs.mask_at.Statement.{statement}
+use Rattle.fields.proofs.mask_at.Tie as tie
 
 returns : tie.Need-returns
 returns c = sym (field-start (c .before .args .f) (c .before .args .p) (c .if1 .taken))

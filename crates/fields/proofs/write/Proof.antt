@@ -1,10 +1,10 @@
--- `tables::write` meets its contract: a refusal, or the words.
+-- `fields::write` meets its contract: a refusal, or the words.
 -- Assumes nothing.
 use mathlib.Core.Path.{sym, _∙_}
 use borrow.Author.Needs.{needs}
-use Rattle.tables.proofs.Fieldwise.{slots-limited, fields-passed, write-refused, write-fine}
-use Rattle.tables.proofs.write.Statement.{statement}
-use Rattle.tables.proofs.write.Tie as tie
+use Rattle.fields.proofs.Laws.{slots-limited, fields-passed, write-refused, write-fine}
+use Rattle.fields.proofs.write.Statement.{statement}
+use Rattle.fields.proofs.write.Tie as tie
 
 check-fields-requires : tie.Need-check-fields-requires
 check-fields-requires c κs = search needs

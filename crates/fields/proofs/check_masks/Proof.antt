@@ -1,4 +1,4 @@
--- `tables::check_masks` meets its contract: before each turn no mask so far is too wide.
+-- `fields::check_masks` meets its contract: before each turn no mask so far is too wide.
 -- Assumes nothing.
 use mathlib.Core.Path.{_≡_, sym}
 use Prim.Native.Nat.{_≤_, _-_}
@@ -6,11 +6,12 @@ use native.Mathlib.Omega.{arith}
 use borrow.Author.Needs.{needs}
 use Rattle.sets.proofs.Bounded.{first-skip}
 use Rattle.sets.specs.Bounded.{first, nothing}
-use Rattle.tables.specs.Fields.{wordsLength, gameOf, wideAt}
-use Rattle.tables.proofs.Fieldwise.{masks-none, wide-at, narrow-at, masks-wide, masks-fine}
+use Rattle.tables.specs.Fields.{gameOf}
+use Rattle.fields.specs.Write.{wordsLength, wideAt}
+use Rattle.fields.proofs.Laws.{masks-none, wide-at, narrow-at, masks-wide, masks-fine}
 use Rattle.tables.proofs.Bounds.{moves-below}
-use Rattle.tables.proofs.check_masks.Statement.{statement}
-use Rattle.tables.proofs.check_masks.Tie as tie
+use Rattle.fields.proofs.check_masks.Statement.{statement}
+use Rattle.fields.proofs.check_masks.Tie as tie
 
 abbrev Inv-loop : tie.InvT-loop
 Inv-loop f full words p₀ p = (1 ≤ p) × (p ≤ words) × (first p (wideAt (gameOf f)) ≡ nothing)

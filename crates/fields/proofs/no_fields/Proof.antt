@@ -1,8 +1,8 @@
--- `tables::no_fields` meets its contract: each field is 0.
+-- `fields::no_fields` meets its contract: each field is 0.
 -- Assumes nothing.
 use mathlib.Core.Path.{refl}
-use Rattle.tables.proofs.no_fields.Statement.{statement}
-use Rattle.tables.proofs.no_fields.Tie as tie
+use Rattle.fields.proofs.no_fields.Statement.{statement}
+use Rattle.fields.proofs.no_fields.Tie as tie
 
 returns : tie.Need-returns
 returns c = refl

@@ -19,19 +19,21 @@ use Rattle.sets.proofs.Bounded.{all-intro, all-at, first-none}
 use Rattle.games.specs.Format.{maxStates, maxObservations, maxMoves, lowValues, kindAt, headActionsAt, headObservationsAt, headSpareAt, kindTable}
 use Rattle.games.specs.Game.{Game}
 use Rattle.games.specs.Words.{lowField, headStates, headActions, headObservations, tableLength, movePlace, game}
 use Rattle.tables.specs.Layout.{headTop, Limited, bareWord}
 use Rattle.tables.specs.Check.{headRight, placed, faulty, setsChecked, checked}
-use Rattle.tables.specs.Fields.{filledBy, fieldsOf, fieldsBeside, readOf, gameOf, maskAt, wordAt, wordsLength, unusedZero, wideAt, fieldsChecked, Outcome, leaves, writtenTo, writeOf}
+use Rattle.tables.specs.Fields.{filledBy, fieldsOf, gameOf}
+use Rattle.fields.specs.Read.{fieldsBeside, readOf}
+use Rattle.fields.specs.Write.{maskAt, wordAt, wordsLength, unusedZero, wideAt, fieldsChecked, Outcome, leaves, writtenTo, writeOf}
 use Rattle.tables.specs.declared.Checked.{Checked}
 use Rattle.tables.specs.declared.Checked.the-variants.{Fine, Refused}
-use Rattle.tables.specs.declared.Written.the-variants.{Words}
+use Rattle.fields.specs.declared.Written.the-variants.{Words}
 use Rattle.tables.specs.declared.Fields.{Fields}
 use Rattle.tables.proofs.Checks.{size-fine, sets-decide, words-fine, faulty-is, sized, fine-words, fine-head, fine-sets, head-top, head-limits, word-placed, word-below}
 use Rattle.tables.proofs.Bounds.{moves-below}
 use Rattle.tables.proofs.Layouts.{bare-start, bare-bad, bare-shown, bare-move}
 use Rattle.tables.proofs.Fills.{length-values, getD-values, getD-filled, getD-rest, length-filled}
-use Rattle.tables.proofs.Fieldwise.{slots-passed, slots-limited, fields-passed, mask-low, read-fine, field-shown, field-move, mask-start, mask-bad, mask-shown, mask-move, masks-fine, narrow-at, slots-fine, sets-end, write-fine, write-refused, word-head, word-place, written-short, written-full}
+use Rattle.fields.proofs.Laws.{slots-passed, slots-limited, fields-passed, mask-low, read-fine, field-shown, field-move, mask-start, mask-bad, mask-shown, mask-move, masks-fine, narrow-at, slots-fine, sets-end, write-fine, write-refused, word-head, word-place, written-short, written-full}
 use Rattle.tables.proofs.Same.{sets-ext, sets-same}
 
 -- ---- cases
 

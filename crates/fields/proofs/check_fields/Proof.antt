@@ -1,10 +1,10 @@
--- `tables::check_fields` meets its contract: one check after the other.
+-- `fields::check_fields` meets its contract: one check after the other.
 -- Assumes nothing.
 use mathlib.Core.Path.{sym, _∙_}
 use borrow.Author.Needs.{needs}
-use Rattle.tables.proofs.Fieldwise.{slots-limited, slots-stop, masks-stop, sets-end}
-use Rattle.tables.proofs.check_fields.Statement.{statement}
-use Rattle.tables.proofs.check_fields.Tie as tie
+use Rattle.fields.proofs.Laws.{slots-limited, slots-stop, masks-stop, sets-end}
+use Rattle.fields.proofs.check_fields.Statement.{statement}
+use Rattle.fields.proofs.check_fields.Tie as tie
 
 check-slots-requires : tie.Need-check-slots-requires
 check-slots-requires c κs = search needs

@@ -1,10 +1,10 @@
--- `tables::words_of` meets its contract: the product is at most `maxMoves`.
+-- `fields::words_of` meets its contract: the product is at most `maxMoves`.
 -- Assumes nothing.
 use native.Mathlib.Omega.{arith}
 use borrow.Author.Needs.{needs}
 use Rattle.tables.proofs.Bounds.{moves-below}
-use Rattle.tables.proofs.words_of.Statement.{statement}
-use Rattle.tables.proofs.words_of.Tie as tie
+use Rattle.fields.proofs.words_of.Statement.{statement}
+use Rattle.fields.proofs.words_of.Tie as tie
 
 add-result : tie.Need-add-result
 add-result c = search needs

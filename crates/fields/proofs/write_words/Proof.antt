@@ -1,15 +1,16 @@
--- `tables::write_words` meets its contract: before each turn the first p places hold words, the rest is as it was.
+-- `fields::write_words` meets its contract: before each turn the first p places hold words, the rest is as it was.
 -- Assumes nothing.
 use mathlib.Core.Path.{_≡_}
 use Prim.Native.Nat.{_≤_, _-_}
 use native.Mathlib.Omega.{arith}
 use borrow.Author.Needs.{needs}
 use lib.ListN.{length}
-use Rattle.tables.specs.Fields.{gameOf, filledBy, wordAt}
-use Rattle.tables.proofs.Fieldwise.{written-none, written-done}
+use Rattle.tables.specs.Fields.{gameOf, filledBy}
+use Rattle.fields.specs.Write.{wordAt}
+use Rattle.fields.proofs.Laws.{written-none, written-done}
 use Rattle.tables.proofs.Fills.{filled-none, filled-more}
-use Rattle.tables.proofs.write_words.Statement.{statement}
-use Rattle.tables.proofs.write_words.Tie as tie
+use Rattle.fields.proofs.write_words.Statement.{statement}
+use Rattle.fields.proofs.write_words.Tie as tie
 
 abbrev Inv-loop : tie.InvT-loop
 Inv-loop f out₀ words p₀ out p = (p ≤ words) × (length out ≡ length out₀) × (out ≡ filledBy p (wordAt (gameOf f)) out₀)
