@@ -2,21 +2,21 @@
 -- Assumes nothing.
 use mathlib.Core.Path.{_≡_, refl, sym, ap, ap₂, _∙_, subst}
 use mathlib.Core.Logic.{_⊎_, ⊎-elim}
-use mathlib.Core.Bool.{Bool, true, false, not, _&&_, _||_, and-comm}
+use mathlib.Core.Bool.{Bool, true, false, not, _&&_, _||_, and-comm, and-true}
 use mathlib.Core.List.{List}
 use Prim.Native.Nat.{ℕ, zero, suc, _+_, _-_, _*_, _/_, _%_, _^_, _≤_, _<_}
 use native.Mathlib.Nat.{one-mul, mod-eq-of-lt, add-comm, add-assoc}
 use native.Mathlib.Omega.{arith}
 use lib.Dec.{eqb}
 use lib.ListN.{length, getD, List·getD-eq-default}
-use lib.Pow.{pow-lt, pow-mono, pow-add, high, low, split}
-use borrow.Author.Tests.{eq-eqb, ne-eqb}
+use lib.Pow.{pow-pos, pow-lt, pow-mono, pow-add, high, low, split}
+use borrow.Author.Tests.{eq-eqb, ne-eqb, not-true}
 use Rattle.sets.specs.Mask.{member, common, union, subset}
-use Rattle.sets.specs.Bounded.{any}
+use Rattle.sets.specs.Bounded.{all, any}
 use Rattle.families.specs.Bits.{laneStates, laneSets, highStates, mostStates, lanes, has, hasWith, wordWith}
-use Rattle.sets.proofs.Logic.{false-not, and-false-left, and-false-right, true-not}
-use Rattle.sets.proofs.Bounded.{any-zero, any-more}
-use Rattle.sets.proofs.Mask.{member-zero, member-and, member-or, member-shift, member-low, add-lt, subset-parts}
+use Rattle.sets.proofs.Logic.{decided, clash, same-truth, or-cases, or-left, or-right, false-not, and-false-left, and-false-right, true-not}
+use Rattle.sets.proofs.Bounded.{all-more, all-at, all-intro, any-zero, any-more}
+use Rattle.sets.proofs.Mask.{member-zero, member-and, member-or, member-shift, member-low, member-rest, subset-intro, subset-member, add-lt, subset-parts}
 
 -- a 1 shifted by fewer places than the word has
 pub shift-one : (w i : ℕ) → i < w → 1 * 2 ^ i % 2 ^ w ≡ 2 ^ i
@@ -31,6 +31,36 @@ unite-none n f t h = member-zero t ∙ sym (any-zero (λ i. f i t))
 -- one turn
 pub unite-more : (n : ℕ) (f : ℕ → ℕ → Bool) (i a b : ℕ) → ((t : ℕ) → t < n → member a t ≡ any i (λ i. f i t)) → ((t : ℕ) → t < n → member b t ≡ f i t) → (t : ℕ) → t < n → member (union a b) t ≡ any (i + 1) (λ i. f i t)
 unite-more n f i a b h k t l = member-or a b t ∙ ap₂ _||_ (h t l) (k t l) ∙ sym (any-more i (λ i. f i t))
+
+-- ---- the subsets of a set, by the states that it lacks
+
+-- t has nothing of what h lacks below i
+abbrev pub lacks : ℕ → ℕ → ℕ → Bool
+lacks h i t = all i (λ i. member h i || not (member t i))
+
+-- before the first turn
+pub lacks-none : (h t : ℕ) → t < laneSets → member (2 ^ laneSets - 1) t ≡ lacks h 0 t
+unfolding all
+lacks-none h t l = member-rest laneSets 0 t (pow-pos laneSets) l ∙ false-not (member-zero t)
+
+-- h lacks i
+pub lacks-more : (h i word lacking : ℕ) → member h i ≡ false → ((t : ℕ) → t < laneSets → member word t ≡ lacks h i t) → ((t : ℕ) → t < laneSets → member lacking t ≡ not (member t i)) → (t : ℕ) → t < laneSets → member (common word lacking) t ≡ lacks h (i + 1) t
+lacks-more h i word lacking f w k t l =
+    member-and word lacking t ∙ ap₂ _&&_ (w t l) (k t l ∙ ap (λ (b : Bool). b || not (member t i)) (sym f)) ∙ sym (all-more i (λ i. member h i || not (member t i)))
+
+-- h has i
+pub lacks-skip : (h i word : ℕ) → member h i ≡ true → ((t : ℕ) → t < laneSets → member word t ≡ lacks h i t) → (t : ℕ) → t < laneSets → member word t ≡ lacks h (i + 1) t
+lacks-skip h i word m w t l =
+    w t l ∙ sym (all-more i (λ i. member h i || not (member t i)) ∙ ap (λ (b : Bool). lacks h i t && (b || not (member t i))) m ∙ and-true (lacks h i t))
+
+-- all states are done
+pub lacks-end : (h t : ℕ) → t < laneSets → lacks h laneStates t ≡ subset t h
+lacks-end h t l =
+    same-truth (lacks h laneStates t) (subset t h)
+    (λ e. subset-intro laneStates t h l
+    (λ i b m. ⊎-elim (λ (a : member h i ≡ true). a) (λ a. clash m (not-true (member t i) a)) (or-cases (member h i) (not (member t i)) (all-at laneStates (λ i. member h i || not (member t i)) e i b))))
+    (λ e. all-intro laneStates (λ i. member h i || not (member t i))
+    (λ i b. ⊎-elim (λ m. or-left (not (member t i)) (subset-member t h e i m)) (λ m. or-right (member h i) (false-not m)) (decided (member t i))))
 
 -- ---- the lane with a state more
 

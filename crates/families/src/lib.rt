@@ -1,11 +1,12 @@
 // Families of sets of states as bits, 64 sets to a machine word (lane).
 ghost use mathlib.Core.Path.{_≡_};
+ghost use mathlib.Core.Bool.{not};
 ghost use mathlib.Core.List.{_++_};
 ghost use Prim.Native.Nat.{ℕ, _+_, _*_, _/_, _^_, _≤_, _<_};
 ghost use lib.ListN.{length, getD, take, drop, replicate};
 ghost use Rattle.sets.specs.Mask.{member, subset};
 ghost use Rattle.sets.specs.Bounded.{count as countOf, select};
-ghost use Rattle.sets.specs.Family.{Family, holds, isMaximal, maximal};
+ghost use Rattle.sets.specs.Family.{holds, isMaximal, maximal};
 ghost use Rattle.families.specs.Bits.{laneStates, laneSets, mostStates, highStates, lanes, has as isIn, Bits, Closed, Holding, Lane, hasWith, largerHas, wordWith, coveredBy, inserted, aboveHas, raised};
 
 // The most lanes: those of the sets of 12 states.
@@ -18,82 +19,17 @@ const LANE_SETS: u32 = 64;
 // The states from 6 up: they tell the lanes apart.
 const HIGH_STATES: u32 = 6;
 
-// For each set of the states below 6, its subsets.
-const SUBSETS_OF: [u64; 64] = [
-    1,
-    3,
-    5,
-    15,
-    17,
-    51,
-    85,
-    255,
-    257,
-    771,
-    1285,
-    3855,
-    4369,
-    13107,
-    21845,
-    65535,
-    65537,
-    196611,
-    327685,
-    983055,
-    1114129,
-    3342387,
-    5570645,
-    16711935,
-    16843009,
-    50529027,
-    84215045,
-    252645135,
-    286331153,
-    858993459,
-    1431655765,
-    4294967295,
-    4294967297,
-    12884901891,
-    21474836485,
-    64424509455,
-    73014444049,
-    219043332147,
-    365072220245,
-    1095216660735,
-    1103806595329,
-    3311419785987,
-    5519032976645,
-    16557098929935,
-    18764712120593,
-    56294136361779,
-    93823560602965,
-    281470681808895,
-    281479271743489,
-    844437815230467,
-    1407396358717445,
-    4222189076152335,
-    4785147619639313,
-    14355442858917939,
-    23925738098196565,
-    71777214294589695,
-    72340172838076673,
-    217020518514230019,
-    361700864190383365,
-    1085102592571150095,
-    1229782938247303441,
-    3689348814741910323,
-    6148914691236517205,
-    18446744073709551615,
-];
+// A word with all sets.
+const FULL: u64 = 0xFFFF_FFFF_FFFF_FFFF;
 
 // For each state below 6, the sets that lack it.
 const WITHOUT: [u64; 6] = [
-    6148914691236517205,
-    3689348814741910323,
-    1085102592571150095,
-    71777214294589695,
-    281470681808895,
-    4294967295,
+    0x5555_5555_5555_5555,
+    0x3333_3333_3333_3333,
+    0x0F0F_0F0F_0F0F_0F0F,
+    0x00FF_00FF_00FF_00FF,
+    0x0000_FFFF_0000_FFFF,
+    0x0000_0000_FFFF_FFFF,
 ];
 
 // How many lanes the sets of n states take.
@@ -116,13 +52,29 @@ pub fn has(bits: &[u64], s: u32) -> bool
     (bits[lane] >> (s % LANE_SETS)) % 2 == 1
 }
 
-// The subsets of h, a set of the states below 6.
+// The sets that lack the state i, one of those below 6.
+fn lacking(i: u32) -> u64
+    requires { ⌜ i < laneStates ⌝ }
+    ensures { λ r. ⌜ ((t : ℕ) → t < laneSets → member r t ≡ not (member t i)) ⌝ }
+{
+    let at = i as usize;
+    WITHOUT[at]
+}
+
+// The subsets of h, a set of the states below 6: the sets that lack what h lacks. (A table of 64 words would be built anew at each call.)
 pub fn subsets(h: u32) -> u64
     requires { ⌜ h < laneSets ⌝ }
     ensures { λ r. ⌜ ((t : ℕ) → t < laneSets → member r t ≡ subset t h) ⌝ }
 {
-    let at = h as usize;
-    SUBSETS_OF[at]
+    let mut all = FULL;
+    let mut i: u32 = 0;
+    while i < LANE_STATES {
+        if !sets::member(h, i) {
+            all = all & lacking(i);
+        }
+        i += 1;
+    }
+    all
 }
 
 // What the lanes with one state more have, united.
@@ -170,9 +122,8 @@ fn shifted(word: u64, i: u32) -> u64
     requires { ⌜ i < laneStates ⌝ }
     ensures { λ r. ⌜ ((t : ℕ) → t < laneSets → member r t ≡ wordWith word i t) ⌝ }
 {
-    let at = i as usize;
     let step: u32 = 1 << i;
-    (word >> step) & WITHOUT[at]
+    (word >> step) & lacking(i)
 }
 
 // The maximal sets of a lane.

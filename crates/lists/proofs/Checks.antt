@@ -13,9 +13,8 @@ use borrow.Author.Tests.{leb-false, ltb-true, ltb-false}
 use Rattle.sets.specs.Bounded.{Found, nothing, found, first, orElse}
 use Rattle.sets.proofs.Bounded.{first-stop, first-is, first-none, first-found, first-nothing, first-cases}
 use Rattle.sets.proofs.Logic.{decided}
-use Rattle.sets.proofs.Family.{Within}
+use Rattle.sets.proofs.Family.{Within, mem-index}
 use Rattle.lists.specs.Checks.{firstBeyond}
-use Rattle.lists.proofs.Extra.{mem-index}
 
 -- the mask at i is `end` or more
 abbrev pub beyond : List ℕ → ℕ → ℕ → Bool

@@ -11,16 +11,14 @@ use lib.Pow.{pow-mono}
 use lib.ListN.{length, length-append, take, drop}
 use lib.Seq.{take-append-seam}
 use borrow.Author.Tests.{lt-ltb, le-ltb, le-leb, lt-leb}
-use Rattle.sets.specs.Bounded.{Found, nothing, found, first, count, select}
+use Rattle.sets.specs.Bounded.{Found, nothing, found, first}
 use Rattle.sets.specs.Family.{join, meet}
 use Rattle.sets.proofs.Logic.{and-intro, and-false-left, and-false-right, true-not, false-not}
-use Rattle.sets.proofs.Bounded.{select-length}
 use Rattle.games.specs.Format.{maxStates, maxSets}
 use Rattle.lists.specs.declared.Answer.the-variants.{Words, Refused}
 use Rattle.lists.specs.Lists.{leaves, isWidth, foreign, fitted, unlessFound, outcome}
-use Rattle.lists.specs.Tops.{top}
+use Rattle.lists.specs.Merging.{Masks}
 use Rattle.lists.specs.Checks.{firstBeyond}
-use Rattle.lists.proofs.Tops.{select-top}
 use Rattle.lists.proofs.Checks.{beyond, beyond-found, beyond-within, found-first, found-second, found-neither}
 
 -- the width is right, and `end` is the first mask with a state too many
@@ -81,33 +79,34 @@ module _ (op : List ℕ → List ℕ → List ℕ) (n : ℕ) (k l d : List ℕ) 
 -- ---- the work done
 
 module _ (m : Bool) (n end : ℕ) (k l d : List ℕ) (w : Width n end) (a : Clean end k) (b : Clean end l) where
-  -- what is collected is the join or the meet
-  collected : select end (top m k l) ≡ cond m (meet n) (join n) k l
-  collected =
-      ap (λ (x : ℕ). select x (top m k l)) (w .power)
-      ∙ select-top n k l (beyond-within n k (subst (λ (x : ℕ). Clean x k) (w .power) a)) (beyond-within n l (subst (λ (x : ℕ). Clean x l) (w .power) b)) m
+  -- the lists are as the work asks for them
+  pub masks : Masks n k l
+  masks = record {
+    width = w .high;
+    first = beyond-within n k (subst (λ (x : ℕ). Clean x k) (w .power) a);
+    second = beyond-within n l (subst (λ (x : ℕ). Clean x l) (w .power) b);
+  }
 
-  finished : fitted (select end (top m k l)) d ≡ outcome (cond m (meet n) (join n)) n k l d
-  finished = ap (λ (x : List ℕ). fitted x d) collected ∙ allowed (cond m (meet n) (join n)) n k l d end w a b
+  finished : fitted (cond m (meet n) (join n) k l) d ≡ outcome (cond m (meet n) (join n)) n k l d
+  finished = allowed (cond m (meet n) (join n)) n k l d end w a b
 
-  -- it is too long
-  pub refused-long : (r : ℕ) → r ≡ count end (top m k l) → length d < r → leaves (Refused 15 r) d ≡ outcome (cond m (meet n) (join n)) n k l d
-  refused-long r e h = fitted-long (select end (top m k l)) d r (e ∙ sym (select-length end (top m k l))) h ∙ finished
+  -- the result is too long
+  pub refused-long : (r : ℕ) → r ≡ length (cond m (meet n) (join n) k l) → length d < r → leaves (Refused 15 r) d ≡ outcome (cond m (meet n) (join n)) n k l d
+  refused-long r e h = fitted-long (cond m (meet n) (join n) k l) d r e h ∙ finished
 
   -- it is written
-  pub written : (r : ℕ) (x y q : List ℕ) → r ≡ count end (top m k l) → r ≤ length d → x ≡ select end (top m k l) ++ q → y ≡ take r x ++ drop r d → leaves (Words r) y ≡ outcome (cond m (meet n) (join n)) n k l d
+  pub written : (r : ℕ) (x y q : List ℕ) → r ≡ length (cond m (meet n) (join n) k l) → r ≤ length d → x ≡ cond m (meet n) (join n) k l ++ q → y ≡ take r x ++ drop r d → leaves (Words r) y ≡ outcome (cond m (meet n) (join n)) n k l d
   written r x y q e h f g =
       ap (leaves (Words r)) (g ∙ ap (λ (z : List ℕ). take r z ++ drop r d) f)
-      ∙ fitted-fits (select end (top m k l)) d q r (e ∙ sym (select-length end (top m k l))) h ∙ finished
+      ∙ fitted-fits (cond m (meet n) (join n) k l) d q r e h ∙ finished
 
--- ---- room for what is collected
+-- ---- room for what is found
 
--- the masks of any width fit
-pub width-room : {n end : ℕ} → Width n end → end ≤ maxSets
-width-room w = subst (λ (x : ℕ). x ≤ maxSets) (sym (w .power)) (pow-mono (w .high))
+-- the sets of any width fit
+pub width-room : {n end : ℕ} → Width n end → 2 ^ n ≤ maxSets
+width-room w = pow-mono (w .high)
 
--- what is collected is in front of a list at least as long
-pub room-for : (p : ℕ → Bool) (end r : ℕ) (x q : List ℕ) → r ≡ count end p → x ≡ select end p ++ q → r ≤ length x
-room-for p end r x q e f =
-    subst (λ (y : ℕ). r ≤ y) (sym (ap length f ∙ length-append (select end p) q))
-    (subst (λ (y : ℕ). y ≤ length (select end p) + length q) (select-length end p ∙ sym e) (le-add-right (length (select end p)) (length q)))
+-- what is found is in front of a list at least as long
+pub room-for : (f : List ℕ) (r : ℕ) (x q : List ℕ) → r ≡ length f → x ≡ f ++ q → r ≤ length x
+room-for f r x q e g =
+    subst (λ (y : ℕ). r ≤ y) (sym (ap length g ∙ length-append f q)) (subst (λ (y : ℕ). y ≤ length f + length q) (sym e) (le-add-right (length f) (length q)))

@@ -7,9 +7,8 @@ use borrow.Author.Tests.{ltb-true, ltb-false}
 use native.Mathlib.Omega.{arith}
 use Rattle.sets.specs.Family.{join, meet}
 use Rattle.games.specs.Format.{maxStates}
-use Rattle.lists.specs.Tops.{top}
 use Rattle.lists.proofs.Checks.{beyond-none}
-use Rattle.lists.proofs.Outcomes.{Width, Clean, refused-width, refused-first, refused-second, refused-long, written, width-room, room-for}
+use Rattle.lists.proofs.Outcomes.{Width, Clean, refused-width, refused-first, refused-second, refused-long, masks, written, width-room, room-for}
 use Rattle.lists.proofs.combine.Statement.{statement}
 use Rattle.lists.proofs.combine.Tie as tie
 
@@ -43,23 +42,26 @@ returns-3 c =
     refused-second (cond (c .before .before .before .before .before .before .before .before .before .before .args .meet) (meet (c .before .before .before .before .before .before .before .before .before .before .args .n)) (join (c .before .before .before .before .before .before .before .before .before .before .args .n))) (c .before .before .before .before .before .before .before .before .before .before .args .n) (c .before .before .before .before .before .before .before .before .before .before .args .first .now) (c .before .before .before .before .before .before .before .before .before .before .args .second .now) (c .before .before .before .before .before .before .before .before .before .before .args .out .now) (c .before .before .before .before .single .result) (width (c .before .before .before .before))
     (c .before .first-beyond2 .result) (clean-first (c .before .before)) (c .before .first-beyond2 .ensures) (c .if4 .taken)
 
-collect-requires : tie.Need-collect-requires
-collect-requires c κs = width-room (width (c .before .before .before .before .before))
+find-requires : tie.Need-find-requires
+find-requires c κs = (
+  masks (c .before .before .before .before .before .before .before .before .before .before .before .args .meet) (c .before .before .before .before .before .before .before .before .before .before .before .args .n) (c .before .before .before .before .before .single .result) (c .before .before .before .before .before .before .before .before .before .before .before .args .first .now) (c .before .before .before .before .before .before .before .before .before .before .before .args .second .now) (c .before .before .before .before .before .before .before .before .before .before .before .args .out .now) (width (c .before .before .before .before .before)) (clean-first (c .before .before .before)) (clean-second (c .before)),
+  width-room (width (c .before .before .before .before .before)),
+)
 
 returns-4 : tie.Need-returns-4
 returns-4 c =
     refused-long (c .before .before .before .before .before .before .before .before .before .before .before .before .before .before .args .meet) (c .before .before .before .before .before .before .before .before .before .before .before .before .before .before .args .n) (c .before .before .before .before .before .before .before .before .single .result) (c .before .before .before .before .before .before .before .before .before .before .before .before .before .before .args .first .now) (c .before .before .before .before .before .before .before .before .before .before .before .before .before .before .args .second .now) (c .before .before .before .before .before .before .before .before .before .before .before .before .before .before .args .out .now) (width (c .before .before .before .before .before .before .before .before)) (clean-first (c .before .before .before .before .before .before)) (clean-second (c .before .before .before .before))
-    (c .before .before .collect .result) (c .before .before .collect .ensures .0) (c .if5 .taken)
+    (c .before .before .find .result) (c .before .before .find .ensures .0) (c .if5 .taken)
 
 copy-requires : tie.Need-copy-requires
 copy-requires c κs =
-    (room-for (top (c .before .before .before .before .before .before .before .before .before .before .before .before .before .before .before .before .args .meet) (c .before .before .before .before .before .before .before .before .before .before .before .before .before .before .before .before .args .first .now) (c .before .before .before .before .before .before .before .before .before .before .before .before .before .before .before .before .args .second .now)) (c .before .before .before .before .before .before .before .before .before .before .single .result) (c .before .before .before .before .collect .result) (c .before .before .before .before .collect .last .1 .1 .1 .1 .0) _ (c .before .before .before .before .collect .ensures .0) (c .before .before .before .before .collect .ensures .1), c .before .before .if5 .left)
+    (room-for (cond (c .before .before .before .before .before .before .before .before .before .before .before .before .before .before .before .before .args .meet) (meet (c .before .before .before .before .before .before .before .before .before .before .before .before .before .before .before .before .args .n)) (join (c .before .before .before .before .before .before .before .before .before .before .before .before .before .before .before .before .args .n)) (c .before .before .before .before .before .before .before .before .before .before .before .before .before .before .before .before .args .first .now) (c .before .before .before .before .before .before .before .before .before .before .before .before .before .before .before .before .args .second .now)) (c .before .before .before .before .find .result) (c .before .before .before .before .find .last .1 .1 .1 .1 .0) _ (c .before .before .before .before .find .ensures .0) (c .before .before .before .before .find .ensures .1), c .before .before .if5 .left)
 
 returns-5 : tie.Need-returns-5
 returns-5 c =
     written (c .before .before .before .before .before .before .before .before .before .before .before .before .before .before .before .before .before .before .before .args .meet) (c .before .before .before .before .before .before .before .before .before .before .before .before .before .before .before .before .before .before .before .args .n) (c .before .before .before .before .before .before .before .before .before .before .before .before .before .single .result) (c .before .before .before .before .before .before .before .before .before .before .before .before .before .before .before .before .before .before .before .args .first .now) (c .before .before .before .before .before .before .before .before .before .before .before .before .before .before .before .before .before .before .before .args .second .now) (c .before .before .before .before .before .before .before .before .before .before .before .before .before .before .before .before .before .before .before .args .out .now) (width (c .before .before .before .before .before .before .before .before .before .before .before .before .before)) (clean-first (c .before .before .before .before .before .before .before .before .before .before .before)) (clean-second (c .before .before .before .before .before .before .before .before .before))
-    (c .before .before .before .before .before .before .before .collect .result) (c .before .before .before .before .before .before .before .collect .last .1 .1 .1 .1 .0) (c .before .before .copy .last .1 .1 .0) _
-    (c .before .before .before .before .before .before .before .collect .ensures .0) (c .before .before .before .before .before .if5 .left) (c .before .before .before .before .before .before .before .collect .ensures .1) (c .before .before .copy .ensures)
+    (c .before .before .before .before .before .before .before .find .result) (c .before .before .before .before .before .before .before .find .last .1 .1 .1 .1 .0) (c .before .before .copy .last .1 .1 .0) _
+    (c .before .before .before .before .before .before .before .find .ensures .0) (c .before .before .before .before .before .if5 .left) (c .before .before .before .before .before .before .before .find .ensures .1) (c .before .before .copy .ensures)
 
 pub combine-spec : {M : Type 1} → statement M
 combine-spec =
@@ -73,7 +75,7 @@ combine-spec =
     (λ c. search needs)
     returns-3
     (λ c. search needs)
-    collect-requires
+    find-requires
     returns-4
     (λ c. search needs)
     copy-requires
