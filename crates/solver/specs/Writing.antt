@@ -3,11 +3,11 @@
 use mathlib.Core.Path.{_≡_}
 use mathlib.Core.Bool.{true}
 use mathlib.Core.List.{List, [], _∷_}
-use Prim.Native.Nat.{ℕ, _+_, _^_, _≤_, _<_}
+use Prim.Native.Nat.{ℕ, _+_, _*_, _^_, _≤_, _<_}
 use lib.ListN.{length, getD}
 use Rattle.sets.specs.Mask.{subset}
 use Rattle.sets.specs.Bounded.{nothing, first, gather}
-use Rattle.families.specs.Bits.{Bits}
+use Rattle.families.specs.Bits.{laneSets, maxLanes, lanes, Bits}
 use Rattle.games.specs.Format.{kindCard, kindFirst, kindCell, kindNext}
 use Rattle.games.specs.Game.{Game, Accepted}
 use Rattle.games.specs.Step.{after}
@@ -29,10 +29,22 @@ pub record AtHand (g : Game) (low high family : List ℕ) : Type 0 where
   pub tabled : Tabled g low high
   pub settled-family : Bits (g .states) (settled g) family
 
--- the family, its maximal sets, and a set to look for among them
-pub record Scanning (g : Game) (family list : List ℕ) (t : ℕ) : Type 0 where
+-- the sets of the list before place i are below the bound
+pub record Passed (list : List ℕ) (bound i : ℕ) : Type 0 where
+  pub within : i ≤ length list
+  pub below : (c : ℕ) → c < i → getD list c 0 < bound
+
+-- for each lane, a place before which all sets are below the lane
+pub record Starts (list starts : List ℕ) : Type 0 where
+  pub size : length starts ≡ maxLanes
+  pub at : (lane : ℕ) → lane < maxLanes → Passed list (laneSets * lane) (getD starts lane 0)
+
+-- the family, its maximal sets and where they start, and a set to look for among them
+pub record Scanning (g : Game) (family starts list : List ℕ) (t : ℕ) : Type 0 where
   pub accepted : Accepted g
+  pub few : lanes (g .states) ≤ maxLanes
   pub settled-family : Bits (g .states) (settled g) family
+  pub starting : Starts list starts
   pub listed : list ≡ cells g
   pub below : t < 2 ^ g .states
 

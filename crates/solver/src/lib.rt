@@ -7,12 +7,13 @@ ghost use Rattle.games.specs.Format.{maxStates, maxCells};
 ghost use Rattle.games.specs.Words.{game, cardLength};
 ghost use Rattle.tables.specs.Check.{checked};
 ghost use Rattle.tables.specs.declared.Checked.the-variants.{Fine};
-ghost use Rattle.families.specs.Bits.{lanes as lanesOf};
+ghost use Rattle.families.specs.Bits.{maxLanes, lanes as lanesOf};
 ghost use Rattle.moves.specs.Halves.{sideWords, Tabled};
 ghost use Rattle.games.specs.Automaton.{holding as holdingCell};
 ghost use Rattle.games.specs.Verdict.{cells as cellsOf, verdict, Yes};
 ghost use Rattle.solver.specs.Solve.{workWords, leaves, byVerdict, cardOf, outcome, solved, Promise};
-ghost use Rattle.solver.specs.Writing.{Writing, AtHand, Scanning, NoneBefore, SettledSet, frontWords, setWords};
+ghost use Rattle.solver.specs.Writing.{Writing, AtHand, Passed, Starts, Scanning, NoneBefore, SettledSet, frontWords, setWords};
+use families::LANE_SETS;
 use games::Action;
 use games::Cell;
 use games::NO_CELL;
@@ -68,13 +69,42 @@ fn write_front(table: &[u32], cells: &[u32], out: &mut [u32])
     );
 }
 
-// Where to begin looking for the cell that holds t: no cell before it does. A set that is not settled is in none.
-fn scan_from(table: &[u32], family: &[u64], cells: &[u32], t: u32) -> usize
-    requires { ⌜ Scanning (game (now table)) (now family) (now cells) t ⌝ }
+// The first cell from `from` on whose mask is `bound` or more.
+fn first_from(cells: &[u32], from: usize, bound: u32) -> usize
+    requires { ⌜ Passed (now cells) bound from ⌝ }
+    ensures { λ r. ⌜ Passed (now (cells .entry)) bound r ⌝ }
+{
+    let mut i = from;
+    while i < cells.len() {
+        if bound <= cells[i] {
+            return i;
+        }
+        i += 1;
+    }
+    i
+}
+
+// For each lane of sets, the first cell that is not below it.
+fn mark_starts(cells: &[u32], starts: &mut [usize])
+    requires { ⌜ length (now starts) ≡ maxLanes ⌝ }
+    ensures { λ _. ⌜ Starts (now (cells .entry)) (now (starts .exit)) ⌝ }
+{
+    let mut at: usize = 0;
+    let mut lane: usize = 0;
+    while lane < starts.len() {
+        at = first_from(cells, at, LANE_SETS * lane as u32);
+        starts[lane] = at;
+        lane += 1;
+    }
+}
+
+// Where to begin looking for the cell that holds t: no cell before it does. A set that is not settled is in none, and a cell below t does not hold it.
+fn scan_from(table: &[u32], family: &[u64], starts: &[usize], cells: &[u32], t: u32) -> usize
+    requires { ⌜ Scanning (game (now table)) (now family) (now starts) (now cells) t ⌝ }
     ensures { λ r. ⌜ NoneBefore (now (cells .entry)) t r ⌝ }
 {
     if families::has(family, t) {
-        return 0;
+        return starts[(t / LANE_SETS) as usize];
     }
     cells.len()
 }
@@ -85,11 +115,12 @@ fn write_cell(
     low: &[u32],
     high: &[u32],
     family: &[u64],
+    starts: &[usize],
     cells: &[u32],
     s: u32,
     out: &mut [u32],
 )
-    requires { ⌜ Writing (now table) (now cells) (now out) × SettledSet (game (now table)) s × AtHand (game (now table)) (now low) (now high) (now family) ⌝ }
+    requires { ⌜ Writing (now table) (now cells) (now out) × SettledSet (game (now table)) s × AtHand (game (now table)) (now low) (now high) (now family) × Starts (now cells) (now starts) ⌝ }
     ensures { λ _. ⌜ now (out .exit) ≡ setWords (game (now (table .entry))) s ⌝ }
 {
     let o = tables::observations(table);
@@ -100,7 +131,7 @@ fn write_cell(
         };
         for j in 0..o {
             let t = u & tables::shown(table, Observation(j));
-            let mut i = scan_from(table, family, cells, t);
+            let mut i = scan_from(table, family, starts, cells, t);
             let cell = loop {
                 if t == 0 {
                     break NO_CELL;
@@ -126,10 +157,11 @@ fn write_card(
     low: &[u32],
     high: &[u32],
     family: &[u64],
+    starts: &[usize],
     cells: &[u32],
     card: &mut [u32],
 )
-    requires { ⌜ (checked (now table) ≡ Fine) × (now cells ≡ cellsOf (game (now table))) × (cardLength (length (now cells)) (game (now table) .observations) ≤ length (now card)) × AtHand (game (now table)) (now low) (now high) (now family) ⌝ }
+    requires { ⌜ (checked (now table) ≡ Fine) × (now cells ≡ cellsOf (game (now table))) × (cardLength (length (now cells)) (game (now table) .observations) ≤ length (now card)) × AtHand (game (now table)) (now low) (now high) (now family) × Starts (now cells) (now starts) ⌝ }
     ensures { λ _. ⌜ now (card .exit) ≡ cardOf (game (now (table .entry))) ++ drop (cardLength (length (now (cells .entry))) (game (now (table .entry)) .observations)) (now (card .entry)) ⌝ }
 {
     let part = 1 + tables::observations(table) as usize;
@@ -163,11 +195,12 @@ fn grant(
     low: &[u32],
     high: &[u32],
     family: &[u64],
+    starts: &[usize],
     cells: &[u32],
     card: &mut [u32],
     settled: u32,
 ) -> Answer
-    requires { ⌜ (checked (now table) ≡ Fine) × (now cells ≡ cellsOf (game (now table))) × AtHand (game (now table)) (now low) (now high) (now family) ⌝ }
+    requires { ⌜ (checked (now table) ≡ Fine) × (now cells ≡ cellsOf (game (now table))) × AtHand (game (now table)) (now low) (now high) (now family) × Starts (now cells) (now starts) ⌝ }
     ensures { λ r. ⌜ leaves r (now (card .exit)) ≡ byVerdict (game (now (table .entry))) (now (card .entry)) (Yes settled (length (now (cells .entry)))) ⌝ }
 {
     let part = 1 + tables::observations(table) as usize;
@@ -176,7 +209,7 @@ fn grant(
     if card.len() < need {
         return Answer::Refused(9, need);
     }
-    write_card(table, low, high, family, cells, card);
+    write_card(table, low, high, family, starts, cells, card);
     Answer::Yes(settled, m as u32)
 }
 
@@ -194,7 +227,9 @@ fn accept(
     ensures { λ r. ⌜ leaves r (now (card .exit)) ≡ byVerdict (game (now (table .entry))) (now (card .entry)) (Yes settled (length (cellsOf (game (now (table .entry)))))) ⌝ }
 {
     let m = families::collect(family, tables::states(table), work);
-    grant(table, low, high, family, &work[..m], card, settled)
+    let mut starts = [0usize; 64];
+    mark_starts(&work[..m], &mut starts);
+    grant(table, low, high, family, &starts, &work[..m], card, settled)
 }
 
 // The search on the families' words, and the card where it ends in a yes.
