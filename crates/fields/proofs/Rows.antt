@@ -1,23 +1,18 @@
 -- The small inputs of document 01's "Numbered refusals" for fields: each gives its number and place.
 -- Assumes nothing.
 use mathlib.Core.Path.{_≡_, refl}
-use mathlib.Core.List.{List, [], _∷_, _++_}
-use Prim.Native.Nat.{ℕ}
+use mathlib.Core.List.{[], _∷_, _++_}
 use lib.ListN.{replicate}
 use Rattle.sets.specs.Bounded.{all, any, first, gather}
 use Rattle.games.specs.Words.{game}
+use Rattle.games.specs.Stations.{tableA}
 use Rattle.tables.specs.Layout.{bareWord}
 use Rattle.tables.specs.Check.{limitsHold, unseen, setsChecked}
 use Rattle.tables.specs.Fields.{fieldsOf, gameOf}
 use Rattle.fields.specs.Write.{maskAt, wordAt, unusedZero, wideAt, slotsChecked, masksChecked, fieldsChecked, leaves, writtenTo, writeOf}
-use Rattle.tables.specs.declared.Checked.the-variants.{Refused}
 use Rattle.fields.specs.declared.Written.the-variants.{Words}
 use Rattle.fields.specs.declared.Written.the-variants as written
 use Rattle.tables.specs.declared.Fields.{Fields}
-
--- station A
-abbrev tableA : List ℕ
-tableA = 0x1001_0203 ∷ 0x2000_0001 ∷ 0x3000_0004 ∷ 0x4000_0007 ∷ 0x5000_0002 ∷ 0x5001_0000 ∷ 0x5002_0004 ∷ 0x5010_0004 ∷ 0x5011_0001 ∷ 0x5012_0004 ∷ []
 
 -- station A's fields
 abbrev fieldsA : Fields

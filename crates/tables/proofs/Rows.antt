@@ -7,14 +7,11 @@ use Prim.Native.Nat.{ℕ}
 use lib.ListN.{set}
 use Rattle.sets.specs.Bounded.{any, first}
 use Rattle.games.specs.Words.{game}
+use Rattle.games.specs.Stations.{tableA}
 use Rattle.tables.specs.Layout.{bareWord}
 use Rattle.tables.specs.Check.{limitsHold, headRight, sizeChecked, placed, faulty, wordsChecked, unseen, setsChecked, checked}
 use Rattle.tables.specs.declared.Checked.{Checked}
 use Rattle.tables.specs.declared.Checked.the-variants.{Fine, Refused}
-
--- station A
-abbrev tableA : List ℕ
-tableA = 0x1001_0203 ∷ 0x2000_0001 ∷ 0x3000_0004 ∷ 0x4000_0007 ∷ 0x5000_0002 ∷ 0x5001_0000 ∷ 0x5002_0004 ∷ 0x5010_0004 ∷ 0x5011_0001 ∷ 0x5012_0004 ∷ []
 
 pub data Rows : List (record { input : List ℕ; answer : Checked }) → Type 0 where
   none : Rows []
