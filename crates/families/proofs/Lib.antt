@@ -2,4 +2,6 @@ pub mod Table
 pub mod Lanes
 pub mod Maximal
 pub mod Words
+pub mod Inserting
+pub mod Lowering
 pub mod Closing

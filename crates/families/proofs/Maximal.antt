@@ -1,19 +1,18 @@
 -- The maximal sets of a family, lane by lane.
 -- Assumes nothing.
-use mathlib.Core.Path.{_≡_, sym, ap, ap₂, _∙_, subst}
+use mathlib.Core.Path.{_≡_, sym, ap, _∙_, subst}
 use mathlib.Core.Logic.{⊎-elim}
 use mathlib.Core.Bool.{Bool, true, false, not, _&&_, _||_}
 use mathlib.Core.List.{List}
 use Prim.Native.Nat.{ℕ, _+_, _-_, _*_, _^_, _≤_, _<_}
 use native.Mathlib.Omega.{arith}
 use lib.Dec.{ltb}
-use lib.ListN.{length, getD}
+use lib.ListN.{getD}
 use lib.Pow.{pow-pos}
 use lib.Bits.{or-lt}
 use borrow.Author.Tests.{ltb-true, ltb-false, not-true}
 use Rattle.sets.specs.Mask.{member, common, union}
-use Rattle.sets.specs.Bounded.{all, any}
-use Rattle.sets.specs.Family.{Family, isMaximal}
+use Rattle.sets.specs.Family.{isMaximal}
 use Rattle.sets.proofs.Logic.{decided, clash, refuted, same-truth, and-left, and-right, and-intro, or-left, or-right, or-false-left, or-false-right, or-false-intro, false-not}
 use Rattle.sets.proofs.Bounded.{all-intro, any-found, any-none}
 use Rattle.sets.proofs.Mask.{member-zero, member-and, member-or, member-rest, subset-add}

@@ -19,7 +19,7 @@ use Rattle.sets.specs.Family.{isMaximal, maximal}
 use Rattle.sets.proofs.Logic.{decided, refuted}
 use Rattle.sets.proofs.Mask.{member-zero, member-first, member-half, member-sub-same, member-sub-other, sub-less, single-le}
 use Rattle.sets.proofs.Family.{isMaximal-in}
-use Rattle.sets.proofs.Bounded.{Lowest, select-lowest, select-none, select-length, select-hit-suc, select-skip-suc, count-hit-suc, count-skip-suc, count-gap, count-none, count-le, select-ext, count-ext, select-gap}
+use Rattle.sets.proofs.Bounded.{Lowest, select-lowest, select-none, select-length, select-hit-suc, select-skip-suc, count-gap, count-none, count-le, select-ext, count-ext, select-gap}
 use Rattle.families.specs.Bits.{laneSets, has, Closed, raised}
 use Rattle.families.proofs.Lanes.{lanes-room}
 

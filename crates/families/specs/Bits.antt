@@ -4,7 +4,6 @@ use mathlib.Core.Path.{_≡_}
 use mathlib.Core.Bool.{Bool, true, not, _&&_}
 use mathlib.Core.List.{List, [], _∷_, List·Memᴰ}
 use Prim.Native.Nat.{ℕ, _+_, _-_, _/_, _%_, _^_, _≤_, _<_}
-use lib.Dec.{eqb}
 use lib.ListN.{length, getD}
 use Rattle.sets.specs.Mask.{member, subset}
 use Rattle.sets.specs.Bounded.{any}
@@ -72,17 +71,13 @@ wordWith word i t = not (member t i) && member word (t + 2 ^ i)
 abbrev pub coveredBy : ℕ → ℕ → Bool
 coveredBy word t = any laneStates (λ i. wordWith word i t)
 
--- the list's mask at i stands in the lane, and holds t there
-abbrev pub insertedBy : List ℕ → ℕ → ℕ → ℕ → Bool
-insertedBy list lane i t = eqb (getD list i 0 / laneSets) lane && subset t (getD list i 0 % laneSets)
+-- the word has a set that holds t
+abbrev pub lowHas : ℕ → ℕ → Bool
+lowHas word t = any laneSets (λ u. subset t u && member word u)
 
--- some mask of the list does
-abbrev pub inserted : List ℕ → ℕ → ℕ → Bool
-inserted list lane t = any (length list) (λ i. insertedBy list lane i t)
-
--- a lane that holds this one has t
+-- a lane that holds this one has a set that holds t
 abbrev pub aboveHas : List ℕ → ℕ → ℕ → Bool
-aboveHas bits lane t = any (length bits) (λ m. subset lane m && member (getD bits m 0) t)
+aboveHas bits lane t = any (length bits) (λ m. subset lane m && lowHas (getD bits m 0) t)
 
 -- the list's numbers with `base` added to each
 unfoldable pub raised : ℕ → List ℕ → List ℕ

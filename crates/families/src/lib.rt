@@ -6,8 +6,8 @@ ghost use Prim.Native.Nat.{ℕ, _+_, _*_, _/_, _^_, _≤_, _<_};
 ghost use lib.ListN.{length, getD, take, drop, replicate};
 ghost use Rattle.sets.specs.Mask.{member, subset};
 ghost use Rattle.sets.specs.Bounded.{count as countOf, select};
-ghost use Rattle.sets.specs.Family.{holds, isMaximal, maximal};
-ghost use Rattle.families.specs.Bits.{laneStates, laneSets, mostStates, highStates, lanes, has as isIn, Bits, Closed, Holding, Lane, hasWith, largerHas, wordWith, coveredBy, inserted, aboveHas, raised};
+ghost use Rattle.sets.specs.Family.{listed, holds, isMaximal, maximal};
+ghost use Rattle.families.specs.Bits.{laneStates, laneSets, mostStates, highStates, lanes, has as isIn, Bits, Closed, Holding, Lane, hasWith, largerHas, wordWith, coveredBy, lowHas, aboveHas, raised};
 
 // The most lanes: those of the sets of 12 states.
 pub const MAX_LANES: usize = 64;
@@ -179,21 +179,34 @@ fn clear(bits: &mut [u64])
     }
 }
 
-// In each mask's own lane, its subsets.
+// The list's sets.
 fn insert(list: &[u32], n: u32, bits: &mut [u64])
     requires { ⌜ Holding n (now list) (now bits) × (now bits ≡ replicate (length (now bits)) 0) ⌝ }
-    ensures { λ _. ⌜ (length (now (bits .exit)) ≡ length (now (bits .entry))) × ((lane t : ℕ) → t < laneSets → member (getD (now (bits .exit)) lane 0) t ≡ inserted (now (list .entry)) lane t) ⌝ }
+    ensures { λ _. ⌜ (length (now (bits .exit)) ≡ length (now (bits .entry))) × ((s : ℕ) → isIn (now (bits .exit)) s ≡ listed (now (list .entry)) s) ⌝ }
 {
     let mut i = 0;
     while i < list.len() {
         let m = list[i];
         let lane = (m / LANE_SETS) as usize;
-        bits[lane] = bits[lane] | subsets(m % LANE_SETS);
+        bits[lane] = bits[lane] | (1 << (m % LANE_SETS));
         i += 1;
     }
 }
 
-// Each lane with what the lanes that hold it have, from the highest down.
+// The word's sets and their subsets.
+fn lower(word: u64) -> u64
+    ensures { λ r. ⌜ ((t : ℕ) → t < laneSets → member r t ≡ lowHas word t) ⌝ }
+{
+    let mut all = word;
+    let mut i: u32 = 0;
+    while i < LANE_STATES {
+        all = all | shifted(all, i);
+        i += 1;
+    }
+    all
+}
+
+// The subsets of the sets, from the highest lane down: a lane's own, and what the lanes that hold it have.
 fn close(bits: &mut [u64])
     requires { ⌜ length (now bits) ≤ 2 ^ highStates ⌝ }
     ensures { λ _. ⌜ (length (now (bits .exit)) ≡ length (now (bits .entry))) × ((lane t : ℕ) → t < laneSets → member (getD (now (bits .exit)) lane 0) t ≡ aboveHas (now (bits .entry)) lane t) ⌝ }
@@ -201,7 +214,7 @@ fn close(bits: &mut [u64])
     let mut lane = bits.len();
     while 0 < lane {
         lane -= 1;
-        bits[lane] = bits[lane] | larger(bits, lane);
+        bits[lane] = lower(bits[lane]) | larger(bits, lane);
     }
 }
 

@@ -4,14 +4,14 @@ use mathlib.Core.Path.{_≡_, refl, sym, ap, ap₂, _∙_}
 use mathlib.Core.Logic.{_⊎_, inl, ⊎-elim}
 use mathlib.Core.Bool.{Bool, true, false, cond, _&&_, _||_}
 use mathlib.Core.List.{List, _++_}
-use Prim.Native.Nat.{ℕ, _+_, _/_, _%_, _^_, _≤_, _<_}
+use Prim.Native.Nat.{ℕ, _+_, _/_, _%_, _≤_, _<_}
 use native.Mathlib.Omega.{arith}
 use lib.Dec.{eqb, ltb}
 use lib.ListN.{length, getD, set, drop, length-set, List·getD-eq-default}
 use lib.Seq.{getD-set-same, getD-set-other}
 use borrow.Author.Tests.{eqb-true, eqb-false, ltb-true, ltb-false}
 use Rattle.sets.specs.Mask.{member}
-use Rattle.sets.specs.Family.{Family, holds, maximal, join, meet}
+use Rattle.sets.specs.Family.{holds, maximal, join, meet}
 use Rattle.sets.proofs.Logic.{decided, and-left, and-right, and-intro, or-cases, or-left, or-right}
 use Rattle.sets.proofs.Mask.{member-and, member-or}
 use Rattle.sets.proofs.Family.{DownBelow, Within, holds-down, maximal-ext, join-maximal, meet-maximal}

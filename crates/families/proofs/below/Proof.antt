@@ -1,14 +1,12 @@
 -- `families::below` meets its contract.
 -- Assumes nothing.
-use mathlib.Core.Path.{_≡_, _∙_}
-use mathlib.Core.List.{List}
-use Prim.Native.Nat.{ℕ, _≤_}
+use mathlib.Core.Path.{_∙_}
 use borrow.Author.Needs.{needs}
 use native.Mathlib.Omega.{arith}
 use lib.ListN.{length}
-use Rattle.families.specs.Bits.{Holding}
 use Rattle.families.proofs.Lanes.{few-lanes}
-use Rattle.families.proofs.Closing.{holding-cleared, cleared-length, below-bits}
+use Rattle.families.proofs.Inserting.{holding-cleared, cleared-length}
+use Rattle.families.proofs.Closing.{below-bits}
 use Rattle.families.proofs.below.Statement.{statement}
 use Rattle.families.proofs.below.Tie as tie
 

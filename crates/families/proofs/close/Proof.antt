@@ -23,14 +23,15 @@ there : (c : tie.In-loop Inv-loop μ-loop) → c .before .loop .lane - 1 < lengt
 there c = omega (arith, c .before .loop .inv .within, c .before .loop .inv .long)
 
 larger-requires : tie.Need-larger-requires Inv-loop μ-loop
-larger-requires c κs = record { here = there (c .before .before); few = omega (arith, c .before .before .before .loop .inv .long, c .before .before .before .before .before .pre) }
+larger-requires c κs =
+    record { here = there (c .before .before .before); few = omega (arith, c .before .before .before .before .loop .inv .long, c .before .before .before .before .before .before .pre) }
 
 loop-again : tie.Need-loop-again Inv-loop μ-loop
 loop-again c =
-    let lane : ℕ = c .before .before .before .before .loop .lane in
+    let lane : ℕ = c .before .before .before .before .before .loop .lane in
     let e : lane ≡ lane - 1 + 1 = omega arith in
-    closing-more (c .before .before .before .before .before .before .args .bits .now) (c .before .before .before .before .loop .bits) (lane - 1) (c .larger .result) (c .before .before .before .before .before .before .pre)
-    (subst (Closing (c .before .before .before .before .before .before .args .bits .now) (c .before .before .before .before .loop .bits)) e (c .before .before .before .before .loop .inv)) (c .larger .ensures)
+    closing-more (c .before .before .before .before .before .before .before .args .bits .now) (c .before .before .before .before .before .loop .bits) (lane - 1) (c .before .before .lower .result) (c .larger .result) (c .before .before .before .before .before .before .before .pre)
+    (subst (Closing (c .before .before .before .before .before .before .before .args .bits .now) (c .before .before .before .before .before .loop .bits)) e (c .before .before .before .before .before .loop .inv)) (c .before .before .lower .ensures) (c .larger .ensures)
 
 returns : tie.Need-returns Inv-loop μ-loop
 returns c = (c .before .loop .inv .long, λ lane t l. c .before .loop .inv .done lane t (omega arith) l)
@@ -45,9 +46,10 @@ close-spec =
     (λ c. search needs)
     (λ c. search needs)
     (λ c. there (c .before))
+    (λ c κs. search needs)
     larger-requires
     (λ c. search needs)
-    (λ c. there (c .before .before .before))
+    (λ c. there (c .before .before .before .before))
     (λ c. search needs)
     loop-again
     (λ c. omega (arith, c .before .loop .inv .long))

@@ -1,15 +1,14 @@
 -- `families::collect` meets its contract: before each turn the maximal sets of the lanes below `lane` stand in front.
 -- Assumes nothing.
-use mathlib.Core.Path.{_≡_, refl, sym, ap, _∙_, subst}
+use mathlib.Core.Path.{_≡_, refl, _∙_}
 use mathlib.Core.Bool.{Bool}
 use mathlib.Core.List.{List, _++_}
-use Prim.Native.Nat.{ℕ, _+_, _-_, _*_, _^_, _≤_}
+use Prim.Native.Nat.{ℕ, _+_, _-_, _*_, _≤_}
 use borrow.Author.Needs.{needs}
 use native.Mathlib.Omega.{arith}
 use lib.ListN.{length, drop}
 use Rattle.sets.specs.Bounded.{count, select}
 use Rattle.sets.specs.Family.{isMaximal}
-use Rattle.sets.proofs.Bounded.{count-zero, collect-none}
 use Rattle.families.specs.Bits.{laneSets, has}
 use Rattle.families.proofs.Lanes.{few-lanes}
 use Rattle.families.proofs.Words.{size, lane-count, lane-written, front-length, collect-room, collect-end}

@@ -1,11 +1,10 @@
 -- `families::unpack` meets its contract: before each turn what is left of the word is to be written from `at` on.
 -- Assumes nothing.
-use mathlib.Core.Path.{_≡_, sym, ap, _∙_, subst}
-use Prim.Native.Nat.{ℕ, _+_, _-_, _*_, _%_, _^_, _<_}
+use mathlib.Core.Path.{_≡_}
+use Prim.Native.Nat.{_-_, _*_, _%_, _^_, _<_}
 use borrow.Author.Needs.{needs}
 use native.Mathlib.Omega.{arith}
 use lib.Count.{trailingZeros}
-use lib.ListN.{length}
 use Rattle.families.specs.Bits.{laneSets}
 use Rattle.families.proofs.Lanes.{shift-one}
 use Rattle.families.proofs.Words.{Writing, writing-none, writing-room, writing-more, writing-end, taken-lt, taken-le, taken-less}

@@ -18,7 +18,7 @@ width c = record { low = c .before .before .if1 .left; high = ltb-false maxState
 
 -- the first list, once searched
 clean-first : (c : tie.Else3) → Clean (c .before .before .single .result) (c .before .before .before .before .before .before .before .before .args .first .now)
-clean-first c = beyond-none (c .before .before .before .before .before .before .before .before .args .first .now) (c .before .before .single .result) (c .before .first-beyond .result) (c .before .first-beyond .ensures) (c .if3 .left)
+clean-first c = beyond-none (c .before .before .before .before .before .before .before .before .args .first .now) (c .before .before .single .result) (c .before .first-beyond .result) (c .before .first-beyond .ensures) (omega (arith, c .if3))
 
 -- and the second
 clean-second : (c : tie.Else4) → Clean (c .before .before .before .before .single .result) (c .before .before .before .before .before .before .before .before .before .before .args .second .now)
