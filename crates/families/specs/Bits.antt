@@ -23,6 +23,9 @@ highStates = 6
 abbrev pub mostStates : ℕ
 mostStates = laneStates + highStates
 
+abbrev pub maxLanes : ℕ
+maxLanes = 2 ^ highStates
+
 -- how many lanes the sets of n states take: one for up to 6 states
 unfoldable pub lanes : ℕ → ℕ
 lanes n = 2 ^ (n - laneStates)
@@ -53,7 +56,7 @@ pub record Holding (n : ℕ) (list bits : List ℕ) : Type 0 where
 -- the lane is there, and there are no more lanes than the states from 6 up tell apart
 pub record Lane (bits : List ℕ) (lane : ℕ) : Type 0 where
   pub here : lane < length bits
-  pub few : length bits ≤ 2 ^ highStates
+  pub few : length bits ≤ maxLanes
 
 -- the lane lacks the state i (of the states from 6 up), and the lane with it has t
 abbrev pub hasWith : List ℕ → ℕ → ℕ → ℕ → Bool

@@ -9,15 +9,17 @@ ghost use Rattle.sets.specs.Bounded.{count as countOf, select};
 ghost use Rattle.sets.specs.Family.{listed, holds, isMaximal, maximal};
 ghost use Rattle.families.specs.Bits.{laneStates, laneSets, mostStates, highStates, lanes, has as isIn, Bits, Closed, Holding, Lane, hasWith, largerHas, wordWith, coveredBy, lowHas, aboveHas, raised};
 
-// The most lanes: those of the sets of 12 states.
-pub const MAX_LANES: usize = 64;
-
+// The states below 6 tell the sets of a lane apart.
 const LANE_STATES: u32 = 6;
 
-const LANE_SETS: u32 = 64;
+// The sets of a lane.
+pub const LANE_SETS: u32 = 1 << LANE_STATES;
 
 // The states from 6 up: they tell the lanes apart.
 const HIGH_STATES: u32 = 6;
+
+// The most lanes.
+pub const MAX_LANES: usize = 1 << HIGH_STATES;
 
 // A word with all sets.
 const FULL: u64 = 0xFFFF_FFFF_FFFF_FFFF;

@@ -11,13 +11,11 @@ ghost use Rattle.tables.specs.declared.Checked.the-variants.{Fine};
 ghost use Rattle.moves.specs.Halves.{Tabled};
 ghost use Rattle.search.specs.Stages.{shownIn, Stage, Sound, Passed, isOpen, OpenStates, Same};
 ghost use Rattle.search.specs.Found.{Reached, Searched};
+use families::LANE_SETS;
 use games::Action;
 use games::Observation;
 use games::State;
 use tables::Walked;
-
-// The sets of a lane of the families.
-const LANE_SETS: u32 = 64;
 
 // For every observation, the states of u that show it form a set of the family.
 fn shown_in(table: &[u32], family: &[u64], u: u32) -> bool

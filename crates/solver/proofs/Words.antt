@@ -4,19 +4,21 @@ use mathlib.Core.Path.{_≡_, refl, sym, ap, ap₂, _∙_, subst}
 use mathlib.Core.Logic.{_⊎_, ⊎-elim}
 use mathlib.Core.Bool.{Bool, true, false, cond, _&&_}
 use mathlib.Core.List.{List, [], _∷_, _++_}
-use Prim.Native.Nat.{ℕ, zero, suc, _+_, _*_, _^_, _≤_, _<_}
-use native.Mathlib.Nat.{eq-or-lt-of-le, le-refl, le-antisymm, not-suc-le-zero}
+use Prim.Native.Nat.{ℕ, zero, suc, _+_, _*_, _/_, _^_, _≤_, _<_}
+use native.Mathlib.Nat.{lt-of-lt-of-le, eq-or-lt-of-le, le-refl, le-antisymm, not-suc-le-zero}
 use native.Mathlib.Numerals.{add-one}
 use native.Mathlib.Omega.{arith}
 use lib.Dec.{eqb}
 use lib.ListN.{length, getD, take, drop, set, length-set, length-drop}
-use lib.Seq.{drop-set-add, take-suc-set, take-all, set-split}
+use lib.Seq.{getD-set-same, getD-set-other, drop-set-add, take-suc-set, take-all, set-split}
+use borrow.Author.Count.{below-none, below-more}
 use borrow.Author.Tests.{eq-eqb, ne-eqb}
 use Rattle.sets.specs.Mask.{common, subset}
 use Rattle.sets.specs.Bounded.{Found, nothing, found, first, orElse, gather, all}
 use Rattle.sets.specs.Family.{holds}
 use Rattle.sets.proofs.Logic.{refuted, clash, and-intro, and-false-right}
-use Rattle.sets.proofs.Bounded.{first-stop, first-cases, first-nothing, first-skip, first-some, first-found, all-more, all-refuted}
+use Rattle.sets.proofs.Bounded.{first-none, first-stop, first-cases, first-nothing, first-skip, first-some, first-found, all-more, all-refuted}
+use Rattle.sets.proofs.Mask.{subset-le}
 use Rattle.sets.proofs.Family.{holds-found, holds-intro, maximal-length}
 use Rattle.games.specs.Game.{Game, Accepted}
 use Rattle.games.specs.Step.{after, post, enabledAt, meets, lowest, step, antichain}
@@ -24,7 +26,8 @@ use Rattle.games.specs.Verdict.{startSet, settled, cells}
 use Rattle.games.specs.Words.{game, word}
 use Rattle.tables.specs.Layout.{Sized}
 use Rattle.tables.proofs.Checks.{sized, accepted}
-use Rattle.solver.specs.Writing.{Writing, frontWords, setWords}
+use Rattle.families.specs.Bits.{laneSets, maxLanes}
+use Rattle.solver.specs.Writing.{Writing, Passed, Starts, NoneBefore, frontWords, setWords}
 use Rattle.search.proofs.Turns.{sets-few}
 use Rattle.games.specs.Automaton.{noCell, holding, chosen}
 use Rattle.games.proofs.Winning.{at-mem, mem-at}
@@ -135,3 +138,47 @@ front-is g l e o x h i =
 pub first-word : (g : Game) (l : List ℕ) (j r h a b : ℕ) → r ≡ word 9 h j 0 → h ≡ holding l (common a b) → a ≡ g .start → b ≡ g .shown j → r ≡ firstWord g l j
 first-word g l j r h a b is held start shown =
     is ∙ ap (λ (x : ℕ). word 9 x j 0) (held ∙ ap₂ (λ (x y : ℕ). holding l (common x y)) start shown)
+
+-- ---- where the cells of a lane start
+
+pub passed-more : (l : List ℕ) (bound i : ℕ) → Passed l bound i → i < length l → getD l i 0 < bound → Passed l bound (i + 1)
+passed-more l bound i w b h = record { within = omega arith; below = below-more (λ c. getD l c 0 < bound) i (w .below) h }
+
+-- the lanes below `lane` are marked, and all sets before place i are below it
+pub record Marking (l : List ℕ) (lane i : ℕ) (starts : List ℕ) : Type 0 where
+  pub size : length starts ≡ maxLanes
+  pub so-far : Passed l (laneSets * lane) i
+  pub marked : (k : ℕ) → k < lane → Passed l (laneSets * k) (getD starts k 0)
+
+pub marking-none : (l starts : List ℕ) → length starts ≡ maxLanes → Marking l 0 0 starts
+marking-none l starts e =
+    record {
+      size = e;
+      so-far = record { within = omega arith; below = below-none (λ c. getD l c 0 < laneSets * 0) };
+      marked = below-none (λ k. Passed l (laneSets * k) (getD starts k 0));
+    }
+
+module _ (l : List ℕ) (lane i : ℕ) (starts : List ℕ) (w : Marking l lane i starts) where
+  pub marking-more : (r : ℕ) → Passed l (laneSets * lane) r → lane < maxLanes → Marking l (lane + 1) r (set starts lane r)
+  marking-more r p b =
+      record {
+        size = length-set starts lane r ∙ w .size;
+        so-far = record { within = p .within; below = λ c h. omega (arith, p .below c h) };
+        marked =
+            below-more (λ k. Passed l (laneSets * k) (getD (set starts lane r) k 0)) lane
+            (λ k h. subst (Passed l (laneSets * k)) (sym (getD-set-other starts lane k r 0 (λ q. absurd (omega (arith, q))))) (w .marked k h))
+            (subst (Passed l (laneSets * lane)) (sym (getD-set-same starts lane r 0 (subst (λ (n : ℕ). lane < n) (sym (w .size)) b))) p);
+      }
+
+  pub marking-end : maxLanes ≤ lane → Starts l starts
+  marking-end b = record { size = w .size; at = λ k h. w .marked k (lt-of-lt-of-le h b) }
+
+-- a cell before the start of t's lane does not hold t
+pub starts-none : (l starts : List ℕ) → Starts l starts → (t : ℕ) → t / laneSets < maxLanes → NoneBefore l t (getD starts (t / laneSets) 0)
+starts-none l starts w t b =
+    let p = w .at (t / laneSets) b in
+    record {
+      within = p .within;
+      none = first-none (getD starts (t / laneSets) 0) (holdsAt l t)
+          (λ c h. refuted (holdsAt l t c) (λ e. absurd (omega (arith, p .below c h, subset-le t (getD l c 0) e))));
+    }

@@ -14,6 +14,7 @@ ghost use Rattle.games.specs.Verdict.{cells as cellsOf, verdict, Yes};
 ghost use Rattle.solver.specs.Solve.{workWords, leaves, byVerdict, cardOf, outcome, solved, Promise};
 ghost use Rattle.solver.specs.Writing.{Writing, AtHand, Passed, Starts, Scanning, NoneBefore, SettledSet, frontWords, setWords};
 use families::LANE_SETS;
+use families::MAX_LANES;
 use games::Action;
 use games::Cell;
 use games::NO_CELL;
@@ -174,6 +175,7 @@ fn write_card(
             low,
             high,
             family,
+            starts,
             cells,
             cells[c],
             &mut card[at..at + part],
@@ -227,7 +229,7 @@ fn accept(
     ensures { λ r. ⌜ leaves r (now (card .exit)) ≡ byVerdict (game (now (table .entry))) (now (card .entry)) (Yes settled (length (cellsOf (game (now (table .entry)))))) ⌝ }
 {
     let m = families::collect(family, tables::states(table), work);
-    let mut starts = [0usize; 64];
+    let mut starts = [0usize; MAX_LANES];
     mark_starts(&work[..m], &mut starts);
     grant(table, low, high, family, &starts, &work[..m], card, settled)
 }
@@ -260,10 +262,10 @@ fn side() -> [u32; 512]
 }
 
 // Room for a family of sets.
-fn room() -> [u64; 64]
-    ensures { λ r. ⌜ length r ≡ 64 ⌝ }
+fn room() -> [u64; MAX_LANES]
+    ensures { λ r. ⌜ length r ≡ maxLanes ⌝ }
 {
-    [0; 64]
+    [0; MAX_LANES]
 }
 
 // The successors of every set at hand, then the search.

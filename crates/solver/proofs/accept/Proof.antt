@@ -16,6 +16,7 @@ use Rattle.solver.proofs.accept.Reads as reads
 use Rattle.solver.proofs.accept.Lts as lts
 use Rattle.families.proofs.collect.Reads as collect-reads
 use Rattle.solver.proofs.grant.Reads as grant-reads
+use Rattle.solver.proofs.mark_starts.Reads as mark-starts-reads
 use Rattle.tables.proofs.states.Reads as states-reads
 
 -- the cells stand in front of the work
@@ -37,14 +38,29 @@ collect-requires c κs =
     let w = start .args .table .now in
     (settled-closed (game w) (start .args .family .now) (start .pre .1 .settled-family) (c .before .states .result) (c .before .states .ensures) (accepted w (start .pre .0)) (few-states w (sized w (start .pre .0))), rw (c .before .states .ensures) (omega (arith, start .pre .2)))
 
-slice-reshare-prefix-grant : tie.Need-slice-reshare-prefix-grant
-slice-reshare-prefix-grant c = front (c .before .before) .1
+slice-reshare-prefix-mark-starts : tie.Need-slice-reshare-prefix-mark-starts
+slice-reshare-prefix-mark-starts c = front (c .before .before) .1
+
+slice-aggregate-mark-starts : tie.Need-slice-aggregate-mark-starts
+slice-aggregate-mark-starts c = sym (length-take-le _ _ (front (c .before .before .before) .1))
+
+slice-aggregate-mark-starts-2 : tie.Need-slice-aggregate-mark-starts-2
+slice-aggregate-mark-starts-2 c = search needs
+
+mark-starts-requires : tie.Need-mark-starts-requires
+mark-starts-requires c κs = search needs
 
 slice-aggregate-grant : tie.Need-slice-aggregate-grant
-slice-aggregate-grant c = sym (length-take-le _ _ (front (c .before .before .before) .1))
+slice-aggregate-grant c = search needs
+
+slice-reshare-prefix-grant : tie.Need-slice-reshare-prefix-grant
+slice-reshare-prefix-grant c = front (c .before .before .before .before .before .before .before) .1
+
+slice-aggregate-grant-2 : tie.Need-slice-aggregate-grant-2
+slice-aggregate-grant-2 c = sym (length-take-le _ _ (front (c .before .before .before .before .before .before .before .before) .1))
 
 grant-requires : tie.Need-grant-requires
-grant-requires c κs = let start = c .before .before .before .before .before .before .before .before .before .before .before .before .before in (start .pre .0, front (c .before .before .before .before) .0, start .pre .1)
+grant-requires c κs = let start = c .before .before .before .before .before .before .before .before .before .before .before .before .before .before .before .before .before .before in (start .pre .0, front (c .before .before .before .before .before .before .before .before .before) .0, start .pre .1, c .before .before .before .before .mark-starts .ensures)
 
 same-length : tie.Need-same-length
 same-length c = search needs
@@ -54,9 +70,9 @@ same-length-2 c = search needs
 
 returns : tie.Need-returns
 returns c =
-    let start = c .before .before .before .before .before .before .before .before .before .before .before .before .before .before .before .before in
+    let start = c .before .before .before .before .before .before .before .before .before .before .before .before .before .before .before .before .before .before .before .before .before in
     let g = game (start .args .table .now) in
-    c .before .before .grant .ensures ∙ ap (λ (m : ℕ). byVerdict g (start .args .card .now) (Yes (start .args .settled) m)) (ap length (front (c .before .before .before .before .before .before .before) .0))
+    c .before .before .grant .ensures ∙ ap (λ (m : ℕ). byVerdict g (start .args .card .now) (Yes (start .args .settled) m)) (ap length (front (c .before .before .before .before .before .before .before .before .before .before .before .before) .0))
 
 pub accept-spec : {M : Type 1} → statement M
 accept-spec =
@@ -64,8 +80,13 @@ accept-spec =
     (tie.spec
     states-requires
     collect-requires
-    slice-reshare-prefix-grant
+    slice-reshare-prefix-mark-starts
+    slice-aggregate-mark-starts
+    slice-aggregate-mark-starts-2
+    mark-starts-requires
     slice-aggregate-grant
+    slice-reshare-prefix-grant
+    slice-aggregate-grant-2
     grant-requires
     same-length
     same-length-2

@@ -17,7 +17,7 @@ use Rattle.games.specs.Words.{game, word}
 use Rattle.games.specs.Verdict.{settled}
 use Rattle.games.specs.Automaton.{holding}
 use Rattle.tables.proofs.Checks.{sized, accepted}
-use Rattle.search.proofs.Turns.{shown-below, sets-few}
+use Rattle.search.proofs.Turns.{shown-below, sets-few, lanes-few}
 use Rattle.solver.proofs.Words.{lt-by-ne, holdsAt, Filled, filled-none, filled-more, filled-end, holding-small, cells-small, observations-small, actions-small}
 use Rattle.solver.proofs.Choosing.{Trying, trying-next, trying-with, chosen-is, never-none, blocked-fails, uncovered-fails, covered-meets, after-is, uncovered, named-empty, named-at, nextWord, next-word, set-words}
 use Rattle.solver.proofs.write_cell.Statement.{statement}
@@ -33,32 +33,32 @@ use Rattle.moves.proofs.post.Reads as post-reads
 use Rattle.solver.proofs.scan_from.Reads as scan-from-reads
 
 abbrev Inv-loop2 : tie.InvT-loop2
-Inv-loop2 table low high family cells s out o a₀ u j t i₀ a-end a i = (a ≡ a₀) × (i ≤ length cells) × (first i (holdsAt cells t) ≡ nothing)
+Inv-loop2 table low high family starts cells s out o a₀ u j t i₀ a-end a i = (a ≡ a₀) × (i ≤ length cells) × (first i (holdsAt cells t) ≡ nothing)
 
 abbrev μ-loop2 : tie.MeasureT-loop2
-μ-loop2 table low high family cells s out o a₀ u j t i₀ a-end a i = length cells - i
+μ-loop2 table low high family starts cells s out o a₀ u j t i₀ a-end a i = length cells - i
 
 abbrev Inv-loop : tie.InvT-loop
-Inv-loop table low high family cells s out₀ o a₀ u j₀ a-end out a j = (a ≡ a₀) × (j ≤ o) × (all j (λ i. settled (game table) (common u (game table .shown i))) ≡ true) × Trying (game table) cells s o a-end a₀ out × Filled o (nextWord (game table) cells u) j out
+Inv-loop table low high family starts cells s out₀ o a₀ u j₀ a-end out a j = (a ≡ a₀) × (j ≤ o) × (all j (λ i. settled (game table) (common u (game table .shown i))) ≡ true) × Trying (game table) cells s o a-end a₀ out × Filled o (nextWord (game table) cells u) j out
 
 abbrev μ-loop : tie.MeasureT-loop
-μ-loop table low high family cells s out₀ o a₀ u j₀ a-end out a j = o - j
+μ-loop table low high family starts cells s out₀ o a₀ u j₀ a-end out a j = o - j
 
 abbrev Inv-actions : tie.InvT-actions
-Inv-actions table low high family cells s out₀ o a₀ a-end out a = Trying (game table) cells s o a-end a out
+Inv-actions table low high family starts cells s out₀ o a₀ a-end out a = Trying (game table) cells s o a-end a out
 
 abbrev μ-actions : tie.MeasureT-actions
-μ-actions table low high family cells s out₀ o a₀ a-end out a = a-end - a
+μ-actions table low high family starts cells s out₀ o a₀ a-end out a = a-end - a
 
 observations-requires : tie.Need-observations-requires Inv-loop2 μ-loop2 Inv-loop μ-loop Inv-actions μ-actions
-observations-requires c κs = sized (c .before .before .before .before .before .before .args .table .now) (c .before .before .before .before .before .before .pre .0 .fine)
+observations-requires c κs = sized (c .before .before .before .before .before .before .before .args .table .now) (c .before .before .before .before .before .before .before .pre .0 .fine)
 
 actions-requires : tie.Need-actions-requires Inv-loop2 μ-loop2 Inv-loop μ-loop Inv-actions μ-actions
-actions-requires c κs = sized (c .before .before .before .before .before .before .before .args .table .now) (c .before .before .before .before .before .before .before .pre .0 .fine)
+actions-requires c κs = sized (c .before .before .before .before .before .before .before .before .args .table .now) (c .before .before .before .before .before .before .before .before .pre .0 .fine)
 
 actions-holds : tie.Need-actions-holds Inv-loop2 μ-loop2 Inv-loop μ-loop Inv-actions μ-actions
 actions-holds c =
-    let start = c .before .before .before .before .before .before .before .before in
+    let start = c .before .before .before .before .before .before .before .before .before in
     let t = start .args .table .now in
     let l = start .args .cells .now in
     let d = start .args .out .now in
@@ -78,7 +78,7 @@ actions-holds c =
 post-requires : tie.Need-post-requires Inv-loop2 μ-loop2 Inv-loop μ-loop Inv-actions μ-actions
 post-requires c κs =
     let at = c .before in
-    let start = at .before .before .before .before .before .before .before .before .before in
+    let start = at .before .before .before .before .before .before .before .before .before .before in
     (start .pre .0 .fine, start .pre .2 .tabled, start .pre .1 .below, omega (arith, at .actions .inv .actions-are))
 
 enum-known-walked : tie.Need-enum-known-walked Inv-loop2 μ-loop2 Inv-loop μ-loop Inv-actions μ-actions
@@ -96,7 +96,7 @@ actions-less c = search needs
 actions-again : tie.Need-actions-again Inv-loop2 μ-loop2 Inv-loop μ-loop Inv-actions μ-actions
 actions-again c =
     let at = c .before .before .before .before in
-    let start = at .before .before .before .before .before .before .before .before .before in
+    let start = at .before .before .before .before .before .before .before .before .before .before in
     let g = game (start .args .table .now) in
     trying-next g (start .args .cells .now) (start .args .s) (at .before .before .observations .result) (at .before .actions2 .result) (at .actions .a) (at .actions .out) (at .actions .inv)
     (blocked-fails g (start .args .s) (at .actions .a) (c .before .before .post .result) (c .before .before .post .ensures) (c .enum-told .given .1)) (omega arith)
@@ -104,24 +104,26 @@ actions-again c =
 loop-holds : tie.Need-loop-holds Inv-loop2 μ-loop2 Inv-loop μ-loop Inv-actions μ-actions
 loop-holds c =
     let act = c .before .before .before .before .before in
-    let start = act .before .before .before .before .before .before .before .before .before in
+    let start = act .before .before .before .before .before .before .before .before .before .before in
     (refl, search needs, all-zero _, act .actions .inv, filled-none (c .before .before .before .before .before .before .before .observations .result) (nextWord (game (start .args .table .now)) (start .args .cells .now) (c .before .walked .given .0 .0)) (act .actions .out) (act .actions .inv .size))
 
 shown-requires : tie.Need-shown-requires Inv-loop2 μ-loop2 Inv-loop μ-loop Inv-actions μ-actions
 shown-requires c κs =
     let lp = c .before in
-    let start = lp .before .before .before .before .before .before .before .before .before .before .before .before .before .before .before in
+    let start = lp .before .before .before .before .before .before .before .before .before .before .before .before .before .before .before .before in
     (sized (start .args .table .now) (start .pre .0 .fine), omega (arith, lp .before .before .before .before .before .before .actions .inv .observations-are))
 
 scan-from-requires : tie.Need-scan-from-requires Inv-loop2 μ-loop2 Inv-loop μ-loop Inv-actions μ-actions
 scan-from-requires c κs =
     let lp = c .before .before in
     let act = lp .before .before .before .before .before .before in
-    let start = lp .before .before .before .before .before .before .before .before .before .before .before .before .before .before .before in
+    let start = lp .before .before .before .before .before .before .before .before .before .before .before .before .before .before .before .before in
     let w = start .args .table .now in
     let A = accepted w (start .pre .0 .fine) in
     record {
       accepted = A;
+      few = lanes-few w (sized w (start .pre .0 .fine));
+      starting = start .pre .3;
       settled-family = start .pre .2 .settled-family;
       listed = start .pre .0 .listed;
       below = rw (c .shown .ensures) (shown-below (game w) A (lp .before .before .walked .given .0 .0) (lp .loop .j) (omega (arith, c .before .loop-test .taken, act .actions .inv .observations-are)));
@@ -130,11 +132,11 @@ scan-from-requires c κs =
 loop2-holds : tie.Need-loop2-holds Inv-loop2 μ-loop2 Inv-loop μ-loop Inv-actions μ-actions
 loop2-holds c = (refl, c .scan-from .ensures .within, c .scan-from .ensures .none)
 
-below : (c : tie.At-loop2 Inv-loop2 μ-loop2 Inv-loop μ-loop Inv-actions μ-actions) → common (c .before .before .before .before .before .before .walked .given .0 .0) (c .before .before .shown .result) < 2 ^ game (c .before .before .before .before .before .before .before .before .before .before .before .before .before .before .before .before .before .before .before .args .table .now) .states
+below : (c : tie.At-loop2 Inv-loop2 μ-loop2 Inv-loop μ-loop Inv-actions μ-actions) → common (c .before .before .before .before .before .before .walked .given .0 .0) (c .before .before .shown .result) < 2 ^ game (c .before .before .before .before .before .before .before .before .before .before .before .before .before .before .before .before .before .before .before .before .args .table .now) .states
 below c =
     let lp = c .before .before .before .before in
     let act = lp .before .before .before .before .before .before in
-    let start = lp .before .before .before .before .before .before .before .before .before .before .before .before .before .before .before in
+    let start = lp .before .before .before .before .before .before .before .before .before .before .before .before .before .before .before .before in
     let w = start .args .table .now in
     let g = game w in
     let A = accepted w (start .pre .0 .fine) in
@@ -145,11 +147,11 @@ below c =
     rw (c .before .before .shown .ensures) (shown-below g A u j (omega (arith, c .before .before .before .loop-test .taken, act .actions .inv .observations-are)))
 
 -- the cell named is the lowest that holds them
-named : (c : tie.Joined1 Inv-loop2 μ-loop2 Inv-loop μ-loop Inv-actions μ-actions) → (c .if1 .cell ≡ holding (c .before .before .before .before .before .before .before .before .before .before .before .before .before .before .before .before .before .before .before .before .args .cells .now) (common (c .before .before .before .before .before .before .before .walked .given .0 .0) (c .before .before .before .shown .result))) × (settled (game (c .before .before .before .before .before .before .before .before .before .before .before .before .before .before .before .before .before .before .before .before .args .table .now)) (common (c .before .before .before .before .before .before .before .walked .given .0 .0) (c .before .before .before .shown .result)) ≡ true)
+named : (c : tie.Joined1 Inv-loop2 μ-loop2 Inv-loop μ-loop Inv-actions μ-actions) → (c .if1 .cell ≡ holding (c .before .before .before .before .before .before .before .before .before .before .before .before .before .before .before .before .before .before .before .before .before .args .cells .now) (common (c .before .before .before .before .before .before .before .walked .given .0 .0) (c .before .before .before .shown .result))) × (settled (game (c .before .before .before .before .before .before .before .before .before .before .before .before .before .before .before .before .before .before .before .before .before .args .table .now)) (common (c .before .before .before .before .before .before .before .walked .given .0 .0) (c .before .before .before .shown .result)) ≡ true)
 named c =
     let lp = c .before .before .before .before .before in
     let act = lp .before .before .before .before .before .before in
-    let start = lp .before .before .before .before .before .before .before .before .before .before .before .before .before .before .before in
+    let start = lp .before .before .before .before .before .before .before .before .before .before .before .before .before .before .before .before in
     let w = start .args .table .now in
     let g = game w in
     let A = accepted w (start .pre .0 .fine) in
@@ -174,7 +176,7 @@ actions-again-2 : tie.Need-actions-again-2 Inv-loop2 μ-loop2 Inv-loop μ-loop I
 actions-again-2 c =
     let lp = c .before .before .before .before .before .before in
     let act = lp .before .before .before .before .before .before in
-    let start = lp .before .before .before .before .before .before .before .before .before .before .before .before .before .before .before in
+    let start = lp .before .before .before .before .before .before .before .before .before .before .before .before .before .before .before .before in
     let w = start .args .table .now in
     let g = game w in
     let A = accepted w (start .pre .0 .fine) in
@@ -207,13 +209,13 @@ loop2-less : tie.Need-loop2-less Inv-loop2 μ-loop2 Inv-loop μ-loop Inv-actions
 loop2-less c = omega (arith, lt-by-ne _ _ (c .before .before .before .before .loop2 .inv .1) (c .before .before .if2 .left))
 
 loop2-again : tie.Need-loop2-again Inv-loop2 μ-loop2 Inv-loop μ-loop Inv-actions μ-actions
-loop2-again c = (c .before .before .before .before .loop2 .inv .0, add-one-le (lt-by-ne _ _ (c .before .before .before .before .loop2 .inv .1) (c .before .before .if2 .left)), first-skip (c .before .before .before .before .loop2 .i) (holdsAt (c .before .before .before .before .before .before .before .before .before .before .before .before .before .before .before .before .before .before .before .before .before .before .before .args .cells .now) (common (c .before .before .before .before .before .before .before .before .before .before .walked .given .0 .0) (c .before .before .before .before .before .before .shown .result))) (c .before .before .before .before .loop2 .inv .2) (ne-eqb _ _ (c .if3 .left)))
+loop2-again c = (c .before .before .before .before .loop2 .inv .0, add-one-le (lt-by-ne _ _ (c .before .before .before .before .loop2 .inv .1) (c .before .before .if2 .left)), first-skip (c .before .before .before .before .loop2 .i) (holdsAt (c .before .before .before .before .before .before .before .before .before .before .before .before .before .before .before .before .before .before .before .before .before .before .before .before .args .cells .now) (common (c .before .before .before .before .before .before .before .before .before .before .walked .given .0 .0) (c .before .before .before .before .before .before .shown .result))) (c .before .before .before .before .loop2 .inv .2) (ne-eqb _ _ (c .if3 .left)))
 
 naming-requires : tie.Need-naming-requires Inv-loop2 μ-loop2 Inv-loop μ-loop Inv-actions μ-actions
 naming-requires c κs =
     let lp = c .before .before .before .before .before in
     let act = lp .before .before .before .before .before .before in
-    let start = lp .before .before .before .before .before .before .before .before .before .before .before .before .before .before .before in
+    let start = lp .before .before .before .before .before .before .before .before .before .before .before .before .before .before .before .before in
     let w = start .args .table .now in
     let g = game w in
     let A = accepted w (start .pre .0 .fine) in
@@ -245,7 +247,7 @@ loop-again : tie.Need-loop-again Inv-loop2 μ-loop2 Inv-loop μ-loop Inv-actions
 loop-again c =
     let lp = c .before .before .before .before .before .before in
     let act = lp .before .before .before .before .before .before in
-    let start = lp .before .before .before .before .before .before .before .before .before .before .before .before .before .before .before in
+    let start = lp .before .before .before .before .before .before .before .before .before .before .before .before .before .before .before .before in
     let w = start .args .table .now in
     let g = game w in
     let A = accepted w (start .pre .0 .fine) in
@@ -268,7 +270,7 @@ picking-requires : tie.Need-picking-requires Inv-loop2 μ-loop2 Inv-loop μ-loop
 picking-requires c κs =
     let lp = c .before in
     let act = lp .before .before .before .before .before .before in
-    let start = lp .before .before .before .before .before .before .before .before .before .before .before .before .before .before .before in
+    let start = lp .before .before .before .before .before .before .before .before .before .before .before .before .before .before .before .before in
     let w = start .args .table .now in
     let g = game w in
     let A = accepted w (start .pre .0 .fine) in
@@ -284,13 +286,13 @@ slice-write-out-2 c = omega (arith, c .before .before .loop .inv .3 .size)
 same-length : tie.Need-same-length Inv-loop2 μ-loop2 Inv-loop μ-loop Inv-actions μ-actions
 same-length c =
     let lp = c .before .before in
-    length-set (lp .loop .out) 0 (c .picking .result) ∙ lp .loop .inv .3 .size ∙ ap (λ (n : ℕ). 1 + n) (lp .before .before .before .before .before .before .actions .inv .observations-are) ∙ sym (lp .before .before .before .before .before .before .before .before .before .before .before .before .before .before .before .pre .0 .room)
+    length-set (lp .loop .out) 0 (c .picking .result) ∙ lp .loop .inv .3 .size ∙ ap (λ (n : ℕ). 1 + n) (lp .before .before .before .before .before .before .actions .inv .observations-are) ∙ sym (lp .before .before .before .before .before .before .before .before .before .before .before .before .before .before .before .before .pre .0 .room)
 
 returns : tie.Need-returns Inv-loop2 μ-loop2 Inv-loop μ-loop Inv-actions μ-actions
 returns c =
     let lp = c .before .before in
     let act = lp .before .before .before .before .before .before in
-    let start = lp .before .before .before .before .before .before .before .before .before .before .before .before .before .before .before in
+    let start = lp .before .before .before .before .before .before .before .before .before .before .before .before .before .before .before .before in
     let w = start .args .table .now in
     let g = game w in
     let A = accepted w (start .pre .0 .fine) in
@@ -311,12 +313,12 @@ returns c =
 same-length-2 : tie.Need-same-length-2 Inv-loop2 μ-loop2 Inv-loop μ-loop Inv-actions μ-actions
 same-length-2 c =
     let at = c .before in
-    at .actions .inv .size ∙ ap (λ (n : ℕ). 1 + n) (at .actions .inv .observations-are) ∙ sym (at .before .before .before .before .before .before .before .before .before .pre .0 .room)
+    at .actions .inv .size ∙ ap (λ (n : ℕ). 1 + n) (at .actions .inv .observations-are) ∙ sym (at .before .before .before .before .before .before .before .before .before .before .pre .0 .room)
 
 returns-2 : tie.Need-returns-2 Inv-loop2 μ-loop2 Inv-loop μ-loop Inv-actions μ-actions
 returns-2 c =
     let at = c .before in
-    let start = at .before .before .before .before .before .before .before .before .before in
+    let start = at .before .before .before .before .before .before .before .before .before .before in
     let w = start .args .table .now in
     absurd (never-none (game w) (start .args .cells .now) (start .args .s) (at .before .before .observations .result) (at .before .actions2 .result) (at .actions .a) (at .actions .out) (at .actions .inv) (accepted w (start .pre .0 .fine)) (start .pre .1) (c .actions-test .left))
 
