@@ -8,7 +8,6 @@ use Prim.Native.Nat.{ℕ, _+_, _/_, _%_, _^_, _<_}
 use native.Mathlib.Omega.{arith}
 use lib.Dec.{eqb, ltb}
 use lib.ListN.{length, getD, set, take, replicate, length-replicate, getD-replicate, List·getD-eq-default}
-use lib.Seq.{getD-set-same, getD-set-other}
 use borrow.Author.Tests.{eqb-true, eqb-false, eq-eqb, ne-eqb, ltb-true, ltb-false}
 use Rattle.sets.specs.Mask.{member, union}
 use Rattle.sets.specs.Family.{listed}
@@ -16,7 +15,7 @@ use Rattle.sets.proofs.Logic.{decided}
 use Rattle.sets.proofs.Mask.{member-zero, member-or, member-single, member-single-other}
 use Rattle.sets.proofs.Family.{mem-at, listed-none, listed-more}
 use Rattle.families.specs.Bits.{laneSets, has, Holding}
-use Rattle.families.proofs.Lanes.{lane-there}
+use Rattle.families.proofs.Lanes.{lane-there, has-stored, has-kept}
 
 -- a family cleared has as many words
 pub cleared-length : (n : ℕ) (bits : List ℕ) → bits ≡ replicate n 0 → length bits ≡ n
@@ -56,11 +55,10 @@ has-insert bits m s h =
     let word : ℕ = union (getD bits (m / laneSets) 0) (2 ^ (m % laneSets)) in
     ⊎-elim
     (λ e. let d : m / laneSets ≡ s / laneSets = eqb-true (m / laneSets) (s / laneSets) e in
-    ap (λ (x : ℕ). member (getD (set bits (m / laneSets) word) x 0) (s % laneSets)) (sym d)
-    ∙ ap (λ (x : ℕ). member x (s % laneSets)) (getD-set-same bits (m / laneSets) word 0 h)
+    has-stored bits (m / laneSets) word s h d
     ∙ member-or (getD bits (m / laneSets) 0) (2 ^ (m % laneSets)) (s % laneSets)
     ∙ ap₂ _||_ (ap (λ (x : ℕ). member (getD bits x 0) (s % laneSets)) d) (single-is (m % laneSets) (s % laneSets) ∙ same-place m s d))
-    (λ e. ap (λ (x : ℕ). member x (s % laneSets)) (getD-set-other bits (m / laneSets) (s / laneSets) word 0 (λ d. eqb-false (m / laneSets) (s / laneSets) e (sym d)))
+    (λ e. has-kept bits (m / laneSets) word s (eqb-false (m / laneSets) (s / laneSets) e)
     ∙ sym (or-false (has bits s))
     ∙ ap (λ (b : Bool). has bits s || b) (sym (ne-eqb m s (λ f. eqb-false (m / laneSets) (s / laneSets) e (ap (λ (x : ℕ). x / laneSets) f)))))
     (decided (eqb (m / laneSets) (s / laneSets)))

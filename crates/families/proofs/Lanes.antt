@@ -7,15 +7,16 @@ use mathlib.Core.List.{List}
 use Prim.Native.Nat.{ℕ, _+_, _-_, _*_, _/_, _%_, _^_, _≤_, _<_}
 use native.Mathlib.Nat.{one-mul, mod-eq-of-lt, add-comm, add-assoc}
 use native.Mathlib.Omega.{arith}
-use lib.ListN.{length, getD, List·getD-eq-default}
+use lib.ListN.{length, getD, set, List·getD-eq-default}
+use lib.Seq.{getD-set-same, getD-set-other}
 use lib.Pow.{pow-pos, pow-lt, pow-mono, pow-add, high, low, split}
 use borrow.Author.Tests.{eq-eqb, ne-eqb, not-true}
 use Rattle.sets.specs.Mask.{member, common, union, subset}
 use Rattle.sets.specs.Bounded.{all, any}
-use Rattle.families.specs.Bits.{laneStates, laneSets, highStates, mostStates, lanes, has, hasWith, wordWith}
-use Rattle.sets.proofs.Logic.{decided, clash, same-truth, or-cases, or-left, or-right, false-not, and-false-left, and-false-right, true-not}
-use Rattle.sets.proofs.Bounded.{all-more, all-at, all-intro, any-zero, any-more}
-use Rattle.sets.proofs.Mask.{member-zero, member-and, member-or, member-shift, member-low, member-rest, subset-intro, subset-member, add-lt, subset-parts}
+use Rattle.families.specs.Bits.{laneStates, laneSets, highStates, mostStates, lanes, has, hasWith, largerHas, wordWith, coveredBy}
+use Rattle.sets.proofs.Logic.{decided, clash, same-truth, and-left, and-right, and-intro, or-cases, or-left, or-right, false-not, and-false-left, and-false-right, true-not}
+use Rattle.sets.proofs.Bounded.{all-more, all-at, all-intro, any-zero, any-more, any-found, any-intro}
+use Rattle.sets.proofs.Mask.{member-zero, member-and, member-or, member-shift, member-low, member-rest, subset-intro, subset-member, subset-add, add-lt, subset-parts}
 
 -- a 1 shifted by fewer places than the word has
 pub shift-one : (w i : ℕ) → i < w → 1 * 2 ^ i % 2 ^ w ≡ 2 ^ i
@@ -114,6 +115,51 @@ pub has-high : (bits : List ℕ) (lane t j : ℕ) → t < laneSets → has bits 
 has-high bits lane t j l =
     let e : lane * laneSets + t + 2 ^ (laneStates + j) ≡ (lane + 2 ^ j) * laneSets + t = omega (arith, pow-add 2 laneStates j) in
     ap (has bits) e ∙ has-at bits (lane + 2 ^ j) t l
+
+-- ---- what `larger` finds
+
+-- in a lane with one state more: that set is in the family
+pub larger-found : (bits : List ℕ) (lane t : ℕ) → t < laneSets → largerHas bits lane t ≡ true → (j : ℕ) × (j < highStates) × (member lane j ≡ false) × (has bits (lane * laneSets + t + 2 ^ (laneStates + j)) ≡ true)
+larger-found bits lane t l e =
+    let w = any-found highStates (λ i. hasWith bits lane i t) e in (
+      w .0,
+      w .1,
+      not-true (member lane (w .0)) (and-left (not (member lane (w .0))) (member (getD bits (lane + 2 ^ w .0) 0) t) (w .2)),
+      has-high bits lane t (w .0) l ∙ and-right (not (member lane (w .0))) (member (getD bits (lane + 2 ^ w .0) 0) t) (w .2),
+    )
+
+-- a set of the family with one state more is found
+pub larger-intro : (bits : List ℕ) (lane t j : ℕ) → t < laneSets → j < highStates → member lane j ≡ false → has bits (lane * laneSets + t + 2 ^ (laneStates + j)) ≡ true → largerHas bits lane t ≡ true
+larger-intro bits lane t j l h f e = any-intro highStates (λ i. hasWith bits lane i t) j h (and-intro (false-not f) (sym (has-high bits lane t j l) ∙ e))
+
+-- what is found lies in a set of the family
+pub larger-sound : (bits : List ℕ) (lane t : ℕ) → t < laneSets → largerHas bits lane t ≡ true → (u : ℕ) × (has bits u ≡ true) × (subset (lane * laneSets + t) u ≡ true)
+larger-sound bits lane t l e =
+    let w = larger-found bits lane t l e in
+    (lane * laneSets + t + 2 ^ (laneStates + w .0), w .3, subset-add (lane * laneSets + t) (laneStates + w .0) (state-high lane t (w .0) l ∙ w .2))
+
+-- the same within a word
+pub covered-found : (bits : List ℕ) (lane t : ℕ) → t < laneSets → coveredBy (getD bits lane 0) t ≡ true → (i : ℕ) × (i < laneStates) × (member t i ≡ false) × (has bits (lane * laneSets + t + 2 ^ i) ≡ true)
+covered-found bits lane t l e =
+    let w = any-found laneStates (λ i. wordWith (getD bits lane 0) i t) e in
+    let f : member t (w .0) ≡ false = not-true (member t (w .0)) (and-left (not (member t (w .0))) (member (getD bits lane 0) (t + 2 ^ w .0)) (w .2)) in
+    (w .0, w .1, f, has-low bits lane t (w .0) l (w .1) f ∙ and-right (not (member t (w .0))) (member (getD bits lane 0) (t + 2 ^ w .0)) (w .2))
+
+pub covered-intro : (bits : List ℕ) (lane t i : ℕ) → t < laneSets → i < laneStates → member t i ≡ false → has bits (lane * laneSets + t + 2 ^ i) ≡ true → coveredBy (getD bits lane 0) t ≡ true
+covered-intro bits lane t i l h f e = any-intro laneStates (λ i. wordWith (getD bits lane 0) i t) i h (and-intro (false-not f) (sym (has-low bits lane t i l h f) ∙ e))
+
+-- ---- one word stored
+
+-- the sets of its lane are the word's
+pub has-stored : (bits : List ℕ) (lane word s : ℕ) → lane < length bits → lane ≡ s / laneSets → has (set bits lane word) s ≡ member word (s % laneSets)
+has-stored bits lane word s h e =
+    ap (λ (x : ℕ). member (getD (set bits lane word) x 0) (s % laneSets)) (sym e) ∙ ap (λ (x : ℕ). member x (s % laneSets)) (getD-set-same bits lane word 0 h)
+
+-- the others are as they were
+pub has-kept : (bits : List ℕ) (lane word s : ℕ) → (lane ≡ s / laneSets → ⊥) → has (set bits lane word) s ≡ has bits s
+has-kept bits lane word s e = ap (λ (x : ℕ). member x (s % laneSets)) (getD-set-other bits lane (s / laneSets) word 0 (λ d. e (sym d)))
+
+-- ---- lane and place
 
 -- a set is its lane's number and its place there
 pub by-lane : (s : ℕ) → s / laneSets * laneSets + s % laneSets ≡ s

@@ -14,11 +14,11 @@ use borrow.Author.Tests.{ltb-true, ltb-false, not-true}
 use Rattle.sets.specs.Mask.{member, common, union}
 use Rattle.sets.specs.Family.{isMaximal}
 use Rattle.sets.proofs.Logic.{decided, clash, refuted, same-truth, and-left, and-right, and-intro, or-left, or-right, or-false-left, or-false-right, or-false-intro, false-not}
-use Rattle.sets.proofs.Bounded.{all-intro, any-found, any-none}
+use Rattle.sets.proofs.Bounded.{all-intro}
 use Rattle.sets.proofs.Mask.{member-zero, member-and, member-or, member-rest, subset-add}
 use Rattle.sets.proofs.Family.{isMaximal-in, isMaximal-only, maximal-by-states}
-use Rattle.families.specs.Bits.{laneStates, laneSets, highStates, has, Closed, hasWith, largerHas, wordWith, coveredBy}
-use Rattle.families.proofs.Lanes.{has-at, state-low, state-high, has-low, has-high}
+use Rattle.families.specs.Bits.{laneStates, laneSets, highStates, has, Closed, largerHas, coveredBy}
+use Rattle.families.proofs.Lanes.{has-at, state-low, state-high, larger-found, larger-intro, covered-found, covered-intro}
 
 -- the sets of the word that are in neither of two others
 pub neither : (word a b : ℕ) → a < 2 ^ 64 → b < 2 ^ 64 → (t : ℕ) → t < laneSets → member (common word ((2 ^ 64 - 1) - union a b)) t ≡ (member word t && not (member a t || member b t))
@@ -37,18 +37,12 @@ module _ (n : ℕ) (bits : List ℕ) (c : Closed n bits) (lane t : ℕ) (l : t <
   -- with a state more there is no set: neither in this lane
   no-low : coveredBy word t ≡ false → (i : ℕ) → i < laneStates → member s i ≡ false → has bits (s + 2 ^ i) ≡ false
   unfolding s word
-  no-low e i h f =
-      let g : member t i ≡ false = sym (state-low lane t i l h) ∙ f in
-      has-low bits lane t i l h g
-      ∙ refuted (member word (t + 2 ^ i)) (λ m. clash (and-intro (false-not g) m) (any-none laneStates (λ i. wordWith word i t) e i h))
+  no-low e i h f = refuted (has bits (s + 2 ^ i)) (λ m. clash (covered-intro bits lane t i l h (sym (state-low lane t i l h) ∙ f) m) e)
 
   -- nor in another
   no-high : largerHas bits lane t ≡ false → (j : ℕ) → j < highStates → member s (laneStates + j) ≡ false → has bits (s + 2 ^ (laneStates + j)) ≡ false
   unfolding s word
-  no-high e j h f =
-      let g : member lane j ≡ false = sym (state-high lane t j l) ∙ f in
-      has-high bits lane t j l
-      ∙ refuted (member (getD bits (lane + 2 ^ j) 0) t) (λ m. clash (and-intro (false-not g) m) (any-none highStates (λ i. hasWith bits lane i t) e j h))
+  no-high e j h f = refuted (has bits (s + 2 ^ (laneStates + j))) (λ m. clash (larger-intro bits lane t j l h (sym (state-high lane t j l) ∙ f) m) e)
 
   no-more : coveredBy word t ≡ false → largerHas bits lane t ≡ false → (i : ℕ) → i < n → (member s i || not (has bits (s + 2 ^ i))) ≡ true
   no-more e f i h =
@@ -70,20 +64,12 @@ module _ (n : ℕ) (bits : List ℕ) (c : Closed n bits) (lane t : ℕ) (l : t <
   not-covered : isMaximal n (has bits) s ≡ true → coveredBy word t ≡ false
   unfolding s word
   not-covered m =
-      refuted (coveredBy word t)
-      (λ e. let w = any-found laneStates (λ i. wordWith word i t) e in
-      let f : member t (w .0) ≡ false = not-true (member t (w .0)) (and-left (not (member t (w .0))) (member word (t + 2 ^ w .0)) (w .2)) in
-      clash (has-low bits lane t (w .0) l (w .1) f ∙ and-right (not (member t (w .0))) (member word (t + 2 ^ w .0)) (w .2))
-      (only m (w .0) (state-low lane t (w .0) l (w .1) ∙ f)))
+      refuted (coveredBy word t) (λ e. let w = covered-found bits lane t l e in clash (w .3) (only m (w .0) (state-low lane t (w .0) l (w .1) ∙ w .2)))
 
   not-larger : isMaximal n (has bits) s ≡ true → largerHas bits lane t ≡ false
   unfolding s word
   not-larger m =
-      refuted (largerHas bits lane t)
-      (λ e. let w = any-found highStates (λ i. hasWith bits lane i t) e in
-      let f : member lane (w .0) ≡ false = not-true (member lane (w .0)) (and-left (not (member lane (w .0))) (member (getD bits (lane + 2 ^ w .0) 0) t) (w .2)) in
-      clash (has-high bits lane t (w .0) l ∙ and-right (not (member lane (w .0))) (member (getD bits (lane + 2 ^ w .0) 0) t) (w .2))
-      (only m (laneStates + w .0) (state-high lane t (w .0) l ∙ f)))
+      refuted (largerHas bits lane t) (λ e. let w = larger-found bits lane t l e in clash (w .3) (only m (laneStates + w .0) (state-high lane t (w .0) l ∙ w .2)))
 
   -- what the code computes of a lane
   pub top-is : (member (getD bits lane 0) t && not (largerHas bits lane t || coveredBy (getD bits lane 0) t)) ≡ isMaximal n (has bits) (lane * laneSets + t)
