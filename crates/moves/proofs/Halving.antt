@@ -152,15 +152,15 @@ halving-room moves half i size l b k =
 low-member : (s i : ℕ) → i < halfStates → member (s % halfSets) i ≡ member s i
 low-member s i l =
     ap (λ (x : ℕ). eqb x 1)
-    (ap (λ (m : ℕ). s % 2 ^ m / 2 ^ i % 2) six
+    (ap (λ (m : ℕ). s % 2 ^ m / 2 ^ i % 2) rest
     ∙ ap (λ (x : ℕ). x % 2) (field s (halfStates - i) i)
     ∙ ap (λ (m : ℕ). s / 2 ^ i % 2 ^ m % 2) one
-    ∙ mod-mod-pow (s / 2 ^ i) (5 - i) 1)
+    ∙ mod-mod-pow (s / 2 ^ i) (halfStates - 1 - i) 1)
   where
-    six : halfStates ≡ halfStates - i + i
-    six = omega arith
+    rest : halfStates ≡ halfStates - i + i
+    rest = omega arith
 
-    one : halfStates - i ≡ 5 - i + 1
+    one : halfStates - i ≡ halfStates - 1 - i + 1
     one = omega arith
 
 high-member : (s i : ℕ) → member (s / halfSets) i ≡ member s (halfStates + i)
