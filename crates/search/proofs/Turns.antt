@@ -12,10 +12,10 @@ use native.Mathlib.Nat.{lt-of-lt-of-le}
 use borrow.Author.Tests.{eq-eqb, ne-eqb}
 use Rattle.sets.specs.Mask.{common}
 use Rattle.sets.specs.Bounded.{all, any}
-use Rattle.sets.specs.Family.{Family}
+use Rattle.sets.specs.Family.{Family, DownClosed}
 use Rattle.sets.proofs.Logic.{decided, refuted, and-intro, and-false-left, and-false-right}
-use Rattle.sets.proofs.Bounded.{all-refuted, any-intro}
-use Rattle.sets.proofs.Mask.{common-lt}
+use Rattle.sets.proofs.Bounded.{all-intro, all-refuted, any-intro}
+use Rattle.sets.proofs.Mask.{common-lt, common-subset-left, unionOver-lt}
 use Rattle.families.specs.Bits.{laneSets, lanes}
 use Rattle.games.specs.Game.{Game, Accepted}
 use Rattle.games.specs.Step.{safe, enabledAt, post, after, meets, step}
@@ -43,6 +43,12 @@ module _ (g : Game) (F : Family) (s a : ℕ) (r : Walked) (is : r ≡ walked g s
       sym
       (ap (λ (b : Bool). b && all (g .observations) (λ o. F (common (post g s a) (g .shown o)))) (w .0)
       ∙ ap (λ (v : ℕ). all (g .observations) (λ o. F (common v (g .shown o)))) (w .1))
+
+  -- where the family has the successors and the subsets of its sets, it meets the step
+  pub meets-whole : DownClosed F → (u : ℕ) → r ≡ Post u → F u ≡ true → true ≡ meets g F s a
+  unfolding shownIn
+  meets-whole down u e h =
+      sym (all-intro (g .observations) (λ j. F (common u (g .shown j))) (λ j l. down u (common u (g .shown j)) h (common-subset-left u (g .shown j)))) ∙ meets-shown u e
 
   pub meets-blocked : r ≡ Blocked → false ≡ meets g F s a
   unfolding walked meets
@@ -100,3 +106,8 @@ lane-inside n s h = shr-lt (n - 6) 6 (lt-of-lt-of-le h (pow-mono (omega arith)))
 pub lanes-few : (w : List ℕ) → Sized w → lanes (game w .states) ≤ 64
 unfolding lanes
 lanes-few w z = pow-mono {i = game w .states - 6} {j = 6} (omega (arith, few-states w z))
+
+-- the successors of a set have no state from n up
+pub post-below : (g : Game) → Accepted g → (s a : ℕ) → a < g .actions → post g s a < 2 ^ g .states
+unfolding post
+post-below g A s a l = unionOver-lt (g .states) s (g .successors a) (g .states) (λ i b. A .successors-below a i l b)

@@ -3,6 +3,7 @@ ghost use mathlib.Core.Path.{_≡_};
 ghost use Prim.Native.Nat.{ℕ, _+_, _*_, _^_, _<_, _≤_};
 ghost use lib.ListN.{length};
 ghost use Rattle.sets.specs.Mask.{member};
+ghost use Rattle.sets.specs.Family.{DownClosed};
 ghost use Rattle.families.specs.Bits.{lanes, has as isIn, Bits};
 ghost use Rattle.games.specs.Words.{game};
 ghost use Rattle.games.specs.Step.{meets, step, good};
@@ -35,19 +36,22 @@ fn shown_in(table: &[u32], family: &[u64], u: u32) -> bool
 
 // The action is enabled at all members of s, and leads to sets of the family.
 fn action_meets(table: &[u32], low: &[u32], high: &[u32], family: &[u64], s: u32, a: Action) -> bool
-    requires { ⌜ (checked (now table) ≡ Fine) × (length (now family) ≡ lanes (game (now table) .states)) × (a .0 < game (now table) .actions) × Tabled (game (now table)) (now low) (now high) × (s < 2 ^ game (now table) .states) ⌝ }
+    requires { ⌜ (checked (now table) ≡ Fine) × (length (now family) ≡ lanes (game (now table) .states)) × (a .0 < game (now table) .actions) × Tabled (game (now table)) (now low) (now high) × (s < 2 ^ game (now table) .states) × DownClosed (isIn (now family)) ⌝ }
     ensures { λ r. ⌜ r ≡ meets (game (now (table .entry))) (isIn (now (family .entry))) s (a .0) ⌝ }
 {
     let walked = moves::post(table, low, high, s, a);
     let Walked::Post(u) = walked else {
         return false;
     };
+    if families::has(family, u) {
+        return true; // so are its subsets
+    }
     shown_in(table, family, u)
 }
 
 // The step: a set with no bad state for which one action meets it.
 fn meets_step(table: &[u32], low: &[u32], high: &[u32], family: &[u64], s: u32) -> bool
-    requires { ⌜ (checked (now table) ≡ Fine) × (length (now family) ≡ lanes (game (now table) .states)) × Tabled (game (now table)) (now low) (now high) × (s < 2 ^ game (now table) .states) ⌝ }
+    requires { ⌜ (checked (now table) ≡ Fine) × (length (now family) ≡ lanes (game (now table) .states)) × Tabled (game (now table)) (now low) (now high) × (s < 2 ^ game (now table) .states) × DownClosed (isIn (now family)) ⌝ }
     ensures { λ r. ⌜ r ≡ step (game (now (table .entry))) (isIn (now (family .entry))) s ⌝ }
 {
     if s & tables::bad(table) != 0 {

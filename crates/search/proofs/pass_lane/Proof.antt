@@ -55,7 +55,7 @@ add-meets-step c = omega (arith, small (c .before .before .before .before .befor
 meets-step-requires : tie.Need-meets-step-requires Inv-loop μ-loop
 meets-step-requires c κs =
     let start = c .before .before .before .before .before .before .before in
-    (start .pre .0, start .pre .1 .size, start .pre .2, top-below (game (start .args .table .now)) (start .args .family .now) (start .pre .1) (start .args .lane) (c .before .loop .found) (c .before .loop .left) (c .before .loop .inv) _ (top c))
+    (start .pre .0, start .pre .1 .size, start .pre .2, top-below (game (start .args .table .now)) (start .args .family .now) (start .pre .1) (start .args .lane) (c .before .loop .found) (c .before .loop .left) (c .before .loop .inv) _ (top c), start .pre .1 .down)
 
 subsets-requires : tie.Need-subsets-requires Inv-loop μ-loop
 subsets-requires c κs = top (c .before .before) .small
