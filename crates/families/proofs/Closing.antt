@@ -18,7 +18,8 @@ use Rattle.sets.proofs.Logic.{decided, refuted, same-truth, and-left, and-right
 use Rattle.sets.proofs.Bounded.{any-found, any-intro, any-refuted}
 use Rattle.sets.proofs.Mask.{member-zero, member-or, subset-refl, subset-trans, subset-le, subset-lt, subset-witness, subset-antisym, subset-add, add-subset}
 use Rattle.sets.proofs.Family.{DownBelow, listed-mem, mem-listed, holds-found, holds-intro}
-use Rattle.families.specs.Bits.{laneSets, highStates, mostStates, lanes, has, Bits, Closed, Holding, hasWith, largerHas, lowHas, aboveHas, laneStates}
+use Rattle.games.specs.Format.{maxStates}
+use Rattle.families.specs.Bits.{laneSets, highStates, lanes, has, Bits, Closed, Holding, hasWith, largerHas, lowHas, aboveHas, laneStates}
 use Rattle.families.proofs.Lanes.{lane-there, has-at, subset-lane}
 
 -- ---- the lanes above
@@ -147,7 +148,7 @@ module _ (n : ℕ) (list entry first last : List ℕ) (h : Holding n list entry)
 -- ---- families with all subsets
 
 -- the bits of a family that has the subsets of its sets have them too
-pub bits-closed : (n : ℕ) (F : Family) (bits : List ℕ) → n ≤ mostStates → Bits n F bits → DownBelow n F → Closed n bits
+pub bits-closed : (n : ℕ) (F : Family) (bits : List ℕ) → n ≤ maxStates → Bits n F bits → DownBelow n F → Closed n bits
 bits-closed n F bits h b d = record {
   states = h;
   size = b .size;

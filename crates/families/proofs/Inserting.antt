@@ -13,7 +13,7 @@ use Rattle.sets.specs.Mask.{member, union}
 use Rattle.sets.specs.Family.{listed}
 use Rattle.sets.proofs.Logic.{decided}
 use Rattle.sets.proofs.Mask.{member-zero, member-or, member-single, member-single-other}
-use Rattle.sets.proofs.Family.{mem-at, listed-none, listed-more}
+use Rattle.sets.proofs.Family.{at-mem, listed-none, listed-more}
 use Rattle.families.specs.Bits.{laneSets, has, Holding}
 use Rattle.families.proofs.Lanes.{lane-there, has-stored, has-kept}
 
@@ -37,7 +37,7 @@ none-inserted list bits e s =
 
 -- the mask at i has a lane
 pub mask-lane : (n : ℕ) (list bits : List ℕ) → Holding n list bits → (i : ℕ) → i < length list → getD list i 0 / laneSets < length bits
-mask-lane n list bits h i l = omega (arith, lane-there n (getD list i 0) (h .masks (getD list i 0) (mem-at list i l)), h .size)
+mask-lane n list bits h i l = omega (arith, lane-there n (getD list i 0) (h .masks (getD list i 0) (at-mem list i l)), h .size)
 
 single-is : (k t : ℕ) → member (2 ^ k) t ≡ eqb k t
 single-is k t =

@@ -13,7 +13,8 @@ use lib.Pow.{pow-pos, pow-lt, pow-mono, pow-add, high, low, split}
 use borrow.Author.Tests.{eq-eqb, ne-eqb, not-true}
 use Rattle.sets.specs.Mask.{member, common, union, subset}
 use Rattle.sets.specs.Bounded.{all, any}
-use Rattle.families.specs.Bits.{laneStates, laneSets, highStates, mostStates, lanes, has, hasWith, largerHas, wordWith, coveredBy}
+use Rattle.games.specs.Format.{maxStates}
+use Rattle.families.specs.Bits.{laneStates, laneSets, highStates, lanes, has, hasWith, largerHas, wordWith, coveredBy}
 use Rattle.sets.proofs.Logic.{decided, clash, same-truth, and-left, and-right, and-intro, or-cases, or-left, or-right, false-not, and-false-left, and-false-right, true-not}
 use Rattle.sets.proofs.Bounded.{all-more, all-at, all-intro, any-zero, any-more, any-found, any-intro}
 use Rattle.sets.proofs.Mask.{member-zero, member-and, member-or, member-shift, member-low, member-rest, subset-intro, subset-member, subset-add, add-lt, subset-parts}
@@ -170,14 +171,14 @@ pub subset-lane : (s t : ℕ) → subset s t ≡ (subset (s / laneSets) (t / lan
 subset-lane s t = subset-parts laneStates s t
 
 -- there are at most as many lanes as six states tell apart
-pub lanes-few : (n : ℕ) → n ≤ mostStates → lanes n ≤ 2 ^ highStates
+pub lanes-few : (n : ℕ) → n ≤ maxStates → lanes n ≤ 2 ^ highStates
 unfolding lanes
 lanes-few n h =
     let l : n - laneStates ≤ highStates = omega arith in
     pow-mono l
 
 -- a family of so many states has no more
-pub few-lanes : (n : ℕ) (bits : List ℕ) → n ≤ mostStates → length bits ≡ lanes n → length bits ≤ 2 ^ highStates
+pub few-lanes : (n : ℕ) (bits : List ℕ) → n ≤ maxStates → length bits ≡ lanes n → length bits ≤ 2 ^ highStates
 few-lanes n bits h e = omega (arith, lanes-few n h)
 
 -- they have room for all sets

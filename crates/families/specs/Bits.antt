@@ -6,6 +6,7 @@ use mathlib.Core.List.{List, [], _∷_, List·Memᴰ}
 use Prim.Native.Nat.{ℕ, _+_, _-_, _/_, _%_, _^_, _≤_, _<_}
 use lib.ListN.{length, getD}
 use Rattle.sets.specs.Mask.{member, subset}
+use Rattle.games.specs.Format.{maxStates}
 use Rattle.sets.specs.Bounded.{any}
 use Rattle.sets.specs.Family.{Family, DownClosed}
 
@@ -16,12 +17,9 @@ laneStates = 6
 abbrev pub laneSets : ℕ
 laneSets = 2 ^ laneStates
 
--- the states from 6 up tell the lanes apart: at most six
+-- the states from 6 up tell the lanes apart: document 01's limit leaves six
 abbrev pub highStates : ℕ
-highStates = 6
-
-abbrev pub mostStates : ℕ
-mostStates = laneStates + highStates
+highStates = maxStates - laneStates
 
 abbrev pub maxLanes : ℕ
 maxLanes = 2 ^ highStates
@@ -42,14 +40,14 @@ pub record Bits (n : ℕ) (F : Family) (bits : List ℕ) : Type 0 where
 
 -- the bits are those of some family of sets of n states that has the subsets of its sets
 pub record Closed (n : ℕ) (bits : List ℕ) : Type 0 where
-  pub states : n ≤ mostStates
+  pub states : n ≤ maxStates
   pub size : length bits ≡ lanes n
   pub within : (s : ℕ) → has bits s ≡ true → s < 2 ^ n
   pub down : DownClosed (has bits)
 
 -- the list's masks are of n states, and there is a lane for each
 pub record Holding (n : ℕ) (list bits : List ℕ) : Type 0 where
-  pub states : n ≤ mostStates
+  pub states : n ≤ maxStates
   pub masks : (s : ℕ) → List·Memᴰ s list → s < 2 ^ n
   pub size : length bits ≡ lanes n
 

@@ -7,7 +7,8 @@ ghost use lib.ListN.{length, getD, take, drop, replicate};
 ghost use Rattle.sets.specs.Mask.{member, subset};
 ghost use Rattle.sets.specs.Bounded.{count as countOf, select};
 ghost use Rattle.sets.specs.Family.{listed, holds, isMaximal, maximal};
-ghost use Rattle.families.specs.Bits.{laneStates, laneSets, mostStates, highStates, lanes, has as isIn, Bits, Closed, Holding, Lane, hasWith, largerHas, wordWith, coveredBy, lowHas, aboveHas, raised};
+ghost use Rattle.games.specs.Format.{maxStates};
+ghost use Rattle.families.specs.Bits.{laneStates, laneSets, highStates, lanes, has as isIn, Bits, Closed, Holding, Lane, hasWith, largerHas, wordWith, coveredBy, lowHas, aboveHas, raised};
 
 // The states below 6 tell the sets of a lane apart.
 const LANE_STATES: u32 = 6;
@@ -16,7 +17,7 @@ const LANE_STATES: u32 = 6;
 pub const LANE_SETS: u32 = 1 << LANE_STATES;
 
 // The states from 6 up: they tell the lanes apart.
-const HIGH_STATES: u32 = 6;
+const HIGH_STATES: u32 = games::MAX_STATES - LANE_STATES;
 
 // The most lanes.
 pub const MAX_LANES: usize = 1 << HIGH_STATES;
@@ -36,7 +37,7 @@ const WITHOUT: [u64; 6] = [
 
 // How many lanes the sets of n states take.
 pub fn lane_count(n: u32) -> usize
-    requires { ⌜ n ≤ mostStates ⌝ }
+    requires { ⌜ n ≤ maxStates ⌝ }
     ensures { λ r. ⌜ r ≡ lanes n ⌝ }
 {
     if n <= LANE_STATES {

@@ -17,7 +17,7 @@ use Rattle.sets.specs.Family.{Family, holds, maximal}
 use Rattle.sets.proofs.Logic.{decided, clash}
 use Rattle.sets.proofs.Bounded.{first-some, first-found}
 use Rattle.sets.proofs.Mask.{member-zero, subset-member}
-use Rattle.sets.proofs.Family.{holds-found, mem-maximal}
+use Rattle.sets.proofs.Family.{at-mem, mem-at, holds-found, mem-maximal}
 use Rattle.games.specs.Game.{Game, Accepted, Shows, enabled}
 use Rattle.games.specs.Play.{Strategy, Play, PlayOf, Under, Lasts, Clear, last, seen, rounds}
 use Rattle.games.specs.Step.{after, meets, lowest, step, antichain, settling}
@@ -29,19 +29,6 @@ use Rattle.games.proofs.Plays.{rounds-from-one}
 use Rattle.games.proofs.Memory.{from, memory, holds-on, memory-lasts}
 use Rattle.games.proofs.Lasting.{lowest-below, stepped-survives, stepped-in, stepped-member, start-below, start-member, starts-at}
 use Rattle.games.proofs.Settling.{settled-step, cells-hold}
-
--- what stands at a place of a list is listed, and what is listed stands at a place
-pub at-mem : (l : List ℕ) (c : ℕ) → c < length l → List·Memᴰ (getD l c 0) l
-at-mem [] c h = absurd (not-suc-le-zero h)
-at-mem (x ∷ l) zero h = List·Memᴰ·head refl
-at-mem (x ∷ l) (suc c) h = List·Memᴰ·tail (at-mem l c (le-of-suc-le-suc h))
-
-pub mem-at : (l : List ℕ) (s : ℕ) → List·Memᴰ s l → (c : ℕ) × (c < length l) × (getD l c 0 ≡ s)
-mem-at [] s m = absurd (List·Memᴰ·not-nil m)
-mem-at (x ∷ l) s m = go (mem-at l s) (List·Memᴰ·cases-cons m)
-  where
-    go : (List·Memᴰ s l → (c : ℕ) × (c < length l) × (getD l c 0 ≡ s)) → (s ≡ x) ⊎ List·Memᴰ s l → (c : ℕ) × (c < length (x ∷ l)) × (getD (x ∷ l) c 0 ≡ s)
-    go down = ⊎-elim (λ e. (0, omega arith, sym e)) (λ n. let w = down n in (suc (w .0), omega arith, w .2))
 
 -- the memory theorem's memory, where it is an automaton's cell
 from-cell : (B : Automaton) (c : ℕ) (h : List ℕ) → from noCell (B .begins) (B .next) c h ≡ cellFrom B c h

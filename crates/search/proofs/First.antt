@@ -16,12 +16,11 @@ use Rattle.sets.specs.Mask.{member, union, common, subset}
 use Rattle.sets.specs.Family.{holds}
 use Rattle.sets.proofs.Logic.{or-right, and-left, and-right, and-intro, false-not, same-truth}
 use Rattle.sets.proofs.Mask.{member-zero, member-beyond, member-or, member-single, member-single-other, union-lt, subset-member, subset-intro, common-zero-intro}
-use Rattle.sets.proofs.Family.{holds-found, holds-intro}
+use Rattle.sets.proofs.Family.{at-mem, mem-at, holds-found, holds-intro}
 use Rattle.families.specs.Bits.{Bits}
 use Rattle.games.specs.Game.{Game, enabled}
 use Rattle.games.specs.Step.{safe, good}
 use Rattle.games.proofs.Steps.{safe-at, enabled-at, enabled-intro, meets-intro, meets-enabled, step-safe, step-action, step-intro}
-use Rattle.games.proofs.Winning.{at-mem, mem-at}
 use Rattle.search.specs.Stages.{isOpen, OpenStates}
 
 -- one action and one state: z is the successors, b whether the state is bad

@@ -21,26 +21,23 @@ use Rattle.sets.proofs.Logic.{decided, clash, refuted, affirmed, same-truth, an
 use Rattle.sets.proofs.Bounded.{any-found}
 use Rattle.sets.proofs.Mask.{member-zero, member-and, member-or, member-below, member-rest, ext, subset-parts, subset-refl, subset-le, subset-add, common-lt, member-sub-same, member-sub-other, sub-less}
 use Rattle.families.specs.Bits.{laneSets, highStates, lanes, has, hasWith, largerHas, Bits}
+use Rattle.families.proofs.Lanes.{has-at, by-lane, lane-there}
 use Rattle.games.specs.Game.{Game}
 use Rattle.games.specs.Step.{step}
 use Rattle.games.proofs.Steps.{step-mono}
 use Rattle.search.specs.Stages.{Stage, Meets, Sound, Passed}
-use Rattle.search.proofs.Turns.{lane-inside}
 
 -- ---- a set by its lane and its place there
 
-pub lane-of : (lane t : ℕ) → t < laneSets → (laneSets * lane + t) / laneSets ≡ lane
+lane-of : (lane t : ℕ) → t < laneSets → (lane * laneSets + t) / laneSets ≡ lane
 lane-of lane t l = omega arith
 
-pub place-of : (lane t : ℕ) → t < laneSets → (laneSets * lane + t) % laneSets ≡ t
+place-of : (lane t : ℕ) → t < laneSets → (lane * laneSets + t) % laneSets ≡ t
 place-of lane t l = omega arith
 
-pub has-place : (bits : List ℕ) (lane t : ℕ) → t < laneSets → has bits (laneSets * lane + t) ≡ member (getD bits lane 0) t
-has-place bits lane t l = ap₂ (λ (x y : ℕ). member (getD bits x 0) y) (lane-of lane t l) (place-of lane t l)
-
-pub lane-subset : (lane t h : ℕ) → t < laneSets → h < laneSets → subset t h ≡ true → subset (laneSets * lane + t) (laneSets * lane + h) ≡ true
+lane-subset : (lane t h : ℕ) → t < laneSets → h < laneSets → subset t h ≡ true → subset (lane * laneSets + t) (lane * laneSets + h) ≡ true
 lane-subset lane t h l m i =
-    subset-parts 6 (laneSets * lane + t) (laneSets * lane + h)
+    subset-parts 6 (lane * laneSets + t) (lane * laneSets + h)
     ∙ and-intro
     (ap₂ subset (lane-of lane t l) (lane-of lane h m) ∙ subset-refl lane)
     (ap₂ subset (place-of lane t l) (place-of lane h m) ∙ i)
@@ -82,7 +79,7 @@ pub record Trying (g : Game) (bits : List ℕ) (lane found left : ℕ) : Type 0 
   pub sound : Sound g (has bits) lane found
   pub narrow : left < 2 ^ 64
   pub of-family : (t : ℕ) → member left t ≡ true → member (getD bits lane 0) t ≡ true
-  pub fails : (t : ℕ) → t < laneSets → member (getD bits lane 0) t ≡ true → member found t ≡ false → member left t ≡ false → step g (has bits) (laneSets * lane + t) ≡ false
+  pub fails : (t : ℕ) → t < laneSets → member (getD bits lane 0) t ≡ true → member found t ≡ false → member left t ≡ false → step g (has bits) (lane * laneSets + t) ≡ false
 
 -- a word without the sets of another
 without : (x y t : ℕ) → y < 2 ^ 64 → t < laneSets → member (common x ((2 ^ 64 - 1) - y)) t ≡ (member x t && not (member y t))
@@ -100,8 +97,8 @@ module _ (g : Game) (bits : List ℕ) (S : Stage g bits) (lane : ℕ) where
       }
 
   module _ (found left : ℕ) (w : Trying g bits lane found left) (h : ℕ) (top : Highest left h) where
-    pub top-below : laneSets * lane + h < 2 ^ g .states
-    top-below = S .within (laneSets * lane + h) (has-place bits lane h (top .small) ∙ w .of-family h (top .here))
+    pub top-below : lane * laneSets + h < 2 ^ g .states
+    top-below = S .within (lane * laneSets + h) (has-at bits lane h (top .small) ∙ w .of-family h (top .here))
 
     -- a set that meets the step settles its subsets
     module _ (below : ℕ) (b : below < 2 ^ 64) (is : (t : ℕ) → t < laneSets → member below t ≡ subset t h) where
@@ -111,13 +108,13 @@ module _ (g : Game) (bits : List ℕ) (S : Stage g bits) (lane : ℕ) where
           let gone : member rest h ≡ false = without left below h b (top .small) ∙ ap (λ (x : Bool). member left h && not x) (is h (top .small) ∙ subset-refl h) ∙ ap (λ (x : Bool). x && false) (top .here) in
           ⊎-elim (λ e. absurd (clash (top .here) (ap (λ (x : ℕ). member x h) (sym e) ∙ gone))) (λ l. l) (eq-or-lt-of-le (and-le-l left ((2 ^ 64 - 1) - below)))
 
-      pub trying-hit : true ≡ step g (has bits) (laneSets * lane + h) → Trying g bits lane (union found below) (common left ((2 ^ 64 - 1) - below))
+      pub trying-hit : true ≡ step g (has bits) (lane * laneSets + h) → Trying g bits lane (union found below) (common left ((2 ^ 64 - 1) - below))
       trying-hit y =
           record {
             sound = λ t m. ⊎-elim (w .sound t) (λ n.
                 let l : t < laneSets = member-below 64 below t b n in
                 let i = lane-subset lane t h l (top .small) (sym (is t l) ∙ n) in
-                (lt-of-le-of-lt (subset-le (laneSets * lane + t) (laneSets * lane + h) i) top-below, step-mono g (has bits) (has bits) (λ s u j p. S .down s u p j) (laneSets * lane + h) (laneSets * lane + t) i (sym y)))
+                (lt-of-le-of-lt (subset-le (lane * laneSets + t) (lane * laneSets + h) i) top-below, step-mono g (has bits) (has bits) (λ s u j p. S .down s u p j) (lane * laneSets + h) (lane * laneSets + t) i (sym y)))
                 (or-cases (member found t) (member below t) (sym (member-or found below t) ∙ m));
             narrow = lt-of-le-of-lt (and-le-l left ((2 ^ 64 - 1) - below)) (w .narrow);
             of-family = λ t m. w .of-family t (and-left (member left t) (member ((2 ^ 64 - 1) - below) t) (sym (member-and left ((2 ^ 64 - 1) - below) t) ∙ m));
@@ -131,13 +128,13 @@ module _ (g : Game) (bits : List ℕ) (S : Stage g bits) (lane : ℕ) where
     pub miss-less : left - 2 ^ h < left
     miss-less = sub-less left h (top .here)
 
-    pub trying-miss : false ≡ step g (has bits) (laneSets * lane + h) → Trying g bits lane found (left - 2 ^ h)
+    pub trying-miss : false ≡ step g (has bits) (lane * laneSets + h) → Trying g bits lane found (left - 2 ^ h)
     trying-miss f₀ =
         record {
           sound = w .sound;
           narrow = omega (arith, w .narrow);
           of-family = λ t m. w .of-family t (⊎-elim (λ e. ap (member left) e ∙ top .here) (λ n. sym (member-sub-other left h (top .here) t n) ∙ m) (same-or t h));
-          fails = λ t l m f e. ⊎-elim (λ q. ap (λ (x : ℕ). step g (has bits) (laneSets * lane + x)) q ∙ sym f₀) (λ n. w .fails t l m f (sym (member-sub-other left h (top .here) t n) ∙ e)) (same-or t h);
+          fails = λ t l m f e. ⊎-elim (λ q. ap (λ (x : ℕ). step g (has bits) (lane * laneSets + x)) q ∙ sym f₀) (λ n. w .fails t l m f (sym (member-sub-other left h (top .here) t n) ∙ e)) (same-or t h);
         }
 
   pub trying-end : (found left : ℕ) → Trying g bits lane found left → left ≡ 0 → Passed g (has bits) lane found
@@ -145,7 +142,7 @@ module _ (g : Game) (bits : List ℕ) (S : Stage g bits) (lane : ℕ) where
       record {
         sound = w .sound;
         complete = λ t l m.
-            let here : member (getD bits lane 0) t ≡ true = sym (has-place bits lane t l) ∙ S .falls (laneSets * lane + t) (m .0) (m .1) in
+            let here : member (getD bits lane 0) t ≡ true = sym (has-at bits lane t l) ∙ S .falls (lane * laneSets + t) (m .0) (m .1) in
             affirmed (member found t) (λ f. clash (m .1) (w .fails t l here f (ap (λ (x : ℕ). member x t) e ∙ member-zero t)));
       }
 
@@ -157,21 +154,17 @@ pub record Passing (g : Game) (bits : List ℕ) (lane : ℕ) (next : List ℕ) :
   pub done : (m : ℕ) → lane ≤ m → m < length bits → Passed g (has bits) m (getD next m 0)
 
 -- a lane that has a set is there
-lane-there : (d : List ℕ) (m t : ℕ) → member (getD d m 0) t ≡ true → m < length d
-lane-there [] m t h = clash h (member-zero t)
-lane-there (x ∷ d) zero t h = zero-lt-suc (length d)
-lane-there (x ∷ d) (suc m) t h = suc-le-suc (lane-there d m t h)
+lane-listed : (d : List ℕ) (m t : ℕ) → member (getD d m 0) t ≡ true → m < length d
+lane-listed [] m t h = clash h (member-zero t)
+lane-listed (x ∷ d) zero t h = zero-lt-suc (length d)
+lane-listed (x ∷ d) (suc m) t h = suc-le-suc (lane-listed d m t h)
 
-grown-subset : (lane i t : ℕ) → member lane i ≡ false → t < laneSets → subset (laneSets * lane + t) (laneSets * (lane + 2 ^ i) + t) ≡ true
+grown-subset : (lane i t : ℕ) → member lane i ≡ false → t < laneSets → subset (lane * laneSets + t) ((lane + 2 ^ i) * laneSets + t) ≡ true
 grown-subset lane i t h l =
-    subset-parts 6 (laneSets * lane + t) (laneSets * (lane + 2 ^ i) + t)
+    subset-parts 6 (lane * laneSets + t) ((lane + 2 ^ i) * laneSets + t)
     ∙ and-intro
     (ap₂ subset (lane-of lane t l) (lane-of (lane + 2 ^ i) t l) ∙ subset-add lane i h)
     (ap₂ subset (place-of lane t l) (place-of (lane + 2 ^ i) t l) ∙ subset-refl t)
-
--- a set is that of its lane at its place
-whole : (s : ℕ) → laneSets * (s / laneSets) + s % laneSets ≡ s
-whole s = omega arith
 
 module _ (g : Game) (bits : List ℕ) (S : Stage g bits) (next : List ℕ) where
   pub passing-none : length next ≡ length bits → Passing g bits (length bits) next
@@ -185,10 +178,10 @@ module _ (g : Game) (bits : List ℕ) (S : Stage g bits) (next : List ℕ) where
       let i = f .0 in
       let lacks : member lane i ≡ false = not-true (member lane i) (and-left (not (member lane i)) (member (getD next (lane + 2 ^ i) 0) t) (f .2)) in
       let has-it = and-right (not (member lane i)) (member (getD next (lane + 2 ^ i) 0) t) (f .2) in
-      let there : lane + 2 ^ i < length next = lane-there next (lane + 2 ^ i) t has-it in
+      let there : lane + 2 ^ i < length next = lane-listed next (lane + 2 ^ i) t has-it in
       let p = w .done (lane + 2 ^ i) (omega (arith, pow-pos i)) (omega (arith, w .size)) .sound t has-it in
       let sub = grown-subset lane i t lacks l in
-      (lt-of-le-of-lt (subset-le (laneSets * lane + t) (laneSets * (lane + 2 ^ i) + t) sub) (p .0), step-mono g (has bits) (has bits) (λ s u j q. S .down s u q j) (laneSets * (lane + 2 ^ i) + t) (laneSets * lane + t) sub (p .1))
+      (lt-of-le-of-lt (subset-le (lane * laneSets + t) ((lane + 2 ^ i) * laneSets + t) sub) (p .0), step-mono g (has bits) (has bits) (λ s u j q. S .down s u q j) ((lane + 2 ^ i) * laneSets + t) (lane * laneSets + t) sub (p .1))
 
   pub passing-more : (above lane : ℕ) → above ≡ lane + 1 → Passing g bits above next → lane < length bits → (r : ℕ) → Passed g (has bits) lane r → Passing g bits lane (set next lane r)
   passing-more above lane is-next w l r p =
@@ -208,18 +201,18 @@ module _ (g : Game) (bits : List ℕ) (S : Stage g bits) (next : List ℕ) where
         at = λ s l.
             same-truth (has next s) (step g (has bits) s)
             (λ h. inside s h .1)
-            (λ h. w .done (s / laneSets) (omega arith) (subst (λ (k : ℕ). s / laneSets < k) (sym (S .size)) (lane-inside (g .states) s l)) .complete (s % laneSets) (omega arith) (subst (λ (x : ℕ). Meets g (has bits) x) (sym (whole s)) (l, h)));
+            (λ h. w .done (s / laneSets) (omega arith) (subst (λ (k : ℕ). s / laneSets < k) (sym (S .size)) (lane-there (g .states) s l)) .complete (s % laneSets) (omega arith) (subst (λ (x : ℕ). Meets g (has bits) x) (sym (by-lane s)) (l, h)));
         within = λ s h. inside s h .0;
       }
     where
       inside : (s : ℕ) → has next s ≡ true → Meets g (has bits) s
-      inside s h = subst (λ (x : ℕ). Meets g (has bits) x) (whole s) (w .done (s / laneSets) (omega arith) (subst (λ (k : ℕ). s / laneSets < k) (w .size) (lane-there next (s / laneSets) (s % laneSets) h)) .sound (s % laneSets) h)
+      inside s h = subst (λ (x : ℕ). Meets g (has bits) x) (by-lane s) (w .done (s / laneSets) (omega arith) (subst (λ (k : ℕ). s / laneSets < k) (w .size) (lane-listed next (s / laneSets) (s % laneSets) h)) .sound (s % laneSets) h)
 
 -- ---- comparing and copying
 
 -- where two families have the same sets, their words are the same
 pub words-same : (d e : List ℕ) (i : ℕ) → getD d i 0 < 2 ^ 64 → getD e i 0 < 2 ^ 64 → ((s : ℕ) → has d s ≡ has e s) → getD d i 0 ≡ getD e i 0
-words-same d e i k l h = ext 64 (getD d i 0) (getD e i 0) k l (λ t m. sym (has-place d i t m) ∙ h (laneSets * i + t) ∙ has-place e i t m)
+words-same d e i k l h = ext 64 (getD d i 0) (getD e i 0) k l (λ t m. sym (has-at d i t m) ∙ h (i * laneSets + t) ∙ has-at e i t m)
 
 pub copy-none : (d e : List ℕ) → (j : ℕ) → j < 0 → getD e j 0 ≡ getD d j 0
 copy-none d e = below-none (λ j. getD e j 0 ≡ getD d j 0)

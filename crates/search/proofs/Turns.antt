@@ -7,8 +7,7 @@ use mathlib.Core.List.{List}
 use Prim.Native.Nat.{ℕ, _+_, _-_, _/_, _^_, _≤_, _<_}
 use native.Mathlib.Omega.{arith}
 use lib.ListN.{length}
-use lib.Pow.{pow-mono, shr-lt}
-use native.Mathlib.Nat.{lt-of-lt-of-le}
+use lib.Pow.{pow-mono}
 use borrow.Author.Tests.{eq-eqb, ne-eqb}
 use Rattle.sets.specs.Mask.{common}
 use Rattle.sets.specs.Bounded.{all, any}
@@ -16,7 +15,9 @@ use Rattle.sets.specs.Family.{Family, DownClosed}
 use Rattle.sets.proofs.Logic.{decided, refuted, and-intro, and-false-left, and-false-right}
 use Rattle.sets.proofs.Bounded.{all-intro, all-refuted, any-intro}
 use Rattle.sets.proofs.Mask.{common-lt, common-subset-left, unionOver-lt}
-use Rattle.families.specs.Bits.{laneSets, lanes}
+use Rattle.families.specs.Bits.{maxLanes, lanes}
+use Rattle.families.proofs.Lanes.{lanes-few}
+use Rattle.games.specs.Format.{maxActions, maxSets, maxStates}
 use Rattle.games.specs.Game.{Game, Accepted}
 use Rattle.games.specs.Step.{safe, enabledAt, post, after, meets, step}
 use Rattle.games.specs.Words.{game}
@@ -85,27 +86,21 @@ pub shown-below : (g : Game) → Accepted g → (u j : ℕ) → j < g .observati
 shown-below g A u j l = common-lt (g .states) u (g .shown j) (A .shown-below j l)
 
 -- n is at most 12, so there are few sets
-pub few-states : (w : List ℕ) → Sized w → game w .states ≤ 12
+pub few-states : (w : List ℕ) → Sized w → game w .states ≤ maxStates
 unfolding game
 few-states w z = z .limits .most-states
 
-pub few-actions : (w : List ℕ) → Sized w → game w .actions ≤ 8
+pub few-actions : (w : List ℕ) → Sized w → game w .actions ≤ maxActions
 unfolding game
 few-actions w z = z .limits .most-actions
 
-pub sets-few : (w : List ℕ) → Sized w → 2 ^ game w .states ≤ 4096
+pub sets-few : (w : List ℕ) → Sized w → 2 ^ game w .states ≤ maxSets
 unfolding game
 sets-few w z = pow-mono (z .limits .most-states)
 
--- every set of n states has its lane
-pub lane-inside : (n s : ℕ) → s < 2 ^ n → s / laneSets < lanes n
-unfolding lanes
-lane-inside n s h = shr-lt (n - 6) 6 (lt-of-lt-of-le h (pow-mono (omega arith)))
-
--- there are at most 64 lanes
-pub lanes-few : (w : List ℕ) → Sized w → lanes (game w .states) ≤ 64
-unfolding lanes
-lanes-few w z = pow-mono {i = game w .states - 6} {j = 6} (omega (arith, few-states w z))
+-- there are few lanes
+pub table-lanes : (w : List ℕ) → Sized w → lanes (game w .states) ≤ maxLanes
+table-lanes w z = lanes-few (game w .states) (few-states w z)
 
 -- the successors of a set have no state from n up
 pub post-below : (g : Game) → Accepted g → (s a : ℕ) → a < g .actions → post g s a < 2 ^ g .states

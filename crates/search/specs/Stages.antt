@@ -29,12 +29,12 @@ Meets g F s = (s < 2 ^ g .states) × (step g F s ≡ true)
 
 -- the word's sets, as sets of the lane, meet the step
 abbrev pub Sound : Game → Family → (lane word : ℕ) → Type 0
-Sound g F lane word = (t : ℕ) → member word t ≡ true → Meets g F (laneSets * lane + t)
+Sound g F lane word = (t : ℕ) → member word t ≡ true → Meets g F (lane * laneSets + t)
 
 -- the word has just the sets of the lane that meet the step
 pub record Passed (g : Game) (F : Family) (lane word : ℕ) : Type 0 where
   pub sound : Sound g F lane word
-  pub complete : (t : ℕ) → t < laneSets → Meets g F (laneSets * lane + t) → member word t ≡ true
+  pub complete : (t : ℕ) → t < laneSets → Meets g F (lane * laneSets + t) → member word t ≡ true
 
 -- the state is not bad, and the action is enabled in it
 unfoldable pub isOpen : Game → (a i : ℕ) → Bool

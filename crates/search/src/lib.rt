@@ -14,6 +14,7 @@ ghost use Rattle.search.specs.Stages.{shownIn, Stage, Sound, Passed, isO
 ghost use Rattle.search.specs.Found.{Reached, Searched};
 use families::LANE_SETS;
 use games::Action;
+use games::MAX_ACTIONS;
 use games::Observation;
 use games::State;
 use tables::Walked;
@@ -84,7 +85,7 @@ fn pass_lane(
     let mut left = family[lane as usize] & !covered;
     while left != 0 {
         let h = 63 - u64::leading_zeros(left);
-        if meets_step(table, low, high, family, LANE_SETS * lane + h) {
+        if meets_step(table, low, high, family, lane * LANE_SETS + h) {
             let below = families::subsets(h);
             found = found | below;
             left = left & !below;
@@ -141,7 +142,7 @@ fn first_family(table: &[u32], family: &mut [u64])
     ensures { λ _. ⌜ Bits (game (now (table .entry)) .states) (good (game (now (table .entry))) 1) (now (family .exit)) ⌝ }
 {
     let actions = tables::actions(table);
-    let mut masks = [0u32; 8];
+    let mut masks = [0u32; MAX_ACTIONS as usize];
     let mut a: u32 = 0;
     while a < actions {
         masks[a as usize] = open_states(table, Action(a));

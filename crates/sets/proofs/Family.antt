@@ -168,17 +168,17 @@ above n F s l f = climb (2 ^ n) n F s (omega arith) l f
 -- ---- members by index
 
 -- what stands at an index is a member
-pub mem-at : (l : List ℕ) (i : ℕ) → i < length l → List·Memᴰ (getD l i 0) l
-mem-at [] i h = absurd (not-suc-le-zero h)
-mem-at (u ∷ l) zero h = List·Memᴰ·head refl
-mem-at (u ∷ l) (suc i) h = List·Memᴰ·tail (mem-at l i (le-of-suc-le-suc h))
+pub at-mem : (l : List ℕ) (i : ℕ) → i < length l → List·Memᴰ (getD l i 0) l
+at-mem [] i h = absurd (not-suc-le-zero h)
+at-mem (u ∷ l) zero h = List·Memᴰ·head refl
+at-mem (u ∷ l) (suc i) h = List·Memᴰ·tail (at-mem l i (le-of-suc-le-suc h))
 
 -- a member stands at some index
-pub mem-index : (l : List ℕ) (t : ℕ) → List·Memᴰ t l → (i : ℕ) × (i < length l) × (getD l i 0 ≡ t)
-mem-index [] t m = absurd (List·Memᴰ·not-nil m)
-mem-index (u ∷ l) t m =
+pub mem-at : (l : List ℕ) (t : ℕ) → List·Memᴰ t l → (i : ℕ) × (i < length l) × (getD l i 0 ≡ t)
+mem-at [] t m = absurd (List·Memᴰ·not-nil m)
+mem-at (u ∷ l) t m =
     ⊎-elim (λ (e : t ≡ u). (0, zero-lt-suc (length l), sym e))
-    (λ (k : List·Memᴰ t l). let w = mem-index l t k in (suc (w .0), suc-le-suc (w .1), w .2))
+    (λ (k : List·Memᴰ t l). let w = mem-at l t k in (suc (w .0), suc-le-suc (w .1), w .2))
     (List·Memᴰ·cases-cons m)
 
 -- ---- a list as a family

@@ -10,6 +10,7 @@ use lib.ListN.{length, getD, take, drop, length-append, length-take, length-drop
 use lib.Seq.{take-at, drop-drop, drop-append-add, length-take-le}
 use borrow.Rule.Slice.PartMut.{putMid, postOf, take-put, drop-put, same-len-mid, mid-len, post-is}
 use Rattle.sets.specs.Bounded.{gather}
+use Rattle.games.specs.Format.{maxCells, maxObservations}
 use Rattle.games.specs.Game.{Game, Accepted}
 use Rattle.games.proofs.Winning.{cell-settled}
 use Rattle.tables.specs.Check.{checked}
@@ -143,18 +144,18 @@ module _ (g : Game) (l : List ℕ) (listed : l ≡ cells g) (p : ℕ) (part-is :
 
 -- ---- bounds while the card is written
 
-pub observations-at-most : (w : List ℕ) → checked w ≡ Fine → game w .observations ≤ 8
+pub observations-at-most : (w : List ℕ) → checked w ≡ Fine → game w .observations ≤ maxObservations
 unfolding game
 observations-at-most w h = sized w h .limits .most-observations
 
-pub cells-at-most : (w : List ℕ) → checked w ≡ Fine → (l : List ℕ) → l ≡ cells (game w) → length l ≤ 4096
+pub cells-at-most : (w : List ℕ) → checked w ≡ Fine → (l : List ℕ) → l ≡ cells (game w) → length l ≤ maxCells
 cells-at-most w h l e = omega (arith, ap length e, cells-few (game w), sets-few w (sized w h))
 
 pub prefix-room : (g : Game) (l d : List ℕ) (o : ℕ) → o ≡ g .observations → cardLength (length l) (g .observations) ≤ length d → 1 + o ≤ length d
 prefix-room g l d o e h = omega arith
 
 -- the products stay small
-pub parts-few : (o c m : ℕ) → 1 + o ≤ 9 → m ≤ 4096 → c ≤ m → c * (1 + o) ≤ 36864
+pub parts-few : (o c m : ℕ) → 1 + o ≤ 9 → m ≤ maxCells → c ≤ m → c * (1 + o) ≤ 36864
 parts-few o c m b few within = le-trans (mul-le-mul-right (1 + o) (le-trans within few)) (mul-le-mul-left 4096 b)
 
 pub cell-of : (g : Game) → Accepted g → (l : List ℕ) → l ≡ cells g → (c : ℕ) → c < length l → SettledSet g (getD l c 0)

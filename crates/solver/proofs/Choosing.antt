@@ -11,7 +11,8 @@ use Rattle.sets.specs.Bounded.{Found, nothing, found, first, orElse, gather, al
 use Rattle.sets.specs.Family.{holds}
 use Rattle.sets.proofs.Logic.{refuted, clash, and-intro}
 use Rattle.sets.proofs.Bounded.{first-none, first-nothing, first-skip, first-stop, all-more, all-refuted}
-use Rattle.sets.proofs.Family.{holds-found, holds-intro}
+use Rattle.sets.proofs.Family.{at-mem, mem-at, holds-found, holds-intro}
+use Rattle.games.specs.Format.{maxActions, maxCells, maxObservations}
 use Rattle.games.specs.Game.{Game, Accepted}
 use Rattle.games.specs.Step.{after, post, meets, lowest, step, settling, good}
 use Rattle.games.specs.Verdict.{settled, cells}
@@ -19,7 +20,6 @@ use Rattle.games.specs.Words.{word}
 use Rattle.games.specs.Automaton.{noCell, holding, chosen}
 use Rattle.games.proofs.Steps.{good-empty, step-action}
 use Rattle.games.proofs.Settling.{cells-hold, settled-step}
-use Rattle.games.proofs.Winning.{at-mem, mem-at}
 use Rattle.tables.specs.Walk.{walked}
 use Rattle.tables.specs.declared.Walked.{Walked}
 use Rattle.tables.specs.declared.Walked.the-variants.{Blocked, Post}
@@ -33,11 +33,11 @@ gather-ext n p q h = ap (gather n) (fun-ext h)
 
 -- no action below a meets the step
 pub record Trying (g : Game) (l : List ℕ) (s o last a : ℕ) (out : List ℕ) : Type 0 where
-  pub few : length l ≤ 4096
+  pub few : length l ≤ maxCells
   pub observations-are : o ≡ g .observations
-  pub observations-few : o ≤ 8
+  pub observations-few : o ≤ maxObservations
   pub actions-are : last ≡ g .actions
-  pub actions-few : last ≤ 8
+  pub actions-few : last ≤ maxActions
   pub within : a ≤ last
   pub size : length out ≡ 1 + o
   pub none : first a (meets g (settled g) s) ≡ nothing

@@ -16,7 +16,7 @@ use Rattle.sets.specs.Bounded.{Found, first, orElse, fill}
 use Rattle.sets.specs.Family.{holds}
 use Rattle.sets.proofs.Logic.{decided}
 use Rattle.sets.proofs.Bounded.{first-cases}
-use Rattle.sets.proofs.Family.{holds-found}
+use Rattle.sets.proofs.Family.{mem-at, holds-found}
 use Rattle.games.specs.Game.{Game, Accepted, Shows, enabled}
 use Rattle.games.specs.Play.{Strategy, Play, PlayOf, Under, Clear, seen}
 use Rattle.games.specs.Step.{after, good, settling}
@@ -27,7 +27,7 @@ use Rattle.games.specs.Demands.{Follows, Second, Third, Decides}
 use Rattle.games.proofs.Steps.{good-empty}
 use Rattle.games.proofs.Lasting.{lowest-below}
 use Rattle.games.proofs.Settling.{cells-hold}
-use Rattle.games.proofs.Winning.{Covers, covering-wins, card-covers, cell-settled, mem-at}
+use Rattle.games.proofs.Winning.{Covers, covering-wins, card-covers, cell-settled}
 use Rattle.games.proofs.Decided.{verdict-yes, yes-starts, decides}
 use Rattle.tables.specs.Check.{checked}
 use Rattle.tables.specs.declared.Checked.{Checked}

@@ -19,7 +19,8 @@ use Rattle.sets.specs.Family.{holds}
 use Rattle.sets.proofs.Logic.{refuted, clash, and-intro, and-false-right}
 use Rattle.sets.proofs.Bounded.{first-none, first-stop, first-cases, first-nothing, first-skip, first-some, first-found, all-more, all-refuted}
 use Rattle.sets.proofs.Mask.{subset-le}
-use Rattle.sets.proofs.Family.{holds-found, holds-intro, maximal-length}
+use Rattle.sets.proofs.Family.{at-mem, mem-at, holds-found, holds-intro, maximal-length}
+use Rattle.games.specs.Format.{lowValues, maxActions, maxCells, maxObservations}
 use Rattle.games.specs.Game.{Game, Accepted}
 use Rattle.games.specs.Step.{after, post, enabledAt, meets, lowest, step, antichain}
 use Rattle.games.specs.Verdict.{startSet, settled, cells}
@@ -30,7 +31,6 @@ use Rattle.families.specs.Bits.{laneSets, maxLanes}
 use Rattle.solver.specs.Writing.{Writing, Passed, Starts, NoneBefore, frontWords, setWords}
 use Rattle.search.proofs.Turns.{sets-few}
 use Rattle.games.specs.Automaton.{noCell, holding, chosen}
-use Rattle.games.proofs.Winning.{at-mem, mem-at}
 use Rattle.games.proofs.Settling.{cells-hold, settled-step}
 use Rattle.games.proofs.Steps.{good-empty, step-action, after-below}
 
@@ -65,17 +65,17 @@ module _ (l : List ℕ) (s : ℕ) where
     holding-at c b h t = holding-first (found c) (first-stop (length l) (holdsAt l s) c b h t)
 
 -- a cell number fits its field
-pub holding-small : (l : List ℕ) (s : ℕ) → length l ≤ 4096 → holding l s < 65536
+pub holding-small : (l : List ℕ) (s : ℕ) → length l ≤ maxCells → holding l s < lowValues
 unfolding holding
 holding-small l s b = small (eqb s 0)
   where
-    found-small : orElse (first (length l) (holdsAt l s)) noCell < 65536
+    found-small : orElse (first (length l) (holdsAt l s)) noCell < lowValues
     found-small =
-        ⊎-elim (λ w. subst (λ (f : Found). orElse f noCell < 65536) (sym (w .0)) (omega arith))
-        (λ w. subst (λ (f : Found). orElse f noCell < 65536) (sym (w .1)) (omega (arith, w .2 .0)))
+        ⊎-elim (λ w. subst (λ (f : Found). orElse f noCell < lowValues) (sym (w .0)) (omega arith))
+        (λ w. subst (λ (f : Found). orElse f noCell < lowValues) (sym (w .1)) (omega (arith, w .2 .0)))
         (first-cases (length l) (holdsAt l s))
 
-    small : (e : Bool) → cond e noCell (orElse (first (length l) (holdsAt l s)) noCell) < 65536
+    small : (e : Bool) → cond e noCell (orElse (first (length l) (holdsAt l s)) noCell) < lowValues
     small true = omega arith
     small false = found-small
 
@@ -114,14 +114,14 @@ module _ (table list out : List ℕ) (w : Writing table list out) where
   writing-sized : Sized table
   writing-sized = sized table (w .fine)
 
-  pub cells-small : length list ≤ 4096
+  pub cells-small : length list ≤ maxCells
   cells-small = let a = ap length (w .listed) in let b = cells-few (game table) in let d = sets-few table writing-sized in omega arith
 
-  pub observations-small : game table .observations ≤ 8
+  pub observations-small : game table .observations ≤ maxObservations
   unfolding game
   observations-small = writing-sized .limits .most-observations
 
-  pub actions-small : game table .actions ≤ 8
+  pub actions-small : game table .actions ≤ maxActions
   unfolding game
   actions-small = writing-sized .limits .most-actions
 

@@ -255,10 +255,10 @@ fn answer_with(
 }
 
 // Room for one side of every action's moves.
-fn side() -> [u32; 512]
-    ensures { λ r. ⌜ length r ≡ 512 ⌝ }
+fn side() -> [u32; moves::SIDE_WORDS]
+    ensures { λ r. ⌜ length r ≡ sideWords ⌝ }
 {
-    [0; 512]
+    [0; moves::SIDE_WORDS]
 }
 
 // Room for a family of sets.

@@ -2,9 +2,10 @@ use borrow.Author.Needs.{needs}
 use mathlib.Core.Path.{_≡_, sym, _∙_, subst}
 use Prim.Native.Nat.{ℕ, _<_, _^_}
 use Rattle.families.specs.Bits.{has}
+use Rattle.families.proofs.Lanes.{lane-there}
 use Rattle.games.specs.Words.{game}
 use Rattle.tables.proofs.Checks.{accepted}
-use Rattle.search.proofs.Turns.{walked-post, meets-blocked, meets-shown, meets-whole, post-below, lane-inside}
+use Rattle.search.proofs.Turns.{walked-post, meets-blocked, meets-shown, meets-whole, post-below}
 use Rattle.search.proofs.action_meets.Statement.{statement}
 use Rattle.search.proofs.action_meets.Tie as tie
 use Rattle.search.proofs.action_meets.Reads as reads
@@ -34,7 +35,7 @@ has-requires c κs =
     let g = game w in
     let u = c .before .walked .given .0 .0 in
     let e = walked-post g (has (start .args .family .now)) (start .args .s) (start .args .a .0) (c .before .before .before .post .result) (c .before .before .before .post .ensures) u (c .before .walked .given .1) .1 in
-    rw (start .pre .1) (lane-inside (g .states) u (subst (λ (x : ℕ). x < 2 ^ g .states) e (post-below g (accepted w (start .pre .0)) (start .args .s) (start .args .a .0) (start .pre .2))))
+    rw (start .pre .1) (lane-there (g .states) u (subst (λ (x : ℕ). x < 2 ^ g .states) e (post-below g (accepted w (start .pre .0)) (start .args .s) (start .args .a .0) (start .pre .2))))
 
 returns-2 : tie.Need-returns-2
 returns-2 c =

@@ -5,6 +5,7 @@ use Prim.Native.Nat.{ℕ, _-_, _≤_, _<_}
 use native.Mathlib.Omega.{arith}
 use lib.ListN.{length, take, set, length-set, replicate}
 use lib.Seq.{length-take-le}
+use Rattle.games.specs.Format.{maxActions, maxStates}
 use Rattle.games.specs.Words.{game}
 use Rattle.tables.proofs.Checks.{sized}
 use Rattle.search.proofs.Turns.{few-states, few-actions}
@@ -19,7 +20,7 @@ use Rattle.tables.proofs.actions.Reads as actions-reads
 use Rattle.tables.proofs.states.Reads as states-reads
 
 abbrev Inv-loop : tie.InvT-loop
-Inv-loop table family actions masks₀ a₀ masks a = (actions ≤ 8) × (a ≤ actions) × (length masks ≡ 8) × Opens (game table) a masks
+Inv-loop table family actions masks₀ a₀ masks a = (actions ≤ maxActions) × (a ≤ actions) × (length masks ≡ maxActions) × Opens (game table) a masks
 
 abbrev μ-loop : tie.MeasureT-loop
 μ-loop table family actions masks₀ a₀ masks a = actions - a
@@ -42,7 +43,7 @@ loop-holds : tie.Need-loop-holds Inv-loop μ-loop
 loop-holds c =
     let start = c .before .before .before in
     let w = start .args .table .now in
-    (subst (λ (m : ℕ). m ≤ 8) (sym (c .actions .ensures)) (few-actions w (sized w (start .pre .0))), search needs, search needs, opens-none (game w) (replicate 8 0))
+    (subst (λ (m : ℕ). m ≤ maxActions) (sym (c .actions .ensures)) (few-actions w (sized w (start .pre .0))), search needs, search needs, opens-none (game w) (replicate maxActions 0))
 
 open-states-requires : tie.Need-open-states-requires Inv-loop μ-loop
 open-states-requires c κs = (c .before .before .before .before .before .pre .0, omega arith)
@@ -88,7 +89,7 @@ below-requires c κs =
     let w = start .args .table .now in
     let n = c .before .states .ensures in
     record {
-      states = subst (λ (m : ℕ). m ≤ 12) (sym n) (few-states w (sized w (start .pre .0)));
+      states = subst (λ (m : ℕ). m ≤ maxStates) (sym n) (few-states w (sized w (start .pre .0)));
       masks = λ s m. rw n (opens-below (game w) _ (f .0) (f .1) s m);
       size = rw n (start .pre .1);
     }

@@ -4,6 +4,7 @@ use mathlib.Core.Path.{_≡_, sym, _∙_, subst}
 use Prim.Native.Nat.{ℕ, _-_, _≤_, _<_}
 use native.Mathlib.Omega.{arith}
 use native.Mathlib.Nat.{le-antisymm}
+use Rattle.games.specs.Format.{maxStates}
 use Rattle.games.specs.Words.{game}
 use Rattle.tables.proofs.Checks.{sized}
 use Rattle.search.specs.Stages.{OpenStates}
@@ -18,7 +19,7 @@ use Rattle.search.proofs.is_open.Reads as is-open-reads
 use Rattle.tables.proofs.states.Reads as states-reads
 
 abbrev Inv-loop : tie.InvT-loop
-Inv-loop table a n mask₀ i₀ mask i = (n ≤ 12) × (i ≤ n) × OpenStates (game table) (a .0) i mask
+Inv-loop table a n mask₀ i₀ mask i = (n ≤ maxStates) × (i ≤ n) × OpenStates (game table) (a .0) i mask
 
 abbrev μ-loop : tie.MeasureT-loop
 μ-loop table a n mask₀ i₀ mask i = n - i
@@ -30,7 +31,7 @@ loop-holds : tie.Need-loop-holds Inv-loop μ-loop
 loop-holds c =
     let start = c .before .before in
     let w = start .args .table .now in
-    (subst (λ (m : ℕ). m ≤ 12) (sym (c .states .ensures)) (few-states w (sized w (start .pre .0))), search needs, open-none (game w) (start .args .a .0))
+    (subst (λ (m : ℕ). m ≤ maxStates) (sym (c .states .ensures)) (few-states w (sized w (start .pre .0))), search needs, open-none (game w) (start .args .a .0))
 
 is-open-requires : tie.Need-is-open-requires Inv-loop μ-loop
 is-open-requires c κs = let start = c .before .before .before .before in (start .pre .0, start .pre .1, omega arith)

@@ -3,10 +3,10 @@ use mathlib.Core.Path.{_≡_, sym, _∙_, subst}
 use Prim.Native.Nat.{ℕ, _+_, _-_, _≤_, _<_, _^_}
 use native.Mathlib.Omega.{arith}
 use lib.ListN.{length, set, length-set}
-use Rattle.families.specs.Bits.{lanes}
+use Rattle.families.specs.Bits.{lanes, maxLanes}
 use Rattle.games.specs.Words.{game}
 use Rattle.tables.proofs.Checks.{sized}
-use Rattle.search.proofs.Turns.{lanes-few}
+use Rattle.search.proofs.Turns.{table-lanes}
 use Rattle.search.proofs.Passes.{Passing, passing-none, covered-sound, passing-more, passing-end}
 use Rattle.search.proofs.pass.Statement.{statement}
 use Rattle.search.proofs.pass.Tie as tie
@@ -16,7 +16,7 @@ use Rattle.families.proofs.larger.Reads as larger-reads
 use Rattle.search.proofs.pass_lane.Reads as pass-lane-reads
 
 abbrev Inv-loop : tie.InvT-loop
-Inv-loop table low high family next₀ lane₀ next lane = (length family ≤ 64) × (lane ≤ length family) × Passing (game table) family lane next
+Inv-loop table low high family next₀ lane₀ next lane = (length family ≤ maxLanes) × (lane ≤ length family) × Passing (game table) family lane next
 
 abbrev μ-loop : tie.MeasureT-loop
 μ-loop table low high family next₀ lane₀ next lane = lane
@@ -25,7 +25,7 @@ loop-holds : tie.Need-loop-holds Inv-loop μ-loop
 loop-holds c =
     let start = c .before .before .before .before .before in
     let w = start .args .table .now in
-    (omega (arith, start .pre .1 .size, lanes-few w (sized w (start .pre .0))), search needs, passing-none (game w) (start .args .family .now) (start .pre .1) (start .args .next .now) (start .pre .3))
+    (omega (arith, start .pre .1 .size, table-lanes w (sized w (start .pre .0))), search needs, passing-none (game w) (start .args .family .now) (start .pre .1) (start .args .next .now) (start .pre .3))
 
 sub-lane : tie.Need-sub-lane Inv-loop μ-loop
 sub-lane c = search needs

@@ -9,7 +9,7 @@ use Rattle.families.specs.Bits.{laneSets}
 use Rattle.families.proofs.Lanes.{shift-one}
 use Rattle.games.specs.Words.{game}
 use Rattle.tables.proofs.Checks.{sized}
-use Rattle.search.proofs.Turns.{lanes-few}
+use Rattle.search.proofs.Turns.{table-lanes}
 use Rattle.search.proofs.Passes.{Trying, Highest, highest, few-zeros, trying-none, top-below, hit-less, trying-hit, miss-less, trying-miss, trying-end}
 use Rattle.search.proofs.pass_lane.Statement.{statement}
 use Rattle.search.proofs.pass_lane.Tie as tie
@@ -26,7 +26,7 @@ abbrev μ-loop : tie.MeasureT-loop
 
 -- the lane is one of at most 64
 small : (c : lts.Start (meets-step-reads.Asked, meets-step-reads.Learnt, subsets-reads.Asked, subsets-reads.Learnt) reads.Pre reads.Post Inv-loop μ-loop) → c .args .lane < 64
-small c = omega (arith, c .pre .3, c .pre .1 .size, lanes-few (c .args .table .now) (sized (c .args .table .now) (c .pre .0)))
+small c = omega (arith, c .pre .3, c .pre .1 .size, table-lanes (c .args .table .now) (sized (c .args .table .now) (c .pre .0)))
 
 -- the set that is tried
 top : (c : tie.In-loop Inv-loop μ-loop) → Highest (c .before .loop .left) (63 - leadingZeros 64 (c .before .loop .left))

@@ -6,9 +6,10 @@ use Prim.Native.Nat.{ℕ, _-_, _≤_, _<_, _^_}
 use native.Mathlib.Omega.{arith}
 use lib.Pow.{pow-pos, ones-lt}
 use Rattle.families.specs.Bits.{has}
+use Rattle.families.proofs.Lanes.{lane-there}
 use Rattle.games.specs.Words.{game}
 use Rattle.tables.proofs.Checks.{sized, accepted}
-use Rattle.search.proofs.Turns.{few-states, lane-inside}
+use Rattle.search.proofs.Turns.{few-states}
 use Rattle.search.proofs.Searching.{first-lost, first-settled, first-on}
 use Rattle.search.proofs.search.Statement.{statement}
 use Rattle.search.proofs.search.Tie as tie
@@ -57,7 +58,7 @@ has-requires : tie.Need-has-requires
 has-requires c κs =
     let start = c .before .before .before .before .before .before .before .before .before .before .before .before .before .before .before .before in
     let g = game (start .args .table .now) in
-    rw (sets-are (c .before .before .before .before .before .before .before .before .before), c .before .before .before .before .before .before .before .first-family .ensures .size) (lane-inside (g .states) (2 ^ g .states - 1) (ones-lt (g .states)))
+    rw (sets-are (c .before .before .before .before .before .before .before .before .before), c .before .before .before .before .before .before .before .first-family .ensures .size) (lane-there (g .states) (2 ^ g .states - 1) (ones-lt (g .states)))
 
 same-length-2 : tie.Need-same-length-2
 same-length-2 c = search needs

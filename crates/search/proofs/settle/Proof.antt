@@ -7,6 +7,7 @@ use Prim.Native.Nat.{ℕ, _+_, _-_, _≤_, _<_, _^_}
 use native.Mathlib.Omega.{arith}
 use lib.ListN.{length}
 use Rattle.families.specs.Bits.{Bits}
+use Rattle.games.specs.Format.{maxSets}
 use Rattle.games.specs.Words.{game}
 use Rattle.games.specs.Step.{good}
 use Rattle.tables.proofs.Checks.{sized, accepted}
@@ -25,7 +26,7 @@ use Rattle.search.proofs.shown_in.Reads as shown-in-reads
 use Rattle.tables.proofs.start.Reads as start-reads
 
 abbrev Inv-loop : tie.InvT-loop
-Inv-loop table low high family₀ next₀ start k₀ family next k = (2 ^ game table .states ≤ 4096) × (length next ≡ length family) × Reached (game table) k family
+Inv-loop table low high family₀ next₀ start k₀ family next k = (2 ^ game table .states ≤ maxSets) × (length next ≡ length family) × Reached (game table) k family
 
 abbrev μ-loop : tie.MeasureT-loop
 μ-loop table low high family₀ next₀ start k₀ family next k = 2 ^ game table .states - k

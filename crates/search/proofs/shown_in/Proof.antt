@@ -9,9 +9,10 @@ use Rattle.sets.specs.Mask.{common}
 use Rattle.sets.proofs.Bounded.{all-zero, all-more}
 use Rattle.sets.proofs.Logic.{and-intro}
 use Rattle.families.specs.Bits.{has}
+use Rattle.families.proofs.Lanes.{lane-there}
 use Rattle.games.specs.Words.{game}
 use Rattle.tables.proofs.Checks.{sized, accepted}
-use Rattle.search.proofs.Turns.{shown-fails, shown-holds, shown-below, lane-inside}
+use Rattle.search.proofs.Turns.{shown-fails, shown-holds, shown-below}
 use Rattle.search.proofs.shown_in.Statement.{statement}
 use Rattle.search.proofs.shown_in.Tie as tie
 use Rattle.search.proofs.shown_in.Reads as reads
@@ -42,7 +43,7 @@ has-requires c κs =
     let start = c .before .before .before .before .before .before in
     let w = start .args .table .now in
     let b = shown-below (game w) (accepted w (start .pre .0)) (start .args .u) (c .before .before .loop .j) (omega arith) in
-    rw (start .pre .1, c .shown .ensures) (lane-inside (game w .states) (common (start .args .u) (game w .shown (c .before .before .loop .j))) b)
+    rw (start .pre .1, c .shown .ensures) (lane-there (game w .states) (common (start .args .u) (game w .shown (c .before .before .loop .j))) b)
 
 returns : tie.Need-returns Inv-loop μ-loop
 returns c =

@@ -4,10 +4,11 @@ use Prim.Native.Nat.{ℕ, _≤_}
 use native.Mathlib.Omega.{arith}
 use lib.ListN.{length}
 use lib.Seq.{length-take-le}
-use Rattle.families.specs.Bits.{lanes}
+use Rattle.families.specs.Bits.{lanes, maxLanes}
+use Rattle.games.specs.Format.{maxStates}
 use Rattle.games.specs.Words.{game}
 use Rattle.tables.proofs.Checks.{sized}
-use Rattle.search.proofs.Turns.{few-states, lanes-few}
+use Rattle.search.proofs.Turns.{few-states, table-lanes}
 use Rattle.solver.proofs.decide.Statement.{statement}
 use Rattle.solver.proofs.decide.Tie as tie
 use Rattle.solver.proofs.decide.Reads as reads
@@ -20,17 +21,17 @@ use Rattle.solver.proofs.side.Reads as side-reads
 use Rattle.tables.proofs.states.Reads as states-reads
 
 -- the lanes of the table's sets, and that there is room for them
-lanes-are : (c : tie.After-lane-count) → (c .lane-count .result ≡ lanes (game (c .before .before .before .before .before .args .table .now) .states)) × (c .lane-count .result ≤ 64)
+lanes-are : (c : tie.After-lane-count) → (c .lane-count .result ≡ lanes (game (c .before .before .before .before .before .args .table .now) .states)) × (c .lane-count .result ≤ maxLanes)
 lanes-are c =
     let start = c .before .before .before .before .before in
     let e : c .lane-count .result ≡ lanes (game (start .args .table .now) .states) = c .lane-count .ensures ∙ ap lanes (c .before .states .ensures) in
-    (e, subst (λ (m : ℕ). m ≤ 64) (sym e) (lanes-few (start .args .table .now) (sized (start .args .table .now) (start .pre .0))))
+    (e, subst (λ (m : ℕ). m ≤ maxLanes) (sym e) (table-lanes (start .args .table .now) (sized (start .args .table .now) (start .pre .0))))
 
 states-requires : tie.Need-states-requires
 states-requires c κs = let start = c .before .before .before in sized (start .args .table .now) (start .pre .0)
 
 lane-count-requires : tie.Need-lane-count-requires
-lane-count-requires c κs = let start = c .before .before .before .before in subst (λ (m : ℕ). m ≤ 12) (sym (c .states .ensures)) (few-states (start .args .table .now) (sized (start .args .table .now) (start .pre .0)))
+lane-count-requires c κs = let start = c .before .before .before .before in subst (λ (m : ℕ). m ≤ maxStates) (sym (c .states .ensures)) (few-states (start .args .table .now) (sized (start .args .table .now) (start .pre .0)))
 
 side-requires : tie.Need-side-requires
 side-requires c κs = search needs

@@ -4,7 +4,7 @@ use Prim.Native.Nat.{ℕ, _/_, _<_}
 use native.Mathlib.Nat.{le-refl, lt-of-lt-of-le}
 use Rattle.families.specs.Bits.{laneSets, maxLanes}
 use Rattle.games.specs.Words.{game}
-use Rattle.search.proofs.Turns.{lane-inside}
+use Rattle.families.proofs.Lanes.{lane-there}
 use Rattle.solver.proofs.Words.{starts-none}
 use Rattle.solver.proofs.Choosing.{unsettled-none}
 use Rattle.solver.proofs.scan_from.Statement.{statement}
@@ -15,13 +15,13 @@ use Rattle.families.proofs.has.Reads as has-reads
 
 -- t's lane is there
 lane : (c : lts.Start (has-reads.Asked, has-reads.Learnt) reads.Pre reads.Post) → c .args .t / laneSets < maxLanes
-lane c = let g = game (c .args .table .now) in lt-of-lt-of-le (lane-inside (g .states) (c .args .t) (c .pre .below)) (c .pre .few)
+lane c = let g = game (c .args .table .now) in lt-of-lt-of-le (lane-there (g .states) (c .args .t) (c .pre .below)) (c .pre .few)
 
 has-requires : tie.Need-has-requires
 has-requires c κs =
     let start = c .before .before .before .before in
     let g = game (start .args .table .now) in
-    rw (start .pre .settled-family .size) (lane-inside (g .states) (start .args .t) (start .pre .below))
+    rw (start .pre .settled-family .size) (lane-there (g .states) (start .args .t) (start .pre .below))
 
 cast-result : tie.Need-cast-result
 cast-result c = search needs

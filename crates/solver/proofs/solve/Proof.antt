@@ -3,6 +3,7 @@ use Prim.Native.Nat.{ℕ, _*_, _≤_}
 use native.Mathlib.Omega.{arith}
 use lib.ListN.{length, take}
 use lib.Seq.{length-take-le}
+use Rattle.games.specs.Format.{maxStates}
 use Rattle.games.specs.Words.{game}
 use Rattle.tables.proofs.Checks.{sized}
 use Rattle.search.proofs.Turns.{few-states, sets-few}
@@ -39,7 +40,7 @@ states-requires : tie.Need-states-requires
 states-requires c κs = let start = c .before .before .before .before .before .before in sized (start .args .table .now) (sym (c .before .before .check .ensures) ∙ c .enum-told .given .1)
 
 set-count-requires : tie.Need-set-count-requires
-set-count-requires c κs = let start = c .before .before .before .before .before .before .before in subst (λ (m : ℕ). m ≤ 12) (sym (c .states .ensures)) (few-states (start .args .table .now) (sized (start .args .table .now) (sym (c .before .before .before .check .ensures) ∙ c .before .enum-told .given .1)))
+set-count-requires c κs = let start = c .before .before .before .before .before .before .before in subst (λ (m : ℕ). m ≤ maxStates) (sym (c .states .ensures)) (few-states (start .args .table .now) (sized (start .args .table .now) (sym (c .before .before .before .check .ensures) ∙ c .before .enum-told .given .1)))
 
 mul-need : tie.Need-mul-need
 mul-need c =

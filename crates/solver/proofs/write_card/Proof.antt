@@ -3,6 +3,7 @@ use mathlib.Core.Path.{_≡_, sym, ap, _∙_, subst}
 use mathlib.Core.List.{_++_}
 use Prim.Native.Nat.{ℕ, _+_, _*_, _≤_, _<_, _-_}
 use lib.Seq.{length-take-le}
+use Rattle.games.specs.Format.{maxCells}
 use Rattle.solver.proofs.Carding.{Carded, carded-none, carded-room, carded-part, carded-more, carded-end, front-room, fronted-same, carded-whole, prefix-room, parts-few, observations-at-most, cells-at-most, cell-of}
 use native.Mathlib.Omega.{arith}
 use lib.ListN.{length, take, drop}
@@ -17,7 +18,7 @@ use Rattle.solver.proofs.write_front.Reads as write-front-reads
 use Rattle.tables.proofs.observations.Reads as observations-reads
 
 abbrev Inv-loop : tie.InvT-loop
-Inv-loop table low high family starts cells card₀ part c₀ card c = (part ≤ 9) × (length cells ≤ 4096) × Carded (game table) cells part card₀ c card
+Inv-loop table low high family starts cells card₀ part c₀ card c = (part ≤ 9) × (length cells ≤ maxCells) × Carded (game table) cells part card₀ c card
 
 abbrev μ-loop : tie.MeasureT-loop
 μ-loop table low high family starts cells card₀ part c₀ card c = length cells - c

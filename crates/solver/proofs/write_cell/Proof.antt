@@ -13,11 +13,12 @@ use Rattle.sets.specs.Mask.{common}
 use Rattle.sets.specs.Bounded.{first, nothing, all}
 use Rattle.sets.proofs.Bounded.{first-zero, first-skip, all-zero, all-more}
 use Rattle.sets.proofs.Logic.{and-intro}
+use Rattle.games.specs.Format.{lowValues, maxActions, maxObservations}
 use Rattle.games.specs.Words.{game, word}
 use Rattle.games.specs.Verdict.{settled}
 use Rattle.games.specs.Automaton.{holding}
 use Rattle.tables.proofs.Checks.{sized, accepted}
-use Rattle.search.proofs.Turns.{shown-below, sets-few, lanes-few}
+use Rattle.search.proofs.Turns.{shown-below, sets-few, table-lanes}
 use Rattle.solver.proofs.Words.{lt-by-ne, holdsAt, Filled, filled-none, filled-more, filled-end, holding-small, cells-small, observations-small, actions-small}
 use Rattle.solver.proofs.Choosing.{Trying, trying-next, trying-with, chosen-is, never-none, blocked-fails, uncovered-fails, covered-meets, after-is, uncovered, named-empty, named-at, nextWord, next-word, set-words}
 use Rattle.solver.proofs.write_cell.Statement.{statement}
@@ -67,9 +68,9 @@ actions-holds c =
     record {
       few = cells-small t l d w;
       observations-are = o;
-      observations-few = subst (λ (n : ℕ). n ≤ 8) (sym o) (observations-small t l d w);
+      observations-few = subst (λ (n : ℕ). n ≤ maxObservations) (sym o) (observations-small t l d w);
       actions-are = c .actions2 .ensures;
-      actions-few = subst (λ (n : ℕ). n ≤ 8) (sym (c .actions2 .ensures)) (actions-small t l d w);
+      actions-few = subst (λ (n : ℕ). n ≤ maxActions) (sym (c .actions2 .ensures)) (actions-small t l d w);
       within = omega arith;
       size = w .room ∙ ap (λ (n : ℕ). 1 + n) (sym o);
       none = first-zero _;
@@ -122,7 +123,7 @@ scan-from-requires c κs =
     let A = accepted w (start .pre .0 .fine) in
     record {
       accepted = A;
-      few = lanes-few w (sized w (start .pre .0 .fine));
+      few = table-lanes w (sized w (start .pre .0 .fine));
       starting = start .pre .3;
       settled-family = start .pre .2 .settled-family;
       listed = start .pre .0 .listed;
@@ -223,7 +224,7 @@ naming-requires c κs =
     let s = start .args .s in
     let u = lp .before .before .walked .given .0 .0 in
     let j = lp .loop .j in
-    (search needs, subst (λ (x : ℕ). x < 65536) (sym (named c .0)) (holding-small _ _ (act .actions .inv .few)), omega (arith, c .before .before .before .before .loop-test .taken, act .actions .inv .observations-few))
+    (search needs, subst (λ (x : ℕ). x < lowValues) (sym (named c .0)) (holding-small _ _ (act .actions .inv .few)), omega (arith, c .before .before .before .before .loop-test .taken, act .actions .inv .observations-few))
 
 cast-out : tie.Need-cast-out Inv-loop2 μ-loop2 Inv-loop μ-loop Inv-actions μ-actions
 cast-out c = search needs
