@@ -55,7 +55,7 @@ fn observation_turn(table: &[u32], s: u32, a: Action, k: u32) -> bool
         return false; // blocked at a member
     };
     if k == 0 {
-        return true; // every set is good for no round: no observation is asked
+        return true; // every set is good for 0 rounds, so no observation is asked
     }
     let end = tables::observations(table);
     let mut o: u32 = 0;
