@@ -1,51 +1,27 @@
 -- The sets of a word, from the lowest up, and a list of them in a buffer.
 -- Assumes nothing.
-use mathlib.Core.Path.{_≡_, refl, sym, ap, ap₂, _∙_, subst}
+use mathlib.Core.Path.{_≡_, refl, sym, ap, ap₂, _∙_}
 use mathlib.Core.Logic.{⊎-elim}
 use mathlib.Core.Bool.{Bool, true, false}
 use mathlib.Core.List.{List, [], _∷_, _++_, append-nil, append-assoc}
-use Prim.Native.Nat.{ℕ, zero, suc, _+_, _-_, _*_, _/_, _%_, _^_, _≤_, _<_}
-use native.Mathlib.Nat.{add-suc, add-zero, pow-succ', zero-lt-suc}
+use Prim.Native.Nat.{ℕ, zero, suc, _+_, _-_, _*_, _^_, _≤_, _<_}
+use native.Mathlib.Nat.{add-suc, add-zero}
 use native.Mathlib.Numerals.{add-one}
 use native.Mathlib.Omega.{arith}
-use lib.Dec.{eqb, leb}
-use lib.Count.{trailingZeros, under}
+use lib.Dec.{leb}
+use lib.Count.{trailingZeros}
 use lib.ListN.{length, take, drop, set, length-append, length-set, length-drop, take-append-drop}
 use lib.Seq.{take-suc-set, drop-set-lt, drop-drop, take-at, drop-append-add}
-use borrow.Author.Tests.{eqb-true, eqb-false, eq-eqb, ne-eqb, leb-true, leb-false}
+use borrow.Author.Tests.{leb-true, leb-false}
 use Rattle.sets.specs.Mask.{member}
 use Rattle.sets.specs.Bounded.{count, select}
 use Rattle.sets.specs.Family.{isMaximal, maximal}
 use Rattle.sets.proofs.Logic.{decided, refuted}
-use Rattle.sets.proofs.Mask.{member-zero, member-first, member-half, member-sub-same, member-sub-other, sub-less, single-le}
+use Rattle.sets.proofs.Mask.{member-zero, lowest, member-sub-same, member-sub-other, sub-less, single-le}
 use Rattle.sets.proofs.Family.{isMaximal-in}
 use Rattle.sets.proofs.Bounded.{Lowest, select-lowest, select-none, select-length, select-hit-suc, select-skip-suc, count-gap, count-none, count-le, select-ext, count-ext, select-gap}
 use Rattle.families.specs.Bits.{laneSets, has, Closed, raised}
 use Rattle.families.proofs.Lanes.{lanes-room}
-
--- ---- the lowest member
-
-lowest-odd : (k x : ℕ) → x % 2 ≡ 1 → Lowest (suc k) (member x) 0
-lowest-odd k x e = (zero-lt-suc k, member-first x ∙ eq-eqb (x % 2) 1 e, λ j l. absurd (omega arith))
-
-below-suc : (k x z : ℕ) → x % 2 ≡ 0 → Lowest k (member (x / 2)) z → (j : ℕ) → j < suc z → member x j ≡ false
-below-suc k x z e w zero l = member-first x ∙ ne-eqb (x % 2) 1 (λ f. omega arith)
-below-suc k x z e w (suc j) l = member-half x j ∙ w .2 j (omega arith)
-
-lowest-even : (k x z : ℕ) → x % 2 ≡ 0 → Lowest k (member (x / 2)) z → Lowest (suc k) (member x) (suc z)
-lowest-even k x z e w = (omega (arith, w .0), member-half x z ∙ w .1, below-suc k x z e w)
-
--- a number that is not 0 has a member as its trailing zeros end, and none below
-pub lowest : (k x : ℕ) → x < 2 ^ k → (x ≡ 0 → ⊥) → Lowest k (member x) (trailingZeros k x)
-unfolding trailingZeros
-lowest zero x h z = absurd (z (omega arith))
-lowest (suc k) x h z =
-    ⊎-elim
-    (λ e. subst (λ (d : ℕ). Lowest (suc k) (member x) (under d (trailingZeros k (x / 2)))) (sym (eqb-true (x % 2) 1 e)) (lowest-odd k x (eqb-true (x % 2) 1 e)))
-    (λ e. let d : x % 2 ≡ 0 = omega (arith, eqb-false (x % 2) 1 e) in
-    subst (λ (d : ℕ). Lowest (suc k) (member x) (under d (trailingZeros k (x / 2)))) (sym d)
-    (lowest-even k x (trailingZeros k (x / 2)) d (lowest k (x / 2) (omega (arith, pow-succ' 2 k)) (λ q. z (omega arith)))))
-    (decided (eqb (x % 2) 1))
 
 -- ---- a list raised
 

@@ -8,13 +8,14 @@ use native.Mathlib.Nat.{le-refl, le-step, le-of-suc-le-suc, not-suc-le-zero, lt-
 use native.Mathlib.Numerals.{add-one}
 use native.Mathlib.Omega.{arith}
 use lib.Dec.{eqb}
+use lib.Count.{trailingZeros, under}
 use lib.Pow.{pow-pos, pow-mono, pow-lt, shr-shr, field, mod-mod-pow, split}
 use lib.Bits.{bitAnd, bitOr, and-step, or-step, and-shr, or-shr, and-mod, and-comm, and-self, and-le-l, and-le-r, or-lt, or-disjoint, or-zero-r}
 use borrow.Author.Tests.{eqb-true, eqb-false, eq-eqb, ne-eqb}
 use Rattle.sets.specs.Mask.{member, common, union, subset, without, unionOver}
 use Rattle.sets.specs.Bounded.{all, any}
 use Rattle.sets.proofs.Logic.{decided, clash, refuted, same-truth, and-left, and-right, and-intro, and-false-right, true-not, or-cases, or-left, or-right, implies-at, implies-fails}
-use Rattle.sets.proofs.Bounded.{all-at, all-fails, any-found, any-none, any-intro}
+use Rattle.sets.proofs.Bounded.{Lowest, all-at, all-fails, any-found, any-none, any-intro}
 
 -- ---- members
 
@@ -47,6 +48,30 @@ single-le s i m = le-of-suc-le-suc (lt-of-not-le (λ l. clash m (member-beyond i
 pub enough : (s : ℕ) → s < 2 ^ s
 enough zero = zero-lt-suc 0
 enough (suc s) = omega (arith, enough s, pow-succ' 2 s)
+
+-- ---- the lowest member
+
+lowest-odd : (k x : ℕ) → x % 2 ≡ 1 → Lowest (suc k) (member x) 0
+lowest-odd k x e = (zero-lt-suc k, member-first x ∙ eq-eqb (x % 2) 1 e, λ j l. absurd (omega arith))
+
+below-suc : (k x z : ℕ) → x % 2 ≡ 0 → Lowest k (member (x / 2)) z → (j : ℕ) → j < suc z → member x j ≡ false
+below-suc k x z e w zero l = member-first x ∙ ne-eqb (x % 2) 1 (λ f. omega arith)
+below-suc k x z e w (suc j) l = member-half x j ∙ w .2 j (omega arith)
+
+lowest-even : (k x z : ℕ) → x % 2 ≡ 0 → Lowest k (member (x / 2)) z → Lowest (suc k) (member x) (suc z)
+lowest-even k x z e w = (omega (arith, w .0), member-half x z ∙ w .1, below-suc k x z e w)
+
+-- a number that is not 0 has a member as its trailing zeros end, and none below
+pub lowest : (k x : ℕ) → x < 2 ^ k → (x ≡ 0 → ⊥) → Lowest k (member x) (trailingZeros k x)
+unfolding trailingZeros
+lowest zero x h z = absurd (z (omega arith))
+lowest (suc k) x h z =
+    ⊎-elim
+    (λ e. subst (λ (d : ℕ). Lowest (suc k) (member x) (under d (trailingZeros k (x / 2)))) (sym (eqb-true (x % 2) 1 e)) (lowest-odd k x (eqb-true (x % 2) 1 e)))
+    (λ e. let d : x % 2 ≡ 0 = omega (arith, eqb-false (x % 2) 1 e) in
+    subst (λ (d : ℕ). Lowest (suc k) (member x) (under d (trailingZeros k (x / 2)))) (sym d)
+    (lowest-even k x (trailingZeros k (x / 2)) d (lowest k (x / 2) (omega (arith, pow-succ' 2 k)) (λ q. z (omega arith)))))
+    (decided (eqb (x % 2) 1))
 
 -- ---- common part and union
 

@@ -143,19 +143,17 @@ pub fn walk(table: &[u32], s: u32, a: Action) -> Walked
     requires { ⌜ Sized (now table) × (a .0 < game (now table) .actions) ⌝ }
     ensures { λ r. ⌜ r ≡ walked (game (now (table .entry))) s (a .0) ⌝ }
 {
-    let n = table[0] % games::HEAD_VALUES;
     let base = row(table[0], a.0);
+    let mut rest = s % sets::single(states(table));
     let mut u: u32 = 0;
-    let mut i: u32 = 0;
-    while i < n {
-        if (s >> i) % 2 == 1 {
-            let t = table[base + i as usize] % games::LOW_VALUES;
-            if t == 0 {
-                return Walked::Blocked;
-            }
-            u = u | t;
+    while rest != 0 {
+        let i = u32::trailing_zeros(rest);
+        let t = table[base + i as usize] % games::LOW_VALUES;
+        if t == 0 {
+            return Walked::Blocked;
         }
-        i += 1;
+        u = u | t;
+        rest = rest - sets::single(i);
     }
     Walked::Post(u)
 }
