@@ -4,21 +4,23 @@ use mathlib.Core.Path.{_≡_, sym, ap, _∙_, subst}
 use mathlib.Core.Logic.{⊎-elim}
 use mathlib.Core.Bool.{Bool, true, false, not, _&&_, _||_}
 use mathlib.Core.List.{List}
-use Prim.Native.Nat.{ℕ, _+_, _-_, _*_, _^_, _≤_, _<_}
+use Prim.Native.Nat.{ℕ, _+_, _-_, _*_, _/_, _%_, _^_, _≤_, _<_}
 use native.Mathlib.Omega.{arith}
-use lib.Dec.{ltb}
-use lib.ListN.{getD}
+use lib.Dec.{eqb, ltb}
+use lib.ListN.{length, getD, set, length-set}
+use lib.Seq.{getD-set-same, getD-set-other}
 use lib.Pow.{pow-pos}
 use lib.Bits.{or-lt}
-use borrow.Author.Tests.{ltb-true, ltb-false, not-true}
+use borrow.Author.Tests.{eqb-true, eqb-false, ltb-true, ltb-false, not-true}
 use Rattle.sets.specs.Mask.{member, common, union}
-use Rattle.sets.specs.Family.{isMaximal}
+use Rattle.sets.specs.Bounded.{select}
+use Rattle.sets.specs.Family.{isMaximal, maximal}
 use Rattle.sets.proofs.Logic.{decided, clash, refuted, same-truth, and-left, and-right, and-intro, or-left, or-right, or-false-left, or-false-right, or-false-intro, false-not}
-use Rattle.sets.proofs.Bounded.{all-intro}
+use Rattle.sets.proofs.Bounded.{all-intro, select-ext, select-gap}
 use Rattle.sets.proofs.Mask.{member-zero, member-and, member-or, member-rest, subset-add}
 use Rattle.sets.proofs.Family.{isMaximal-in, isMaximal-only, maximal-by-states}
-use Rattle.families.specs.Bits.{laneStates, laneSets, highStates, has, Closed, largerHas, coveredBy}
-use Rattle.families.proofs.Lanes.{has-at, state-low, state-high, larger-found, larger-intro, covered-found, covered-intro}
+use Rattle.families.specs.Bits.{laneStates, laneSets, highStates, has, sets, Closed, largerHas, coveredBy}
+use Rattle.families.proofs.Lanes.{lanes-room, by-lane, has-at, state-low, state-high, larger-found, larger-intro, covered-found, covered-intro}
 
 -- the sets of the word that are in neither of two others
 pub neither : (word a b : ℕ) → a < 2 ^ 64 → b < 2 ^ 64 → (t : ℕ) → t < laneSets → member (common word ((2 ^ 64 - 1) - union a b)) t ≡ (member word t && not (member a t || member b t))
@@ -87,3 +89,41 @@ module _ (n : ℕ) (bits : List ℕ) (c : Closed n bits) (lane t : ℕ) (l : t <
   no-top e =
       member-zero t
       ∙ sym (refuted (isMaximal n (has bits) (lane * laneSets + t)) (λ m. clash (isMaximal-in n (has bits) (lane * laneSets + t) m) (has-at bits lane t l ∙ ap (λ (x : ℕ). member x t) e ∙ member-zero t)))
+
+-- ---- all lanes
+
+module _ (n : ℕ) (bits : List ℕ) (c : Closed n bits) where
+  -- a maximal set is one of n states
+  beyond : (s : ℕ) → 2 ^ n ≤ s → isMaximal n (has bits) s ≡ false
+  beyond s l = refuted (isMaximal n (has bits) s) (λ m. let h : s < 2 ^ n = c .within s (isMaximal-in n (has bits) s m) in omega arith)
+
+  -- the words found, lane by lane, are those of the maximal sets
+  pub found-maximal : (found : List ℕ) → length found ≡ length bits → ((m t : ℕ) → m < length bits → t < laneSets → member (getD found m 0) t ≡ isMaximal n (has bits) (m * laneSets + t)) → sets found ≡ maximal n (has bits)
+  unfolding sets maximal
+  found-maximal found e f =
+      let l : 2 ^ n ≤ length found * laneSets = omega (arith, lanes-room n, c .size, e) in
+      select-ext (length found * laneSets) (has found) (isMaximal n (has bits))
+      (λ s h. f (s / laneSets) (s % laneSets) (omega (arith, e)) (omega arith) ∙ ap (isMaximal n (has bits)) (by-lane s))
+      ∙ select-gap (2 ^ n) (length found * laneSets) (isMaximal n (has bits)) l (λ i a b. beyond i a)
+
+-- the lanes below `lane` are found
+pub record Finding (n : ℕ) (bits found : List ℕ) (lane : ℕ) : Type 0 where
+  pub within : lane ≤ length bits
+  pub long : length found ≡ length bits
+  pub done : (m t : ℕ) → m < lane → t < laneSets → member (getD found m 0) t ≡ isMaximal n (has bits) (m * laneSets + t)
+
+-- before the first turn
+pub finding-none : (n : ℕ) (bits found : List ℕ) → length found ≡ length bits → Finding n bits found 0
+finding-none n bits found e = record { within = omega arith; long = e; done = λ m t l h. absurd (omega arith) }
+
+-- one turn
+pub finding-more : (n : ℕ) (bits found : List ℕ) (lane word : ℕ) → Finding n bits found lane → lane < length bits → ((t : ℕ) → t < laneSets → member word t ≡ isMaximal n (has bits) (lane * laneSets + t)) → Finding n bits (set found lane word) (lane + 1)
+finding-more n bits found lane word w l f = record {
+  within = omega arith;
+  long = length-set found lane word ∙ w .long;
+  done = λ m t b h. ⊎-elim
+      (λ e. subst (λ (x : ℕ). member (getD (set found lane word) x 0) t ≡ isMaximal n (has bits) (x * laneSets + t)) (sym (eqb-true m lane e))
+      (ap (λ (x : ℕ). member x t) (getD-set-same found lane word 0 (omega (arith, w .long))) ∙ f t h))
+      (λ e. ap (λ (x : ℕ). member x t) (getD-set-other found lane m word 0 (eqb-false m lane e)) ∙ w .done m t (omega (arith, eqb-false m lane e)) h)
+      (decided (eqb m lane));
+}

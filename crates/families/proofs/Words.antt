@@ -4,24 +4,22 @@ use mathlib.Core.Path.{_≡_, refl, sym, ap, ap₂, _∙_}
 use mathlib.Core.Logic.{⊎-elim}
 use mathlib.Core.Bool.{Bool, true, false}
 use mathlib.Core.List.{List, [], _∷_, _++_, append-nil, append-assoc}
-use Prim.Native.Nat.{ℕ, zero, suc, _+_, _-_, _*_, _^_, _≤_, _<_}
-use native.Mathlib.Nat.{add-suc, add-zero}
+use Prim.Native.Nat.{ℕ, zero, suc, _+_, _-_, _*_, _^_, _≤_, _<_, _/_, _%_}
+use native.Mathlib.Nat.{add-suc, add-zero, pow-succ'}
 use native.Mathlib.Numerals.{add-one}
 use native.Mathlib.Omega.{arith}
-use lib.Dec.{leb}
-use lib.Count.{trailingZeros}
-use lib.ListN.{length, take, drop, set, length-append, length-set, length-drop, take-append-drop}
+use lib.Dec.{eqb}
+use lib.Count.{ones, ones-step, trailingZeros, under}
+use lib.ListN.{length, getD, take, drop, set, length-append, length-set, length-drop, take-append-drop}
 use lib.Seq.{take-suc-set, drop-set-lt, drop-drop, take-at, drop-append-add}
-use borrow.Author.Tests.{leb-true, leb-false}
+use borrow.Author.Tests.{eqb-true, eqb-false, eq-eqb, ne-eqb}
 use Rattle.sets.specs.Mask.{member}
 use Rattle.sets.specs.Bounded.{count, select}
-use Rattle.sets.specs.Family.{isMaximal, maximal}
-use Rattle.sets.proofs.Logic.{decided, refuted}
-use Rattle.sets.proofs.Mask.{member-zero, lowest, member-sub-same, member-sub-other, sub-less, single-le}
-use Rattle.sets.proofs.Family.{isMaximal-in}
-use Rattle.sets.proofs.Bounded.{Lowest, select-lowest, select-none, select-length, select-hit-suc, select-skip-suc, count-gap, count-none, count-le, select-ext, count-ext, select-gap}
-use Rattle.families.specs.Bits.{laneSets, has, Closed, raised}
-use Rattle.families.proofs.Lanes.{lanes-room}
+use Rattle.sets.proofs.Logic.{decided}
+use Rattle.sets.proofs.Mask.{member-zero, member-first, member-half, lowest, member-sub-same, member-sub-other, sub-less, single-le}
+use Rattle.sets.proofs.Bounded.{Lowest, select-lowest, select-none, select-length, select-hit-suc, select-skip-suc, count-zero, count-hit-suc, count-skip-suc, count-none, select-ext, count-ext}
+use Rattle.families.specs.Bits.{laneSets, has, sets, raised}
+use Rattle.families.proofs.Lanes.{has-at}
 
 -- ---- a list raised
 
@@ -57,13 +55,29 @@ count-raised n m p =
     sym (select-length (n + m) p) ∙ ap length (select-raised n m p) ∙ length-append (select n p) (raised n (select m (λ t. p (n + t))))
     ∙ ap₂ _+_ (select-length n p) (raised-length n (select m (λ t. p (n + t))) ∙ select-length m (λ t. p (n + t)))
 
--- no more pass than the numbers to which they are bounded
-pub count-within : (n m : ℕ) (p : ℕ → Bool) → ((i : ℕ) → p i ≡ true → i < n) → count m p ≤ n
-count-within n m p h =
-    ⊎-elim (λ e. omega (arith, count-le m p, leb-true m n e))
-    (λ e. let l : n ≤ m = omega (arith, leb-false m n e) in
-    omega (arith, count-le n p, count-gap n m p l (λ i a b. refuted (p i) (λ t. let c : i < n = h i t in omega arith))))
-    (decided (leb m n))
+-- ---- how many members a word has
+
+count-first : (x : ℕ) → x % 2 ≡ count 1 (member x)
+count-first x =
+    ⊎-elim
+    (λ e. eqb-true (x % 2) 1 e ∙ sym (count-hit-suc 0 (member x) (member-first x ∙ e) ∙ ap suc (count-zero (member x))))
+    (λ e. let d : x % 2 ≡ 0 = omega (arith, eqb-false (x % 2) 1 e) in d ∙ sym (count-skip-suc 0 (member x) (member-first x ∙ e) ∙ count-zero (member x)))
+    (decided (eqb (x % 2) 1))
+
+-- as many as binary digits are set
+pub ones-count : (k x : ℕ) → x < 2 ^ k → ones x ≡ count k (member x)
+unfolding ones count
+ones-count zero x h =
+    let e : x ≡ 0 = omega arith in
+    ap ones e
+ones-count (suc k) x h =
+    let next : 1 + k ≡ suc k = omega arith in
+    ones-step x
+    ∙ ap₂ _+_ (count-first x)
+    (ones-count k (x / 2) (omega (arith, pow-succ' 2 k))
+    ∙ count-ext k (member (x / 2)) (λ t. member x (1 + t))
+    (λ t l. let d : suc t ≡ 1 + t = omega arith in sym (member-half x t) ∙ ap (member x) d))
+    ∙ sym (count-raised 1 k (member x)) ∙ ap (λ (m : ℕ). count m (member x)) next
 
 -- ---- writing the members of a word behind the first k places
 
@@ -154,24 +168,45 @@ module _ (word base k : ℕ) (out₀ : List ℕ) (rest at : ℕ) (out : List ℕ
 
 -- ---- the words of a family, one after the other
 
+-- how many sets there are
+pub sets-count : (bits : List ℕ) → length (sets bits) ≡ count (length bits * laneSets) (has bits)
+unfolding sets
+sets-count bits = select-length (length bits * laneSets) (has bits)
+
 -- one lane more
-module _ (p : ℕ → Bool) (out₀ : List ℕ) (lane k : ℕ) (out : List ℕ) (e : k ≡ count (lane * laneSets) p) (f : out ≡ select (lane * laneSets) p ++ drop k out₀)
-    (word : ℕ) (h : (t : ℕ) → t < laneSets → member word t ≡ p (lane * laneSets + t)) where
+module _ (bits : List ℕ) (lane k : ℕ) (e : k ≡ count (lane * laneSets) (has bits)) where
   next : (lane + 1) * laneSets ≡ lane * laneSets + laneSets
   next = omega arith
 
-  pub lane-count : k + size word ≡ count ((lane + 1) * laneSets) p
-  lane-count =
-      ap₂ _+_ e (count-ext laneSets (member word) (λ t. p (lane * laneSets + t)) h) ∙ sym (count-raised (lane * laneSets) laneSets p) ∙ ap (λ (x : ℕ). count x p) (sym next)
+  here : (t : ℕ) → t < laneSets → member (getD bits lane 0) t ≡ has bits (lane * laneSets + t)
+  here t l = sym (has-at bits lane t l)
 
-  pub lane-written : (r : ℕ) (out′ : List ℕ) → r ≡ k + size word → out′ ≡ (take k out ++ written (lane * laneSets) word) ++ drop r out → out′ ≡ select ((lane + 1) * laneSets) p ++ drop r out₀
-  lane-written r out′ d g =
-      let n : length (select (lane * laneSets) p) ≡ k = select-length (lane * laneSets) p ∙ sym e in
+  pub lane-count : k + size (getD bits lane 0) ≡ count ((lane + 1) * laneSets) (has bits)
+  lane-count =
+      ap₂ _+_ e (count-ext laneSets (member (getD bits lane 0)) (λ t. has bits (lane * laneSets + t)) here) ∙ sym (count-raised (lane * laneSets) laneSets (has bits))
+      ∙ ap (λ (x : ℕ). count x (has bits)) (sym next)
+
+  -- no more than all sets
+  pub lane-room : lane < length bits → k + size (getD bits lane 0) ≤ length (sets bits)
+  lane-room l =
+      let d : length bits * laneSets ≡ (lane + 1) * laneSets + (length bits - (lane + 1)) * laneSets = omega arith in
+      omega (
+        arith,
+        lane-count,
+        sets-count bits,
+        ap (λ (x : ℕ). count x (has bits)) d,
+        count-raised ((lane + 1) * laneSets) ((length bits - (lane + 1)) * laneSets) (has bits),
+      )
+
+  pub lane-written : (out₀ out : List ℕ) → out ≡ select (lane * laneSets) (has bits) ++ drop k out₀ → (r : ℕ) (out′ : List ℕ) → r ≡ k + size (getD bits lane 0) → out′ ≡ (take k out ++ written (lane * laneSets) (getD bits lane 0)) ++ drop r out →
+      out′ ≡ select ((lane + 1) * laneSets) (has bits) ++ drop r out₀
+  lane-written out₀ out f r out′ d g =
+      let n : length (select (lane * laneSets) (has bits)) ≡ k = select-length (lane * laneSets) (has bits) ∙ sym e in
       g
       ∙ ap₂ _++_
-      (ap₂ _++_ (ap (take k) f ∙ take-at (select (lane * laneSets) p) (drop k out₀) k n) (ap (raised (lane * laneSets)) (select-ext laneSets (member word) (λ t. p (lane * laneSets + t)) h))
-      ∙ sym (select-raised (lane * laneSets) laneSets p) ∙ ap (λ (x : ℕ). select x p) (sym next))
-      (ap₂ drop (d ∙ ap (λ (x : ℕ). x + size word) (sym n)) f ∙ drop-append-add (select (lane * laneSets) p) (drop k out₀) (size word) ∙ drop-drop (size word) k out₀
+      (ap₂ _++_ (ap (take k) f ∙ take-at (select (lane * laneSets) (has bits)) (drop k out₀) k n) (ap (raised (lane * laneSets)) (select-ext laneSets (member (getD bits lane 0)) (λ t. has bits (lane * laneSets + t)) here))
+      ∙ sym (select-raised (lane * laneSets) laneSets (has bits)) ∙ ap (λ (x : ℕ). select x (has bits)) (sym next))
+      (ap₂ drop (d ∙ ap (λ (x : ℕ). x + size (getD bits lane 0)) (sym n)) f ∙ drop-append-add (select (lane * laneSets) (has bits)) (drop k out₀) (size (getD bits lane 0)) ∙ drop-drop (size (getD bits lane 0)) k out₀
       ∙ ap (λ (x : ℕ). drop x out₀) (sym d))
 
 -- what is stored in front leaves the length
@@ -180,21 +215,6 @@ front-length p m k out₀ out e l f =
     ap length f ∙ length-append (select m p) (drop k out₀) ∙ omega (arith, select-length m p, length-drop k out₀)
 
 -- all lanes are done
-module _ (n : ℕ) (bits : List ℕ) (c : Closed n bits) where
-  -- a maximal set is one of n states
-  pub maximal-lt : (s : ℕ) → isMaximal n (has bits) s ≡ true → s < 2 ^ n
-  maximal-lt s m = c .within s (isMaximal-in n (has bits) s m)
-
-  -- there is room for those found so far
-  pub collect-room : (m : ℕ) → count m (isMaximal n (has bits)) ≤ 2 ^ n
-  collect-room m = count-within (2 ^ n) m (isMaximal n (has bits)) maximal-lt
-
-  beyond : (s : ℕ) → 2 ^ n ≤ s → isMaximal n (has bits) s ≡ false
-  beyond s l = refuted (isMaximal n (has bits) s) (λ m. let h : s < 2 ^ n = maximal-lt s m in omega arith)
-
-  pub collect-end : (out₀ : List ℕ) (k : ℕ) (out : List ℕ) → k ≡ count (length bits * laneSets) (isMaximal n (has bits)) → out ≡ select (length bits * laneSets) (isMaximal n (has bits)) ++ drop k out₀ → (k ≡ length (maximal n (has bits))) × (out ≡ maximal n (has bits) ++ drop k out₀)
-  unfolding maximal
-  collect-end out₀ k out e f =
-      let l : 2 ^ n ≤ length bits * laneSets = omega (arith, lanes-room n, c .size) in
-      let g : select (length bits * laneSets) (isMaximal n (has bits)) ≡ maximal n (has bits) = select-gap (2 ^ n) (length bits * laneSets) (isMaximal n (has bits)) l (λ i a b. beyond i a) in
-      (e ∙ sym (select-length (length bits * laneSets) (isMaximal n (has bits))) ∙ ap length g, f ∙ ap (λ (x : List ℕ). x ++ drop k out₀) g)
+pub sets-written : (bits out₀ : List ℕ) (k : ℕ) (out : List ℕ) → k ≡ count (length bits * laneSets) (has bits) → out ≡ select (length bits * laneSets) (has bits) ++ drop k out₀ → (k ≡ length (sets bits)) × (out ≡ sets bits ++ drop k out₀)
+unfolding sets
+sets-written bits out₀ k out e f = (e ∙ sym (sets-count bits), f)

@@ -3,11 +3,11 @@
 use mathlib.Core.Path.{_≡_}
 use mathlib.Core.Bool.{Bool, true, not, _&&_}
 use mathlib.Core.List.{List, [], _∷_, List·Memᴰ}
-use Prim.Native.Nat.{ℕ, _+_, _-_, _/_, _%_, _^_, _≤_, _<_}
+use Prim.Native.Nat.{ℕ, _+_, _-_, _*_, _/_, _%_, _^_, _≤_, _<_}
 use lib.ListN.{length, getD}
 use Rattle.sets.specs.Mask.{member, subset}
 use Rattle.games.specs.Format.{maxStates}
-use Rattle.sets.specs.Bounded.{any}
+use Rattle.sets.specs.Bounded.{any, select}
 use Rattle.sets.specs.Family.{Family, DownClosed}
 
 -- the states below 6 tell the sets of one machine word (lane) apart: lane k has a bit for each of the sets 64 k to 64 k + 63
@@ -31,6 +31,10 @@ lanes n = 2 ^ (n - laneStates)
 -- the bit of the set s is set
 abbrev pub has : List ℕ → Family
 has bits s = member (getD bits (s / laneSets) 0) (s % laneSets)
+
+-- the sets, ascending
+unfoldable pub sets : List ℕ → List ℕ
+sets bits = select (length bits * laneSets) (has bits)
 
 -- the bits are those of the family F of sets of n states
 pub record Bits (n : ℕ) (F : Family) (bits : List ℕ) : Type 0 where

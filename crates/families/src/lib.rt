@@ -8,7 +8,7 @@ ghost use Rattle.sets.specs.Mask.{member, subset};
 ghost use Rattle.sets.specs.Bounded.{count as countOf, select};
 ghost use Rattle.sets.specs.Family.{listed, holds, isMaximal, maximal};
 ghost use Rattle.games.specs.Format.{maxStates};
-ghost use Rattle.families.specs.Bits.{laneStates, laneSets, highStates, lanes, has as isIn, Bits, Closed, Holding, Lane, hasWith, largerHas, wordWith, coveredBy, lowHas, aboveHas, raised};
+ghost use Rattle.families.specs.Bits.{laneStates, laneSets, highStates, maxLanes, lanes, has as isIn, sets, Bits, Closed, Holding, Lane, hasWith, largerHas, wordWith, coveredBy, lowHas, aboveHas, raised};
 
 // The states below 6 tell the sets of a lane apart.
 const LANE_STATES: u32 = 6;
@@ -157,18 +157,63 @@ fn unpack(word: u64, base: u32, k: usize, out: &mut [u32]) -> usize
     at
 }
 
-// The maximal sets, ascending, in front of `out`; how many.
-pub fn collect(bits: &[u64], n: u32, out: &mut [u32]) -> usize
-    requires { ⌜ Closed n (now bits) × 2 ^ n ≤ length (now out) ⌝ }
-    ensures { λ r. ⌜ (r ≡ length (maximal n (isIn (now (bits .entry))))) × (now (out .exit) ≡ maximal n (isIn (now (bits .entry))) ++ drop r (now (out .entry))) ⌝ }
+// The maximal sets, as bits in `found`.
+pub fn maximal_bits(bits: &[u64], n: u32, found: &mut [u64])
+    requires { ⌜ Closed n (now bits) × (length (now found) ≡ length (now bits)) ⌝ }
+    ensures { λ _. ⌜ (length (now (found .exit)) ≡ length (now (found .entry))) × (sets (now (found .exit)) ≡ maximal n (isIn (now (bits .entry)))) ⌝ }
+{
+    let mut lane = 0;
+    while lane < bits.len() {
+        found[lane] = tops(bits, n, lane);
+        lane += 1;
+    }
+}
+
+// How many sets there are.
+pub fn size(bits: &[u64]) -> usize
+    requires { ⌜ length (now bits) ≤ maxLanes ⌝ }
+    ensures { λ r. ⌜ r ≡ length (sets (now (bits .entry))) ⌝ }
 {
     let mut k = 0;
     let mut lane = 0;
     while lane < bits.len() {
-        k = unpack(tops(bits, n, lane), lane as u32 * LANE_SETS, k, out);
+        k = k + u64::count_ones(bits[lane]) as usize;
         lane += 1;
     }
     k
+}
+
+// Writes the sets, ascending, in front of `out`; how many.
+pub fn write(bits: &[u64], out: &mut [u32]) -> usize
+    requires { ⌜ (length (now bits) ≤ maxLanes) × (length (sets (now bits)) ≤ length (now out)) ⌝ }
+    ensures { λ r. ⌜ (r ≡ length (sets (now (bits .entry)))) × (now (out .exit) ≡ sets (now (bits .entry)) ++ drop r (now (out .entry))) ⌝ }
+{
+    let mut k = 0;
+    let mut lane = 0;
+    while lane < bits.len() {
+        k = unpack(bits[lane], lane as u32 * LANE_SETS, k, out);
+        lane += 1;
+    }
+    k
+}
+
+// The maximal sets, ascending, in front of `out`; how many. `found` is work room.
+fn collect_with(bits: &[u64], n: u32, found: &mut [u64], out: &mut [u32]) -> usize
+    requires { ⌜ Closed n (now bits) × (length (now found) ≡ length (now bits)) × 2 ^ n ≤ length (now out) ⌝ }
+    ensures { λ r. ⌜ (r ≡ length (maximal n (isIn (now (bits .entry))))) × (now (out .exit) ≡ maximal n (isIn (now (bits .entry))) ++ drop r (now (out .entry))) ⌝ }
+{
+    maximal_bits(bits, n, found);
+    write(found, out)
+}
+
+// The same, with its work room.
+pub fn collect(bits: &[u64], n: u32, out: &mut [u32]) -> usize
+    requires { ⌜ Closed n (now bits) × 2 ^ n ≤ length (now out) ⌝ }
+    ensures { λ r. ⌜ (r ≡ length (maximal n (isIn (now (bits .entry))))) × (now (out .exit) ≡ maximal n (isIn (now (bits .entry))) ++ drop r (now (out .entry))) ⌝ }
+{
+    let end = bits.len();
+    let mut found = [0u64; MAX_LANES];
+    collect_with(bits, n, &mut found[..end], out)
 }
 
 // No set.

@@ -1,4 +1,3 @@
-pub mod Extra
 pub mod Checks
 pub mod Merging
 pub mod Outcomes

@@ -3,11 +3,11 @@
 use mathlib.Core.Path.{_≡_, refl, sym, ap, ap₂, _∙_}
 use mathlib.Core.Logic.{_⊎_, inl, ⊎-elim}
 use mathlib.Core.Bool.{Bool, true, false, cond, _&&_, _||_}
-use mathlib.Core.List.{List, _++_}
+use mathlib.Core.List.{List}
 use Prim.Native.Nat.{ℕ, _+_, _/_, _%_, _≤_, _<_}
 use native.Mathlib.Omega.{arith}
 use lib.Dec.{eqb, ltb}
-use lib.ListN.{length, getD, set, drop, length-set, List·getD-eq-default}
+use lib.ListN.{length, getD, set, length-set, List·getD-eq-default}
 use lib.Seq.{getD-set-same, getD-set-other}
 use borrow.Author.Tests.{eqb-true, eqb-false, ltb-true, ltb-false}
 use Rattle.sets.specs.Mask.{member}
@@ -97,9 +97,5 @@ module _ (n : ℕ) (m : Bool) (k l r : List ℕ) (b : Bits n (held m k l) r) (w 
   held-closed = bits-closed n (held m k l) r (w .width) b (held-down n m k l)
 
   -- and their maximal sets are the result
-  held-result : maximal n (has r) ≡ cond m (meet n) (join n) k l
+  pub held-result : maximal n (has r) ≡ cond m (meet n) (join n) k l
   held-result = maximal-ext n (has r) (held m k l) (b .at) ∙ held-maximal n m k l (w .first) (w .second)
-
-  -- so what is collected of them is it
-  pub held-collected : (w : ℕ) (x d : List ℕ) → (w ≡ length (maximal n (has r))) × (x ≡ maximal n (has r) ++ drop w d) → (w ≡ length (cond m (meet n) (join n) k l)) × (x ≡ cond m (meet n) (join n) k l ++ drop w d)
-  held-collected w x d c = (c .0 ∙ ap length held-result, c .1 ∙ ap (λ (y : List ℕ). y ++ drop w d) held-result)

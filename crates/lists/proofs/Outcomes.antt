@@ -6,15 +6,11 @@ use mathlib.Core.Bool.{Bool, false, cond}
 use mathlib.Core.List.{List, _++_}
 use Prim.Native.Nat.{ℕ, _+_, _^_, _≤_, _<_}
 use lib.Dec.{leb}
-use native.Mathlib.Nat.{le-add-right}
-use lib.Pow.{pow-mono}
-use lib.ListN.{length, length-append, take, drop}
-use lib.Seq.{take-append-seam}
+use lib.ListN.{length, drop}
 use borrow.Author.Tests.{lt-ltb, le-ltb, le-leb, lt-leb}
 use Rattle.sets.specs.Bounded.{Found, nothing, found, first}
-use Rattle.sets.specs.Family.{join, meet}
 use Rattle.sets.proofs.Logic.{and-intro, and-false-left, and-false-right, true-not, false-not}
-use Rattle.games.specs.Format.{maxStates, maxSets}
+use Rattle.games.specs.Format.{maxStates}
 use Rattle.lists.specs.declared.Answer.the-variants.{Words, Refused}
 use Rattle.lists.specs.Lists.{leaves, isWidth, foreign, fitted, unlessFound, outcome}
 use Rattle.lists.specs.Merging.{Masks}
@@ -34,17 +30,17 @@ Clean end l = first (length l) (beyond l end) ≡ nothing
 -- ---- the result and its room
 
 -- a longer result is refused
-fitted-long : (r d : List ℕ) (w : ℕ) → w ≡ length r → length d < w → leaves (Refused 15 w) d ≡ fitted r d
+pub fitted-long : (r d : List ℕ) (w : ℕ) → w ≡ length r → length d < w → leaves (Refused 15 w) d ≡ fitted r d
 fitted-long r d w e h =
     ap (λ (x : ℕ). leaves (Refused 15 x) d) e
     ∙ sym (ap (λ (b : Bool). cond b (leaves (Refused 15 (length r)) d) (leaves (Words (length r)) (r ++ drop (length r) d))) (lt-ltb (length d) (length r) (subst (λ (x : ℕ). length d < x) e h)))
 
 -- one that fits is written in front
-fitted-fits : (r d q : List ℕ) (w : ℕ) → w ≡ length r → w ≤ length d → leaves (Words w) (take w (r ++ q) ++ drop w d) ≡ fitted r d
-fitted-fits r d q w e h =
-    ap (λ (x : ℕ). leaves (Words x) (take x (r ++ q) ++ drop x d)) e
-    ∙ ap (λ (x : List ℕ). leaves (Words (length r)) (x ++ drop (length r) d)) (take-append-seam r q)
-    ∙ sym (ap (λ (b : Bool). cond b (leaves (Refused 15 (length r)) d) (leaves (Words (length r)) (r ++ drop (length r) d))) (le-ltb (length d) (length r) (subst (λ (x : ℕ). x ≤ length d) e h)))
+pub fitted-fits : (r d : List ℕ) (w : ℕ) (x : List ℕ) → w ≡ length r → w ≤ length d → x ≡ r ++ drop w d → leaves (Words w) x ≡ fitted r d
+fitted-fits r d w x e h f =
+    ap (leaves (Words w)) f
+    ∙ ap (λ (y : ℕ). leaves (Words y) (r ++ drop y d)) e
+    ∙ sym (ap (λ (b : Bool). cond b (leaves (Refused 15 (length r)) d) (leaves (Words (length r)) (r ++ drop (length r) d))) (le-ltb (length d) (length r) (subst (λ (y : ℕ). y ≤ length d) e h)))
 
 -- ---- the refusals before it
 
@@ -73,12 +69,12 @@ module _ (op : List ℕ → List ℕ → List ℕ) (n : ℕ) (k l d : List ℕ) 
     refused-second j c e h = checked (found (length k + j)) (found-second k l end j c (beyond-found l end j e h))
 
     -- none is
-    allowed : Clean end k → Clean end l → fitted (op k l) d ≡ outcome op n k l d
+    pub allowed : Clean end k → Clean end l → fitted (op k l) d ≡ outcome op n k l d
     allowed a b = checked nothing (found-neither k l end a b)
 
 -- ---- the work done
 
-module _ (m : Bool) (n end : ℕ) (k l d : List ℕ) (w : Width n end) (a : Clean end k) (b : Clean end l) where
+module _ (n end : ℕ) (k l : List ℕ) (w : Width n end) (a : Clean end k) (b : Clean end l) where
   -- the lists are as the work asks for them
   pub masks : Masks n k l
   masks = record {
@@ -86,27 +82,3 @@ module _ (m : Bool) (n end : ℕ) (k l d : List ℕ) (w : Width n end) (a : Clea
     first = beyond-within n k (subst (λ (x : ℕ). Clean x k) (w .power) a);
     second = beyond-within n l (subst (λ (x : ℕ). Clean x l) (w .power) b);
   }
-
-  finished : fitted (cond m (meet n) (join n) k l) d ≡ outcome (cond m (meet n) (join n)) n k l d
-  finished = allowed (cond m (meet n) (join n)) n k l d end w a b
-
-  -- the result is too long
-  pub refused-long : (r : ℕ) → r ≡ length (cond m (meet n) (join n) k l) → length d < r → leaves (Refused 15 r) d ≡ outcome (cond m (meet n) (join n)) n k l d
-  refused-long r e h = fitted-long (cond m (meet n) (join n) k l) d r e h ∙ finished
-
-  -- it is written
-  pub written : (r : ℕ) (x y q : List ℕ) → r ≡ length (cond m (meet n) (join n) k l) → r ≤ length d → x ≡ cond m (meet n) (join n) k l ++ q → y ≡ take r x ++ drop r d → leaves (Words r) y ≡ outcome (cond m (meet n) (join n)) n k l d
-  written r x y q e h f g =
-      ap (leaves (Words r)) (g ∙ ap (λ (z : List ℕ). take r z ++ drop r d) f)
-      ∙ fitted-fits (cond m (meet n) (join n) k l) d q r e h ∙ finished
-
--- ---- room for what is found
-
--- the sets of any width fit
-pub width-room : {n end : ℕ} → Width n end → 2 ^ n ≤ maxSets
-width-room w = pow-mono (w .high)
-
--- what is found is in front of a list at least as long
-pub room-for : (f : List ℕ) (r : ℕ) (x q : List ℕ) → r ≡ length f → x ≡ f ++ q → r ≤ length x
-room-for f r x q e g =
-    subst (λ (y : ℕ). r ≤ y) (sym (ap length g ∙ length-append f q)) (subst (λ (y : ℕ). y ≤ length f + length q) (sym e) (le-add-right (length f) (length q)))

@@ -1,19 +1,15 @@
 // Join and meet of two lists of sets (document 01, "Lists").
 ghost use mathlib.Core.Path.{_≡_};
 ghost use mathlib.Core.Bool.{cond};
-ghost use mathlib.Core.List.{_++_};
-ghost use Prim.Native.Nat.{ℕ, _^_, _≤_};
-ghost use lib.ListN.{length, take, drop};
+ghost use Prim.Native.Nat.{ℕ, _≤_};
+ghost use lib.ListN.{length, take};
 ghost use Rattle.sets.specs.Family.{join as joinOf, meet as meetOf};
-ghost use Rattle.families.specs.Bits.{lanes, Bits};
-ghost use Rattle.lists.specs.Lists.{leaves, outcome, joined, met};
+ghost use Rattle.families.specs.Bits.{maxLanes, lanes, sets, Bits};
+ghost use Rattle.lists.specs.Lists.{leaves, fitted, outcome, joined, met};
 ghost use Rattle.lists.specs.Plain.{OfEither, OfBoth, MaximalOf};
 ghost use Rattle.lists.specs.Merging.{gathered, Merged, held, Masks};
 ghost use Rattle.lists.specs.Checks.{firstBeyond};
 use games::MAX_STATES;
-
-// How many masks of the widest there are.
-const MAX_SETS: usize = games::MAX_SETS as usize;
 
 // The length of the result, which stands in front of `out`; or a refusal's number and place.
 pub enum Answer {
@@ -64,47 +60,48 @@ fn hold(meet: bool, n: u32, first: &[u32], second: &[u32], a: &mut [u64], b: &mu
     merge(meet, a, b);
 }
 
-// The result, in front of `found`; its length. `a` and `b` are work room.
-fn collect(
+// The sets in front of `out`, ascending; refused where there are more than places.
+fn fit(bits: &[u64], out: &mut [u32]) -> Answer
+    requires { ⌜ length (now bits) ≤ maxLanes ⌝ }
+    ensures { λ r. ⌜ leaves r (now (out .exit)) ≡ fitted (sets (now (bits .entry))) (now (out .entry)) ⌝ }
+{
+    let words = families::size(bits);
+    if out.len() < words {
+        return Answer::Refused(15, words);
+    }
+    Answer::Words(families::write(bits, out))
+}
+
+// The result in front of `out`, where it fits. `a` and `b` are work room.
+fn find(
     meet: bool,
     n: u32,
     first: &[u32],
     second: &[u32],
     a: &mut [u64],
     b: &mut [u64],
-    found: &mut [u32],
-) -> usize
-    requires { ⌜ Masks n (now first) (now second) × (length (now a) ≡ lanes n) × (length (now b) ≡ lanes n) × (2 ^ n ≤ length (now found)) ⌝ }
-    ensures { λ r. ⌜ (r ≡ length (cond meet (meetOf n) (joinOf n) (now (first .entry)) (now (second .entry)))) × (now (found .exit) ≡ cond meet (meetOf n) (joinOf n) (now (first .entry)) (now (second .entry)) ++ drop r (now (found .entry))) ⌝ }
+    out: &mut [u32],
+) -> Answer
+    requires { ⌜ Masks n (now first) (now second) × (length (now a) ≡ lanes n) × (length (now b) ≡ lanes n) ⌝ }
+    ensures { λ r. ⌜ leaves r (now (out .exit)) ≡ fitted (cond meet (meetOf n) (joinOf n) (now (first .entry)) (now (second .entry))) (now (out .entry)) ⌝ }
 {
     hold(meet, n, first, second, a, b);
-    families::collect(a, n, found)
+    families::maximal_bits(a, n, b);
+    fit(b, out)
 }
 
 // The same, with its work room.
-fn find(meet: bool, n: u32, first: &[u32], second: &[u32], found: &mut [u32]) -> usize
-    requires { ⌜ Masks n (now first) (now second) × (2 ^ n ≤ length (now found)) ⌝ }
-    ensures { λ r. ⌜ (r ≡ length (cond meet (meetOf n) (joinOf n) (now (first .entry)) (now (second .entry)))) × (now (found .exit) ≡ cond meet (meetOf n) (joinOf n) (now (first .entry)) (now (second .entry)) ++ drop r (now (found .entry))) ⌝ }
+fn deliver(meet: bool, n: u32, first: &[u32], second: &[u32], out: &mut [u32]) -> Answer
+    requires { ⌜ Masks n (now first) (now second) ⌝ }
+    ensures { λ r. ⌜ leaves r (now (out .exit)) ≡ fitted (cond meet (meetOf n) (joinOf n) (now (first .entry)) (now (second .entry))) (now (out .entry)) ⌝ }
 {
     let end = families::lane_count(n);
     let mut a = [0u64; families::MAX_LANES];
     let mut b = [0u64; families::MAX_LANES];
-    collect(meet, n, first, second, &mut a[..end], &mut b[..end], found)
+    find(meet, n, first, second, &mut a[..end], &mut b[..end], out)
 }
 
-// Copies the first `end` places.
-fn copy(from: &[u32], end: usize, out: &mut [u32])
-    requires { ⌜ (end ≤ length (now from)) × (end ≤ length (now out)) ⌝ }
-    ensures { λ _. ⌜ now (out .exit) ≡ take end (now (from .entry)) ++ drop end (now (out .entry)) ⌝ }
-{
-    let mut i = 0;
-    while i < end {
-        out[i] = from[i];
-        i += 1;
-    }
-}
-
-// Join or meet: checks, finds the sets, and writes them where they fit.
+// Join or meet: checks, then the result.
 fn combine(meet: bool, n: u32, first: &[u32], second: &[u32], out: &mut [u32]) -> Answer
     ensures { λ r. ⌜ leaves r (now (out .exit)) ≡ outcome (cond meet (meetOf n) (joinOf n)) n (now (first .entry)) (now (second .entry)) (now (out .entry)) ⌝ }
 {
@@ -120,13 +117,7 @@ fn combine(meet: bool, n: u32, first: &[u32], second: &[u32], out: &mut [u32]) -
     if j < second.len() {
         return Answer::Refused(5, first.len() + j);
     }
-    let mut found = [0u32; MAX_SETS];
-    let words = find(meet, n, first, second, &mut found);
-    if out.len() < words {
-        return Answer::Refused(15, words);
-    }
-    copy(&found, words, out);
-    Answer::Words(words)
+    deliver(meet, n, first, second, out)
 }
 
 // The maximal sets of both lists.
