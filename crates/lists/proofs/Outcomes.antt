@@ -2,7 +2,7 @@
 -- Assumes nothing.
 use mathlib.Core.Path.{_≡_, sym, ap, _∙_, subst}
 use mathlib.Core.Logic.{_⊎_, ⊎-elim}
-use mathlib.Core.Bool.{Bool, false, cond}
+use mathlib.Core.Bool.{Bool, false, cond, true}
 use mathlib.Core.List.{List, _++_}
 use Prim.Native.Nat.{ℕ, _+_, _^_, _≤_, _<_}
 use lib.Dec.{leb}
@@ -11,6 +11,7 @@ use borrow.Author.Tests.{lt-ltb, le-ltb, le-leb, lt-leb}
 use Rattle.sets.specs.Bounded.{Found, nothing, found, first}
 use Rattle.sets.proofs.Logic.{and-intro, and-false-left, and-false-right, true-not, false-not}
 use Rattle.games.specs.Format.{maxStates}
+use Rattle.games.proofs.Limits.{within-high}
 use Rattle.lists.specs.declared.Answer.the-variants.{Words, Refused}
 use Rattle.lists.specs.Lists.{leaves, isWidth, foreign, fitted, unlessFound, outcome}
 use Rattle.lists.specs.Merging.{Masks}
@@ -19,8 +20,7 @@ use Rattle.lists.proofs.Checks.{beyond, beyond-found, beyond-within, fo
 
 -- the width is right, and `end` is the first mask with a state too many
 pub record Width (n end : ℕ) : Type 0 where
-  pub low : 1 ≤ n
-  pub high : n ≤ maxStates
+  pub right : isWidth n ≡ true
   pub power : end ≡ 2 ^ n
 
 -- the list has no such mask
@@ -46,11 +46,9 @@ fitted-fits r d w x e h f =
 
 module _ (op : List ℕ → List ℕ → List ℕ) (n : ℕ) (k l d : List ℕ) where
   -- the width is wrong
-  pub refused-width : (n < 1) ⊎ (maxStates < n) → leaves (Refused 2 0) d ≡ outcome op n k l d
+  pub refused-width : isWidth n ≡ false → leaves (Refused 2 0) d ≡ outcome op n k l d
   unfolding outcome
-  refused-width h =
-      let e : isWidth n ≡ false = ⊎-elim (λ a. and-false-left (leb n maxStates) (lt-leb 1 n a)) (λ a. and-false-right (leb 1 n) (lt-leb n maxStates a)) h in
-      sym (ap (λ (b : Bool). cond b (leaves (Refused 2 0) d) (unlessFound (foreign n (k ++ l)) d (fitted (op k l) d))) (false-not e))
+  refused-width e = sym (ap (λ (b : Bool). cond b (leaves (Refused 2 0) d) (unlessFound (foreign n (k ++ l)) d (fitted (op k l) d))) (false-not e))
 
   module _ (end : ℕ) (w : Width n end) where
     -- it is right: what the masks decide
@@ -58,7 +56,7 @@ module _ (op : List ℕ → List ℕ → List ℕ) (n : ℕ) (k l d : List ℕ) 
     unfolding outcome
     checked f e =
         ap (λ (x : Found). unlessFound x d (fitted (op k l) d)) (sym (subst (λ (x : ℕ). first (length (k ++ l)) (beyond (k ++ l) x) ≡ f) (w .power) e))
-        ∙ sym (ap (λ (b : Bool). cond b (leaves (Refused 2 0) d) (unlessFound (foreign n (k ++ l)) d (fitted (op k l) d))) (true-not (and-intro (le-leb 1 n (w .low)) (le-leb n maxStates (w .high)))))
+        ∙ sym (ap (λ (b : Bool). cond b (leaves (Refused 2 0) d) (unlessFound (foreign n (k ++ l)) d (fitted (op k l) d))) (true-not (w .right)))
 
     -- a mask of the first list is refused
     pub refused-first : (i : ℕ) → i ≡ firstBeyond k end → i < length k → leaves (Refused 5 i) d ≡ outcome op n k l d
@@ -78,7 +76,7 @@ module _ (n end : ℕ) (k l : List ℕ) (w : Width n end) (a : Clean end k) (b :
   -- the lists are as the work asks for them
   pub masks : Masks n k l
   masks = record {
-    width = w .high;
+    width = within-high n maxStates (w .right);
     first = beyond-within n k (subst (λ (x : ℕ). Clean x k) (w .power) a);
     second = beyond-within n l (subst (λ (x : ℕ). Clean x l) (w .power) b);
   }

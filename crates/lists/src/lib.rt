@@ -105,7 +105,7 @@ fn deliver(meet: bool, n: u32, first: &[u32], second: &[u32], out: &mut [u32]) -
 fn combine(meet: bool, n: u32, first: &[u32], second: &[u32], out: &mut [u32]) -> Answer
     ensures { λ r. ⌜ leaves r (now (out .exit)) ≡ outcome (cond meet (meetOf n) (joinOf n)) n (now (first .entry)) (now (second .entry)) (now (out .entry)) ⌝ }
 {
-    if n < 1 || MAX_STATES < n {
+    if !games::within(n, MAX_STATES) {
         return Answer::Refused(2, 0);
     }
     let end = sets::single(n);
