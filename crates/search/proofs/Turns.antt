@@ -14,7 +14,7 @@ use Rattle.sets.specs.Bounded.{all, any}
 use Rattle.sets.specs.Family.{Family, DownClosed}
 use Rattle.sets.proofs.Logic.{decided, refuted, and-intro, and-false-left, and-false-right}
 use Rattle.sets.proofs.Bounded.{all-intro, all-refuted, any-intro}
-use Rattle.sets.proofs.Mask.{common-lt, common-subset-left, unionOver-lt}
+use Rattle.sets.proofs.Mask.{common-lt, common-subset-left}
 use Rattle.families.specs.Bits.{maxLanes, lanes}
 use Rattle.families.proofs.Lanes.{lanes-few}
 use Rattle.games.specs.Format.{maxActions, maxSets, maxStates}
@@ -45,12 +45,6 @@ module _ (g : Game) (F : Family) (s a : ℕ) (r : Walked) (is : r ≡ walked g s
       (ap (λ (b : Bool). b && all (g .observations) (λ o. F (common (post g s a) (g .shown o)))) (w .0)
       ∙ ap (λ (v : ℕ). all (g .observations) (λ o. F (common v (g .shown o)))) (w .1))
 
-  -- where the family has the successors and the subsets of its sets, it meets the step
-  pub meets-whole : DownClosed F → (u : ℕ) → r ≡ Post u → F u ≡ true → true ≡ meets g F s a
-  unfolding shownIn
-  meets-whole down u e h =
-      sym (all-intro (g .observations) (λ j. F (common u (g .shown j))) (λ j l. down u (common u (g .shown j)) h (common-subset-left u (g .shown j)))) ∙ meets-shown u e
-
   pub meets-blocked : r ≡ Blocked → false ≡ meets g F s a
   unfolding walked meets
   meets-blocked e =
@@ -64,6 +58,11 @@ module _ (g : Game) (F : Family) (u : ℕ) where
   pub shown-fails : (j : ℕ) → j < g .observations → F (common u (g .shown j)) ≡ false → false ≡ shownIn g F u
   unfolding shownIn
   shown-fails j l f = sym (all-refuted (g .observations) (λ o. F (common u (g .shown o))) j l f)
+
+  -- where the family has all of u and the subsets of its sets, every observation passes
+  pub shown-whole : DownClosed F → F u ≡ true → true ≡ shownIn g F u
+  unfolding shownIn
+  shown-whole down h = sym (all-intro (g .observations) (λ j. F (common u (g .shown j))) (λ j l. down u (common u (g .shown j)) h (common-subset-left u (g .shown j))))
 
   pub shown-holds : all (g .observations) (λ o. F (common u (g .shown o))) ≡ true → true ≡ shownIn g F u
   unfolding shownIn
@@ -101,8 +100,3 @@ sets-few w z = pow-mono (z .limits .most-states)
 -- there are few lanes
 pub table-lanes : (w : List ℕ) → Sized w → lanes (game w .states) ≤ maxLanes
 table-lanes w z = lanes-few (game w .states) (few-states w z)
-
--- the successors of a set have no state from n up
-pub post-below : (g : Game) → Accepted g → (s a : ℕ) → a < g .actions → post g s a < 2 ^ g .states
-unfolding post
-post-below g A s a l = unionOver-lt (g .states) s (g .successors a) (g .states) (λ i b. A .successors-below a i l b)

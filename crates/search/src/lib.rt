@@ -19,16 +19,20 @@ use games::Observation;
 use games::State;
 use tables::Walked;
 
-// For every observation, the states of u that show it form a set of the family.
+// For every observation, the states of u that show it form a set of the family. One that shows all of u decides: the others show subsets.
 fn shown_in(table: &[u32], family: &[u64], u: u32) -> bool
-    requires { ⌜ (checked (now table) ≡ Fine) × (length (now family) ≡ lanes (game (now table) .states)) ⌝ }
+    requires { ⌜ (checked (now table) ≡ Fine) × (length (now family) ≡ lanes (game (now table) .states)) × DownClosed (isIn (now family)) ⌝ }
     ensures { λ r. ⌜ r ≡ shownIn (game (now (table .entry))) (isIn (now (family .entry))) u ⌝ }
 {
     let o = tables::observations(table);
     let mut j: u32 = 0;
     while j < o {
-        if !families::has(family, u & tables::shown(table, Observation(j))) {
+        let t = u & tables::shown(table, Observation(j));
+        if !families::has(family, t) {
             return false;
+        }
+        if t == u {
+            return true;
         }
         j += 1;
     }
@@ -44,9 +48,6 @@ fn action_meets(table: &[u32], low: &[u32], high: &[u32], family: &[u64], s: u32
     let Walked::Post(u) = walked else {
         return false;
     };
-    if families::has(family, u) {
-        return true; // so are its subsets
-    }
     shown_in(table, family, u)
 }
 

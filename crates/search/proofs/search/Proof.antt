@@ -10,7 +10,7 @@ use Rattle.families.proofs.Lanes.{lane-there}
 use Rattle.games.specs.Words.{game}
 use Rattle.tables.proofs.Checks.{sized, accepted}
 use Rattle.search.proofs.Turns.{few-states}
-use Rattle.search.proofs.Searching.{first-lost, first-settled, first-on}
+use Rattle.search.proofs.Searching.{good-stage, first-lost, first-settled, first-on}
 use Rattle.search.proofs.search.Statement.{statement}
 use Rattle.search.proofs.search.Tie as tie
 use Rattle.search.proofs.search.Reads as reads
@@ -43,7 +43,11 @@ start-requires : tie.Need-start-requires
 start-requires c κs = let start = c .before .before .before .before .before .before .before .before .before .before .before .before in sized (start .args .table .now) (start .pre .0)
 
 shown-in-requires : tie.Need-shown-in-requires
-shown-in-requires c κs = search needs
+shown-in-requires c κs =
+    let start = c .before .before .before .before .before .before .before .before .before .before .before .before .before in
+    let w = start .args .table .now in
+    let f = c .before .before .before .before .first-family .ensures in
+    (start .pre .0, f .size, good-stage (game w) (accepted w (start .pre .0)) 1 _ f .down)
 
 same-length : tie.Need-same-length
 same-length c = search needs

@@ -71,7 +71,11 @@ add-round c =
     omega (arith, at .loop .inv .0, searching-bound (game w) (accepted w (start .pre .0)) (at .loop .k) (at .loop .family) (at .loop .inv .2))
 
 shown-in-requires : tie.Need-shown-in-requires Inv-loop μ-loop
-shown-in-requires c κs = let p = c .before .before .before in (p .before .before .before .before .before .before .before .before .before .before .pre .0, passed p .size)
+shown-in-requires c κs =
+    let p = c .before .before .before in
+    let start = p .before .before .before .before .before .before .before .before .before .before in
+    let w = start .args .table .now in
+    (start .pre .0, passed p .size, good-stage (game w) (accepted w (start .pre .0)) (p .before .before .before .loop .k + 1) (left p) (passed p) .down)
 
 same-length : tie.Need-same-length Inv-loop μ-loop
 same-length c = kept (c .before .before .before .before .before .before .before .before)

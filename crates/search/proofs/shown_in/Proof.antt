@@ -12,7 +12,7 @@ use Rattle.families.specs.Bits.{has}
 use Rattle.families.proofs.Lanes.{lane-there}
 use Rattle.games.specs.Words.{game}
 use Rattle.tables.proofs.Checks.{sized, accepted}
-use Rattle.search.proofs.Turns.{shown-fails, shown-holds, shown-below}
+use Rattle.search.proofs.Turns.{shown-fails, shown-holds, shown-whole, shown-below}
 use Rattle.search.proofs.shown_in.Statement.{statement}
 use Rattle.search.proofs.shown_in.Tie as tie
 use Rattle.search.proofs.shown_in.Reads as reads
@@ -53,6 +53,14 @@ returns c =
     shown-fails (game w) (has (start .args .family .now)) (start .args .u) (inl .before .loop .j) (omega arith)
     (rw (c .before .before .shown .ensures) at (sym (c .before .has .ensures) ∙ not-true (c .before .has .result) (c .if1 .taken)))
 
+returns-2 : tie.Need-returns-2 Inv-loop μ-loop
+returns-2 c =
+    let h = c .before .before in
+    let inl = h .before .before in
+    let start = inl .before .before .before .before .before in
+    let w = start .args .table .now in
+    shown-whole (game w) (has (start .args .family .now)) (start .args .u) (start .pre .2) (rw (c .if2 .taken) at (sym (h .has .ensures) ∙ not-false (h .has .result) (c .before .if1 .left)))
+
 add-j : tie.Need-add-j Inv-loop μ-loop
 add-j c = search needs
 
@@ -61,16 +69,16 @@ loop-less c = search needs
 
 loop-again : tie.Need-loop-again Inv-loop μ-loop
 loop-again c =
-    let inl = c .before .before .before in
+    let inl = c .before .before .before .before in
     let start = inl .before .before .before .before .before in
     let w = start .args .table .now in (
       search needs,
       all-more (inl .before .loop .j) (λ i. has (start .args .family .now) (common (start .args .u) (game w .shown i)))
-          ∙ and-intro (inl .before .loop .inv .1) (rw (c .before .before .shown .ensures) at (sym (c .before .has .ensures) ∙ not-false (c .before .has .result) (c .if1 .left))),
+          ∙ and-intro (inl .before .loop .inv .1) (rw (c .before .before .before .shown .ensures) at (sym (c .before .before .has .ensures) ∙ not-false (c .before .before .has .result) (c .before .if1 .left))),
     )
 
-returns-2 : tie.Need-returns-2 Inv-loop μ-loop
-returns-2 c =
+returns-3 : tie.Need-returns-3 Inv-loop μ-loop
+returns-3 c =
     let at = c .before in
     let start = at .before .before .before .before in
     let g = game (start .args .table .now) in
@@ -88,7 +96,8 @@ shown-in-spec =
     shown-requires
     has-requires
     returns
+    returns-2
     add-j
     loop-less
     loop-again
-    returns-2)
+    returns-3)
