@@ -2,100 +2,127 @@
 -- Assumes nothing.
 use mathlib.Core.Path.{_≡_, refl, sym, ap, _∙_, subst}
 use mathlib.Core.Logic.{⊎-elim}
-use mathlib.Core.Bool.{true, false, not, _&&_, _||_}
+use mathlib.Core.Bool.{Bool, true, false, not, _&&_, _||_}
 use mathlib.Core.List.{List, List·Memᴰ}
 use Prim.Native.Nat.{ℕ, _+_, _*_, _/_, _%_, _^_, _≤_, _<_}
 use native.Mathlib.Nat.{lt-of-lt-of-le}
 use native.Mathlib.Omega.{arith}
-use lib.Dec.{eqb}
+use lib.Dec.{eqb, ltb}
 use lib.ListN.{length, getD, set, length-set, List·getD-eq-default}
 use lib.Seq.{getD-set-same, getD-set-other}
 use lib.Pow.{pow-pos, high, low}
-use borrow.Author.Tests.{eqb-true, eqb-false, not-true}
-use Rattle.sets.specs.Mask.{member, union, subset}
+use borrow.Author.Tests.{eqb-true, eqb-false, ltb-true, ltb-false, not-true}
+use Rattle.sets.specs.Mask.{member, subset}
+use Rattle.sets.specs.Bounded.{any}
 use Rattle.sets.specs.Family.{Family, listed, holds}
-use Rattle.sets.proofs.Logic.{decided, refuted, same-truth, and-left, and-right, and-intro, and-false-left, or-cases, or-left, or-right, false-not}
-use Rattle.sets.proofs.Bounded.{any-found, any-intro, any-refuted}
-use Rattle.sets.proofs.Mask.{member-zero, member-or, subset-refl, subset-trans, subset-le, subset-lt, subset-witness, subset-antisym, subset-add, add-subset}
+use Rattle.sets.proofs.Logic.{decided, refuted, same-truth, and-left, and-right, and-intro, and-false-left, and-false-right, or-cases, or-left, or-right, false-not}
+use Rattle.sets.proofs.Bounded.{any-found, any-intro, any-refuted, any-ext}
+use Rattle.sets.proofs.Mask.{member-zero, subset-refl, subset-trans, subset-le, subset-lt, subset-witness, subset-antisym, subset-add, add-subset}
 use Rattle.sets.proofs.Family.{DownBelow, listed-mem, mem-listed, holds-found, holds-intro}
 use Rattle.games.specs.Format.{maxStates}
-use Rattle.families.specs.Bits.{laneSets, highStates, lanes, has, Bits, Closed, Holding, hasWith, largerHas, lowHas, aboveHas, laneStates}
+use Rattle.families.specs.Bits.{laneSets, highStates, lanes, has, Bits, Closed, Holding, hasWith, largerHas, lowHas, upHas, aboveHas, laneStates}
 use Rattle.families.proofs.Lanes.{lane-there, has-at, subset-lane}
+
+-- ---- the subsets within the words
+
+-- the word has the subsets of the sets of the lane
+abbrev pub Low : List ℕ → ℕ → ℕ → Type 0
+Low bits lane word = (t : ℕ) → t < laneSets → member word t ≡ lowHas (getD bits lane 0) t
+
+-- where there is no lane, there is no set
+no-low : (t : ℕ) → member 0 t ≡ lowHas 0 t
+no-low t = member-zero t ∙ sym (any-refuted laneSets (λ u. subset t u && member 0 u) (λ u h. and-false-right (subset t u) (member-zero u)))
+
+-- all lanes are done
+pub low-end : (old bits : List ℕ) → length bits ≡ length old → ((m : ℕ) → m < length old → Low old m (getD bits m 0)) → (lane : ℕ) → Low old lane (getD bits lane 0)
+low-end old bits e f lane t h =
+    ⊎-elim (λ b. f lane (ltb-true lane (length old) b) t h)
+    (λ b. let l : length old ≤ lane = ltb-false lane (length old) b in
+    ap (λ (x : ℕ). member x t) (List·getD-eq-default bits 0 (omega (arith, e))) ∙ no-low t ∙ ap (λ (x : ℕ). lowHas x t) (sym (List·getD-eq-default old 0 l)))
+    (decided (ltb lane (length old)))
+
+-- what the lanes above have of them
+pub up-low : (old bits : List ℕ) → length bits ≡ length old → ((lane : ℕ) → Low old lane (getD bits lane 0)) → (lane t : ℕ) → t < laneSets → upHas bits lane t ≡ aboveHas old lane t
+up-low old bits e f lane t h =
+    ap (λ (n : ℕ). any n (λ m. subset lane m && member (getD bits m 0) t)) e
+    ∙ any-ext (length old) (λ m. subset lane m && member (getD bits m 0) t) (λ m. subset lane m && lowHas (getD old m 0) t) (λ m l. ap (λ (b : Bool). subset lane m && b) (f m t h))
 
 -- ---- the lanes above
 
 -- past the end there is no lane, and none above
-pub above-none : (bits : List ℕ) (lane t : ℕ) → length bits ≤ lane → member (getD bits lane 0) t ≡ aboveHas bits lane t
-above-none bits lane t l =
+pub up-none : (bits : List ℕ) (lane t : ℕ) → length bits ≤ lane → member (getD bits lane 0) t ≡ upHas bits lane t
+up-none bits lane t l =
     ap (λ (x : ℕ). member x t) (List·getD-eq-default bits 0 l) ∙ member-zero t
-    ∙ sym (any-refuted (length bits) (λ m. subset lane m && lowHas (getD bits m 0) t)
-    (λ m h. and-false-left (lowHas (getD bits m 0) t) (refuted (subset lane m) (λ k. let o : lane ≤ m = subset-le lane m k in omega arith))))
+    ∙ sym (any-refuted (length bits) (λ m. subset lane m && member (getD bits m 0) t)
+    (λ m h. and-false-left (member (getD bits m 0) t) (refuted (subset lane m) (λ k. let o : lane ≤ m = subset-le lane m k in omega arith))))
 
-module _ (old bits : List ℕ) (lane own word t : ℕ) (few : length old ≤ 2 ^ highStates) (here : lane < length old) (long : length bits ≡ length old)
-    (below : member own t ≡ lowHas (getD old lane 0) t) (done : (m : ℕ) → lane < m → member (getD bits m 0) t ≡ aboveHas old m t) (above : member word t ≡ largerHas bits lane t) where
-  from-larger : member word t ≡ true → aboveHas old lane t ≡ true
+module _ (old bits : List ℕ) (lane word t : ℕ) (few : length old ≤ 2 ^ highStates) (here : lane < length old) (kept : getD bits lane 0 ≡ getD old lane 0)
+    (done : (m : ℕ) → lane < m → member (getD bits m 0) t ≡ upHas old m t) (above : member word t ≡ (member (getD bits lane 0) t || largerHas bits lane t)) where
+  own : member (getD bits lane 0) t ≡ member (getD old lane 0) t
+  own = ap (λ (x : ℕ). member x t) kept
+
+  from-larger : largerHas bits lane t ≡ true → upHas old lane t ≡ true
   from-larger m =
-      let w = any-found highStates (λ i. hasWith bits lane i t) (sym above ∙ m) in
+      let w = any-found highStates (λ i. hasWith bits lane i t) m in
       let f : member lane (w .0) ≡ false = not-true (member lane (w .0)) (and-left (not (member lane (w .0))) (member (getD bits (lane + 2 ^ w .0) 0) t) (w .2)) in
       let g : member (getD bits (lane + 2 ^ w .0) 0) t ≡ true = and-right (not (member lane (w .0))) (member (getD bits (lane + 2 ^ w .0) 0) t) (w .2) in
-      let v = any-found (length old) (λ m. subset (lane + 2 ^ w .0) m && lowHas (getD old m 0) t) (sym (done (lane + 2 ^ w .0) (omega (arith, pow-pos (w .0)))) ∙ g) in
-      any-intro (length old) (λ m. subset lane m && lowHas (getD old m 0) t) (v .0) (v .1)
-      (and-intro (subset-trans lane (lane + 2 ^ w .0) (v .0) (subset-add lane (w .0) f) (and-left (subset (lane + 2 ^ w .0) (v .0)) (lowHas (getD old (v .0) 0) t) (v .2)))
-      (and-right (subset (lane + 2 ^ w .0) (v .0)) (lowHas (getD old (v .0) 0) t) (v .2)))
+      let v = any-found (length old) (λ m. subset (lane + 2 ^ w .0) m && member (getD old m 0) t) (sym (done (lane + 2 ^ w .0) (omega (arith, pow-pos (w .0)))) ∙ g) in
+      any-intro (length old) (λ m. subset lane m && member (getD old m 0) t) (v .0) (v .1)
+      (and-intro (subset-trans lane (lane + 2 ^ w .0) (v .0) (subset-add lane (w .0) f) (and-left (subset (lane + 2 ^ w .0) (v .0)) (member (getD old (v .0) 0) t) (v .2)))
+      (and-right (subset (lane + 2 ^ w .0) (v .0)) (member (getD old (v .0) 0) t) (v .2)))
 
   -- a lane above this one lies above one with a state more
-  to-larger : (m : ℕ) → m < length old → subset lane m ≡ true → lowHas (getD old m 0) t ≡ true → (m ≡ lane → ⊥) → member word t ≡ true
+  to-larger : (m : ℕ) → m < length old → subset lane m ≡ true → member (getD old m 0) t ≡ true → (m ≡ lane → ⊥) → largerHas bits lane t ≡ true
   to-larger m l k g d =
       ⊎-elim (λ a. absurd (d (subset-antisym m lane a k)))
       (λ a. let w = subset-witness highStates m lane (lt-of-lt-of-le l few) a in
-      above
-      ∙ any-intro highStates (λ i. hasWith bits lane i t) (w .0) (w .1)
+      any-intro highStates (λ i. hasWith bits lane i t) (w .0) (w .1)
       (and-intro (false-not (w .3))
       (done (lane + 2 ^ w .0) (omega (arith, pow-pos (w .0)))
-      ∙ any-intro (length old) (λ m. subset (lane + 2 ^ w .0) m && lowHas (getD old m 0) t) m l (and-intro (add-subset lane (w .0) (w .3) m k (w .2)) g))))
+      ∙ any-intro (length old) (λ m. subset (lane + 2 ^ w .0) m && member (getD old m 0) t) m l (and-intro (add-subset lane (w .0) (w .3) m k (w .2)) g))))
       (decided (subset m lane))
 
   -- one lane more
-  pub close-here : member (union own word) t ≡ aboveHas old lane t
-  close-here =
-      member-or own word t
-      ∙ same-truth (member own t || member word t) (aboveHas old lane t)
+  pub up-here : member word t ≡ upHas old lane t
+  up-here =
+      above
+      ∙ same-truth (member (getD bits lane 0) t || largerHas bits lane t) (upHas old lane t)
       (λ e. ⊎-elim
-      (λ a. any-intro (length old) (λ m. subset lane m && lowHas (getD old m 0) t) lane here (and-intro (subset-refl lane) (sym below ∙ a)))
+      (λ a. any-intro (length old) (λ m. subset lane m && member (getD old m 0) t) lane here (and-intro (subset-refl lane) (sym own ∙ a)))
       from-larger
-      (or-cases (member own t) (member word t) e))
-      (λ e. let w = any-found (length old) (λ m. subset lane m && lowHas (getD old m 0) t) e in
-      let k : subset lane (w .0) ≡ true = and-left (subset lane (w .0)) (lowHas (getD old (w .0) 0) t) (w .2) in
-      let g : lowHas (getD old (w .0) 0) t ≡ true = and-right (subset lane (w .0)) (lowHas (getD old (w .0) 0) t) (w .2) in
+      (or-cases (member (getD bits lane 0) t) (largerHas bits lane t) e))
+      (λ e. let w = any-found (length old) (λ m. subset lane m && member (getD old m 0) t) e in
+      let k : subset lane (w .0) ≡ true = and-left (subset lane (w .0)) (member (getD old (w .0) 0) t) (w .2) in
+      let g : member (getD old (w .0) 0) t ≡ true = and-right (subset lane (w .0)) (member (getD old (w .0) 0) t) (w .2) in
       ⊎-elim
-      (λ a. or-left (member word t) (below ∙ subst (λ (x : ℕ). lowHas (getD old x 0) t ≡ true) (eqb-true (w .0) lane a) g))
-      (λ a. or-right (member own t) (to-larger (w .0) (w .1) k g (eqb-false (w .0) lane a)))
+      (λ a. or-left (largerHas bits lane t) (own ∙ subst (λ (x : ℕ). member (getD old x 0) t ≡ true) (eqb-true (w .0) lane a) g))
+      (λ a. or-right (member (getD bits lane 0) t) (to-larger (w .0) (w .1) k g (eqb-false (w .0) lane a)))
       (decided (eqb (w .0) lane)))
 
 -- the lanes from `lane` up are done, those below are as they were
-pub record Closing (old bits : List ℕ) (lane : ℕ) : Type 0 where
+pub record Spreading (old bits : List ℕ) (lane : ℕ) : Type 0 where
   pub within : lane ≤ length old
   pub long : length bits ≡ length old
   pub kept : (m : ℕ) → m < lane → getD bits m 0 ≡ getD old m 0
-  pub done : (m t : ℕ) → lane ≤ m → t < laneSets → member (getD bits m 0) t ≡ aboveHas old m t
+  pub done : (m t : ℕ) → lane ≤ m → member (getD bits m 0) t ≡ upHas old m t
 
 -- the first turn
-pub closing-none : (bits : List ℕ) → Closing bits bits (length bits)
-closing-none bits = record { within = omega arith; long = refl; kept = λ m l. refl; done = λ m t l h. above-none bits m t l }
+pub spreading-none : (bits : List ℕ) → Spreading bits bits (length bits)
+spreading-none bits = record { within = omega arith; long = refl; kept = λ m l. refl; done = λ m t l. up-none bits m t l }
 
 -- one turn
-pub closing-more : (old bits : List ℕ) (lane own word : ℕ) → length old ≤ 2 ^ highStates → Closing old bits (lane + 1) → ((t : ℕ) → t < laneSets → member own t ≡ lowHas (getD bits lane 0) t) → ((t : ℕ) → t < laneSets → member word t ≡ largerHas bits lane t) →
-    Closing old (set bits lane (union own word)) lane
-closing-more old bits lane own word few c b f = record {
+pub spreading-more : (old bits : List ℕ) (lane word : ℕ) → length old ≤ 2 ^ highStates → Spreading old bits (lane + 1) → ((t : ℕ) → member word t ≡ (member (getD bits lane 0) t || largerHas bits lane t)) →
+    Spreading old (set bits lane word) lane
+spreading-more old bits lane word few c f = record {
   within = omega (arith, c .within);
-  long = length-set bits lane (union own word) ∙ c .long;
-  kept = λ m l. getD-set-other bits lane m (union own word) 0 (λ e. omega arith) ∙ c .kept m (omega arith);
-  done = λ m t l h. ⊎-elim
+  long = length-set bits lane word ∙ c .long;
+  kept = λ m l. getD-set-other bits lane m word 0 (λ e. omega arith) ∙ c .kept m (omega arith);
+  done = λ m t l. ⊎-elim
       (λ e. let d : m ≡ lane = eqb-true m lane e in
-      subst (λ (x : ℕ). member (getD (set bits lane (union own word)) x 0) t ≡ aboveHas old x t) (sym d)
-      (ap (λ (x : ℕ). member x t) (getD-set-same bits lane (union own word) 0 (omega (arith, c .within, c .long)))
-      ∙ close-here old bits lane own word t few (omega (arith, c .within)) (c .long) (b t h ∙ ap (λ (x : ℕ). lowHas x t) (c .kept lane (omega arith))) (λ k a. c .done k t (omega arith) h) (f t h)))
-      (λ e. ap (λ (x : ℕ). member x t) (getD-set-other bits lane m (union own word) 0 (eqb-false m lane e)) ∙ c .done m t (omega (arith, eqb-false m lane e)) h)
+      subst (λ (x : ℕ). member (getD (set bits lane word) x 0) t ≡ upHas old x t) (sym d)
+      (ap (λ (x : ℕ). member x t) (getD-set-same bits lane word 0 (omega (arith, c .within, c .long)))
+      ∙ up-here old bits lane word t few (omega (arith, c .within)) (c .kept lane (omega arith)) (λ k a. c .done k t (omega arith)) (f t)))
+      (λ e. ap (λ (x : ℕ). member x t) (getD-set-other bits lane m word 0 (eqb-false m lane e)) ∙ c .done m t (omega (arith, eqb-false m lane e)))
       (decided (eqb m lane));
 }
 

@@ -1,8 +1,8 @@
 -- Laws of lanes and their words.
 -- Assumes nothing.
-use mathlib.Core.Path.{_≡_, sym, ap, ap₂, _∙_, subst}
+use mathlib.Core.Path.{_≡_, refl, sym, ap, ap₂, _∙_, subst}
 use mathlib.Core.Logic.{_⊎_, ⊎-elim}
-use mathlib.Core.Bool.{Bool, true, false, not, _&&_, _||_, and-comm, and-true}
+use mathlib.Core.Bool.{Bool, true, false, not, _&&_, _||_, and-comm, and-true, or-false, or-assoc}
 use mathlib.Core.List.{List}
 use Prim.Native.Nat.{ℕ, _+_, _-_, _*_, _/_, _%_, _^_, _≤_, _<_}
 use native.Mathlib.Nat.{one-mul, mod-eq-of-lt, add-comm, add-assoc}
@@ -17,7 +17,7 @@ use Rattle.games.specs.Format.{maxStates}
 use Rattle.families.specs.Bits.{laneStates, laneSets, highStates, lanes, has, hasWith, largerHas, wordWith, coveredBy}
 use Rattle.sets.proofs.Logic.{decided, clash, same-truth, and-left, and-right, and-intro, or-cases, or-left, or-right, false-not, and-false-left, and-false-right, true-not}
 use Rattle.sets.proofs.Bounded.{all-more, all-at, all-intro, any-zero, any-more, any-found, any-intro}
-use Rattle.sets.proofs.Mask.{member-zero, member-and, member-or, member-shift, member-low, member-rest, subset-intro, subset-member, subset-add, add-lt, subset-parts}
+use Rattle.sets.proofs.Mask.{member-zero, member-and, member-or, member-shift, member-low, member-rest, subset-intro, subset-member, subset-refl, subset-antisym, subset-add, add-lt, subset-parts, union-add, union-least, union-subset-left, union-subset-right, member-sub-same, sub-add}
 
 -- a 1 shifted by fewer places than the word has
 pub shift-one : (w i : ℕ) → i < w → 1 * 2 ^ i % 2 ^ w ≡ 2 ^ i
@@ -65,6 +65,19 @@ lacks-end h t l =
 
 -- ---- the lane with a state more
 
+-- a lane that has the state is itself the lane with it
+union-has : (lane i : ℕ) → member lane i ≡ true → union lane (2 ^ i) ≡ lane
+union-has lane i m =
+    subset-antisym (union lane (2 ^ i)) lane
+    (union-least lane (2 ^ i) lane (subset-refl lane)
+    (subst (λ (x : ℕ). subset (2 ^ i) x ≡ true) (union-add (lane - 2 ^ i) i (member-sub-same lane i m) ∙ sub-add lane i m) (union-subset-right (lane - 2 ^ i) (2 ^ i))))
+    (union-subset-left lane (2 ^ i))
+
+-- what is there already adds nothing
+or-own : (a b c : Bool) → c ≡ false → ((a || b) || a) ≡ (a || (b || c))
+or-own true b c e = refl
+or-own false b c e = or-false b ∙ sym (ap (λ (x : Bool). b || x) e ∙ or-false b)
+
 module _ (bits : List ℕ) (lane i with : ℕ) (e : with ≡ lane + 2 ^ i) where
   -- this lane lacks the state
   pub with-hit : lane / 2 ^ i % 2 ≡ 0 → (t : ℕ) → member (getD bits with 0) t ≡ hasWith bits lane i t
@@ -82,6 +95,26 @@ module _ (bits : List ℕ) (lane i with : ℕ) (e : with ≡ lane + 2 ^ i) where
   with-none l t =
       member-zero t
       ∙ sym (and-false-right (not (member lane i)) (ap (λ (x : ℕ). member x t) (List·getD-eq-default bits 0 (subst (λ (x : ℕ). length bits ≤ x) e l)) ∙ member-zero t))
+
+-- ---- this lane and those with a state more
+
+-- before the first turn
+pub above-none : (bits : List ℕ) (lane t : ℕ) → member (getD bits lane 0) t ≡ (member (getD bits lane 0) t || any 0 (λ i. hasWith bits lane i t))
+above-none bits lane t = sym (ap (λ (b : Bool). member (getD bits lane 0) t || b) (any-zero (λ i. hasWith bits lane i t)) ∙ or-false (member (getD bits lane 0) t))
+
+-- one turn: the lane with the state is this one, or has a state more
+pub above-more : (bits : List ℕ) (lane i all t : ℕ) → member all t ≡ (member (getD bits lane 0) t || any i (λ i. hasWith bits lane i t)) →
+    member (union all (getD bits (union lane (2 ^ i)) 0)) t ≡ (member (getD bits lane 0) t || any (i + 1) (λ i. hasWith bits lane i t))
+above-more bits lane i all t e =
+    let own : Bool = member (getD bits lane 0) t in
+    let more : Bool = any i (λ i. hasWith bits lane i t) in
+    member-or all (getD bits (union lane (2 ^ i)) 0) t ∙ ap (λ (b : Bool). b || member (getD bits (union lane (2 ^ i)) 0) t) e
+    ∙ ⊎-elim
+    (λ m. ap (λ (x : ℕ). (own || more) || member (getD bits x 0) t) (union-has lane i m) ∙ or-own own more (hasWith bits lane i t) (and-false-left (member (getD bits (lane + 2 ^ i) 0) t) (true-not m)))
+    (λ m. ap (λ (x : ℕ). (own || more) || member (getD bits x 0) t) (union-add lane i m)
+    ∙ ap (λ (b : Bool). (own || more) || b) (sym (ap (λ (b : Bool). b && member (getD bits (lane + 2 ^ i) 0) t) (false-not m))) ∙ or-assoc own more (hasWith bits lane i t))
+    (decided (member lane i))
+    ∙ ap (λ (b : Bool). own || b) (sym (any-more i (λ i. hasWith bits lane i t)))
 
 -- ---- the word shifted by one state
 

@@ -1,5 +1,6 @@
 pub mod Table
 pub mod Lanes
+pub mod Mapping
 pub mod Maximal
 pub mod Words
 pub mod Inserting

@@ -6,12 +6,11 @@ use mathlib.Core.Bool.{Bool, true, false, not, _&&_, _||_}
 use mathlib.Core.List.{List}
 use Prim.Native.Nat.{ℕ, _+_, _-_, _*_, _/_, _%_, _^_, _≤_, _<_}
 use native.Mathlib.Omega.{arith}
-use lib.Dec.{eqb, ltb}
-use lib.ListN.{length, getD, set, length-set}
-use lib.Seq.{getD-set-same, getD-set-other}
+use lib.Dec.{ltb}
+use lib.ListN.{length, getD}
 use lib.Pow.{pow-pos}
 use lib.Bits.{or-lt}
-use borrow.Author.Tests.{eqb-true, eqb-false, ltb-true, ltb-false, not-true}
+use borrow.Author.Tests.{ltb-true, ltb-false, not-true}
 use Rattle.sets.specs.Mask.{member, common, union}
 use Rattle.sets.specs.Bounded.{select}
 use Rattle.sets.specs.Family.{isMaximal, maximal}
@@ -92,38 +91,20 @@ module _ (n : ℕ) (bits : List ℕ) (c : Closed n bits) (lane t : ℕ) (l : t <
 
 -- ---- all lanes
 
+-- the word has the maximal sets of the lane
+abbrev pub Tops : ℕ → List ℕ → ℕ → ℕ → Type 0
+Tops n bits lane word = (t : ℕ) → t < laneSets → member word t ≡ isMaximal n (has bits) (lane * laneSets + t)
+
 module _ (n : ℕ) (bits : List ℕ) (c : Closed n bits) where
   -- a maximal set is one of n states
   beyond : (s : ℕ) → 2 ^ n ≤ s → isMaximal n (has bits) s ≡ false
   beyond s l = refuted (isMaximal n (has bits) s) (λ m. let h : s < 2 ^ n = c .within s (isMaximal-in n (has bits) s m) in omega arith)
 
   -- the words found, lane by lane, are those of the maximal sets
-  pub found-maximal : (found : List ℕ) → length found ≡ length bits → ((m t : ℕ) → m < length bits → t < laneSets → member (getD found m 0) t ≡ isMaximal n (has bits) (m * laneSets + t)) → sets found ≡ maximal n (has bits)
+  pub found-maximal : (found : List ℕ) → length found ≡ length bits → ((m : ℕ) → m < length bits → Tops n bits m (getD found m 0)) → sets found ≡ maximal n (has bits)
   unfolding sets maximal
   found-maximal found e f =
       let l : 2 ^ n ≤ length found * laneSets = omega (arith, lanes-room n, c .size, e) in
       select-ext (length found * laneSets) (has found) (isMaximal n (has bits))
-      (λ s h. f (s / laneSets) (s % laneSets) (omega (arith, e)) (omega arith) ∙ ap (isMaximal n (has bits)) (by-lane s))
+      (λ s h. f (s / laneSets) (omega (arith, e)) (s % laneSets) (omega arith) ∙ ap (isMaximal n (has bits)) (by-lane s))
       ∙ select-gap (2 ^ n) (length found * laneSets) (isMaximal n (has bits)) l (λ i a b. beyond i a)
-
--- the lanes below `lane` are found
-pub record Finding (n : ℕ) (bits found : List ℕ) (lane : ℕ) : Type 0 where
-  pub within : lane ≤ length bits
-  pub long : length found ≡ length bits
-  pub done : (m t : ℕ) → m < lane → t < laneSets → member (getD found m 0) t ≡ isMaximal n (has bits) (m * laneSets + t)
-
--- before the first turn
-pub finding-none : (n : ℕ) (bits found : List ℕ) → length found ≡ length bits → Finding n bits found 0
-finding-none n bits found e = record { within = omega arith; long = e; done = λ m t l h. absurd (omega arith) }
-
--- one turn
-pub finding-more : (n : ℕ) (bits found : List ℕ) (lane word : ℕ) → Finding n bits found lane → lane < length bits → ((t : ℕ) → t < laneSets → member word t ≡ isMaximal n (has bits) (lane * laneSets + t)) → Finding n bits (set found lane word) (lane + 1)
-finding-more n bits found lane word w l f = record {
-  within = omega arith;
-  long = length-set found lane word ∙ w .long;
-  done = λ m t b h. ⊎-elim
-      (λ e. subst (λ (x : ℕ). member (getD (set found lane word) x 0) t ≡ isMaximal n (has bits) (x * laneSets + t)) (sym (eqb-true m lane e))
-      (ap (λ (x : ℕ). member x t) (getD-set-same found lane word 0 (omega (arith, w .long))) ∙ f t h))
-      (λ e. ap (λ (x : ℕ). member x t) (getD-set-other found lane m word 0 (eqb-false m lane e)) ∙ w .done m t (omega (arith, eqb-false m lane e)) h)
-      (decided (eqb m lane));
-}

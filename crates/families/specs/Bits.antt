@@ -80,6 +80,10 @@ coveredBy word t = any laneStates (λ i. wordWith word i t)
 abbrev pub lowHas : ℕ → ℕ → Bool
 lowHas word t = any laneSets (λ u. subset t u && member word u)
 
+-- a lane that holds this one has t
+abbrev pub upHas : List ℕ → ℕ → ℕ → Bool
+upHas bits lane t = any (length bits) (λ m. subset lane m && member (getD bits m 0) t)
+
 -- a lane that holds this one has a set that holds t
 abbrev pub aboveHas : List ℕ → ℕ → ℕ → Bool
 aboveHas bits lane t = any (length bits) (λ m. subset lane m && lowHas (getD bits m 0) t)

@@ -1,14 +1,14 @@
 // Families of sets of states as bits, 64 sets to a machine word (lane).
 ghost use mathlib.Core.Path.{_≡_};
-ghost use mathlib.Core.Bool.{not};
+ghost use mathlib.Core.Bool.{not, _||_};
 ghost use mathlib.Core.List.{_++_};
 ghost use Prim.Native.Nat.{ℕ, _+_, _*_, _/_, _^_, _≤_, _<_};
 ghost use lib.ListN.{length, getD, take, drop, replicate};
-ghost use Rattle.sets.specs.Mask.{member, subset};
+ghost use Rattle.sets.specs.Mask.{member, union, subset};
 ghost use Rattle.sets.specs.Bounded.{count as countOf, select};
 ghost use Rattle.sets.specs.Family.{listed, holds, isMaximal, maximal};
 ghost use Rattle.games.specs.Format.{maxStates};
-ghost use Rattle.families.specs.Bits.{laneStates, laneSets, highStates, maxLanes, lanes, has as isIn, sets, Bits, Closed, Holding, Lane, hasWith, largerHas, wordWith, coveredBy, lowHas, aboveHas, raised};
+ghost use Rattle.families.specs.Bits.{laneStates, laneSets, highStates, maxLanes, lanes, has as isIn, sets, Bits, Closed, Holding, Lane, hasWith, largerHas, wordWith, coveredBy, lowHas, upHas, aboveHas, raised};
 
 // The states below 6 tell the sets of a lane apart.
 const LANE_STATES: u32 = 6;
@@ -254,16 +254,62 @@ fn lower(word: u64) -> u64
     all
 }
 
-// The subsets of the sets, from the highest lane down: a lane's own, and what the lanes that hold it have.
-fn close(bits: &mut [u64])
+// The subsets within each word. (A loop of its own, over words that are independent.)
+fn lower_all(bits: &mut [u64])
+    ensures { λ _. ⌜ (length (now (bits .exit)) ≡ length (now (bits .entry))) × ((lane t : ℕ) → t < laneSets → member (getD (now (bits .exit)) lane 0) t ≡ lowHas (getD (now (bits .entry)) lane 0) t) ⌝ }
+{
+    let mut lane = 0;
+    while lane < bits.len() {
+        bits[lane] = lower(bits[lane]);
+        lane += 1;
+    }
+}
+
+// The lane with the state i of the lanes put in, which is this lane where it has it; no set where there is no such lane.
+fn lane_with(bits: &[u64], lane: usize, i: u32) -> u64
+    requires { ⌜ i < highStates ⌝ }
+    ensures { λ r. ⌜ r ≡ getD (now (bits .entry)) (union lane (2 ^ i)) 0 ⌝ }
+{
+    let with = lane | (1 << i);
+    if with < bits.len() {
+        return bits[with];
+    }
+    0
+}
+
+// What this lane and the lanes with one state more have, united. (That a lane has the state is not tested: it is then this lane.)
+fn above(bits: &[u64], lane: usize) -> u64
+    requires { ⌜ Lane (now bits) lane ⌝ }
+    ensures { λ r. ⌜ ((t : ℕ) → member r t ≡ (member (getD (now (bits .entry)) lane 0) t || largerHas (now (bits .entry)) lane t)) ⌝ }
+{
+    let mut all = bits[lane];
+    let mut i = 0;
+    while i < HIGH_STATES {
+        all = all | lane_with(bits, lane, i);
+        i += 1;
+    }
+    all
+}
+
+// What the lanes that hold a lane have, from the highest lane down.
+fn spread(bits: &mut [u64])
     requires { ⌜ length (now bits) ≤ 2 ^ highStates ⌝ }
-    ensures { λ _. ⌜ (length (now (bits .exit)) ≡ length (now (bits .entry))) × ((lane t : ℕ) → t < laneSets → member (getD (now (bits .exit)) lane 0) t ≡ aboveHas (now (bits .entry)) lane t) ⌝ }
+    ensures { λ _. ⌜ (length (now (bits .exit)) ≡ length (now (bits .entry))) × ((lane t : ℕ) → member (getD (now (bits .exit)) lane 0) t ≡ upHas (now (bits .entry)) lane t) ⌝ }
 {
     let mut lane = bits.len();
     while 0 < lane {
         lane -= 1;
-        bits[lane] = lower(bits[lane]) | larger(bits, lane);
+        bits[lane] = above(bits, lane);
     }
+}
+
+// The subsets of the sets: within the words, then from lane to lane.
+fn close(bits: &mut [u64])
+    requires { ⌜ length (now bits) ≤ 2 ^ highStates ⌝ }
+    ensures { λ _. ⌜ (length (now (bits .exit)) ≡ length (now (bits .entry))) × ((lane t : ℕ) → t < laneSets → member (getD (now (bits .exit)) lane 0) t ≡ aboveHas (now (bits .entry)) lane t) ⌝ }
+{
+    lower_all(bits);
+    spread(bits);
 }
 
 // The subsets of the list's sets.

@@ -4,12 +4,11 @@ use mathlib.Core.Path.{_≡_, refl, sym, ap, ap₂, _∙_}
 use mathlib.Core.Logic.{_⊎_, inl, ⊎-elim}
 use mathlib.Core.Bool.{Bool, true, false, cond, _&&_, _||_}
 use mathlib.Core.List.{List}
-use Prim.Native.Nat.{ℕ, _+_, _/_, _%_, _≤_, _<_}
+use Prim.Native.Nat.{ℕ, _/_, _%_, _≤_}
 use native.Mathlib.Omega.{arith}
-use lib.Dec.{eqb, ltb}
-use lib.ListN.{length, getD, set, length-set, List·getD-eq-default}
-use lib.Seq.{getD-set-same, getD-set-other}
-use borrow.Author.Tests.{eqb-true, eqb-false, ltb-true, ltb-false}
+use lib.Dec.{ltb}
+use lib.ListN.{length, getD, List·getD-eq-default}
+use borrow.Author.Tests.{ltb-true, ltb-false}
 use Rattle.sets.specs.Mask.{member}
 use Rattle.sets.specs.Family.{holds, maximal, join, meet}
 use Rattle.sets.proofs.Logic.{decided, and-left, and-right, and-intro, or-cases, or-left, or-right}
@@ -19,32 +18,9 @@ use Rattle.families.specs.Bits.{laneSets, has, Bits, Closed}
 use Rattle.families.proofs.Closing.{bits-closed}
 use Rattle.lists.specs.Merging.{gathered, Merged, held, Masks}
 
--- ---- the loop
-
--- the first i words are done, the others are as they were
-pub record Merging (m : Bool) (old b a : List ℕ) (i : ℕ) : Type 0 where
-  pub within : i ≤ length old
-  pub long : length a ≡ length old
-  pub done : (j : ℕ) → j < i → getD a j 0 ≡ gathered m (getD old j 0) (getD b j 0)
-  pub kept : (j : ℕ) → i ≤ j → getD a j 0 ≡ getD old j 0
-
--- before the first turn
-pub merging-none : (m : Bool) (a b : List ℕ) → Merging m a b a 0
-merging-none m a b = record { within = omega arith; long = refl; done = λ j l. absurd (omega arith); kept = λ j l. refl }
-
--- one turn
-pub merging-more : (m : Bool) (old b a : List ℕ) (i word : ℕ) → Merging m old b a i → i < length old → word ≡ gathered m (getD a i 0) (getD b i 0) → Merging m old b (set a i word) (i + 1)
-merging-more m old b a i word w l e = record {
-  within = omega arith;
-  long = length-set a i word ∙ w .long;
-  done = λ j h. ⊎-elim
-      (λ t. let d : j ≡ i = eqb-true j i t in
-      ap (λ (x : ℕ). getD (set a i word) x 0) d ∙ getD-set-same a i word 0 (omega (arith, w .long)) ∙ e
-      ∙ ap (λ (x : ℕ). gathered m x (getD b i 0)) (w .kept i (omega arith)) ∙ ap (λ (x : ℕ). gathered m (getD old x 0) (getD b x 0)) (sym d))
-      (λ t. let d : j ≡ i → ⊥ = eqb-false j i t in getD-set-other a i j word 0 d ∙ w .done j (omega arith))
-      (decided (eqb j i));
-  kept = λ j h. getD-set-other a i j word 0 (λ d. omega arith) ∙ w .kept j (omega arith);
-}
+-- the word is that of the two families at the place
+abbrev pub Merges : Bool → List ℕ → List ℕ → ℕ → ℕ → Type 0
+Merges m a b i word = word ≡ gathered m (getD a i 0) (getD b i 0)
 
 -- ---- the families
 
