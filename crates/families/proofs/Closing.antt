@@ -20,7 +20,7 @@ use Rattle.sets.proofs.Bounded.{any-found, any-intro, any-refuted, any-ext}
 use Rattle.sets.proofs.Mask.{member-zero, subset-refl, subset-trans, subset-le, subset-lt, subset-witness, subset-antisym, subset-add, add-subset}
 use Rattle.sets.proofs.Family.{DownBelow, listed-mem, mem-listed, holds-found, holds-intro}
 use Rattle.games.specs.Format.{maxStates}
-use Rattle.families.specs.Bits.{laneSets, highStates, lanes, has, Bits, Closed, Holding, hasWith, largerHas, lowHas, upHas, aboveHas, laneStates}
+use Rattle.families.specs.Bits.{laneSets, highStates, has, Bits, Closed, Holding, hasWith, largerHas, lowHas, upHas, aboveHas, laneStates}
 use Rattle.families.proofs.Lanes.{lane-there, has-at, subset-lane}
 
 -- ---- the subsets within the words

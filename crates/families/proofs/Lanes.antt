@@ -1,13 +1,13 @@
 -- Laws of lanes and their words.
 -- Assumes nothing.
 use mathlib.Core.Path.{_≡_, refl, sym, ap, ap₂, _∙_, subst}
-use mathlib.Core.Logic.{_⊎_, ⊎-elim}
+use mathlib.Core.Logic.{⊎-elim}
 use mathlib.Core.Bool.{Bool, true, false, not, _&&_, _||_, and-comm, and-true, or-false, or-assoc}
 use mathlib.Core.List.{List}
 use Prim.Native.Nat.{ℕ, _+_, _-_, _*_, _/_, _%_, _^_, _≤_, _<_}
 use native.Mathlib.Nat.{one-mul, mod-eq-of-lt, add-comm, add-assoc}
 use native.Mathlib.Omega.{arith}
-use lib.ListN.{length, getD, set, List·getD-eq-default}
+use lib.ListN.{length, getD, set}
 use lib.Seq.{getD-set-same, getD-set-other}
 use lib.Pow.{pow-pos, pow-lt, pow-mono, pow-add, high, low, split}
 use borrow.Author.Tests.{eq-eqb, ne-eqb, not-true}
@@ -15,7 +15,7 @@ use Rattle.sets.specs.Mask.{member, common, union, subset}
 use Rattle.sets.specs.Bounded.{all, any}
 use Rattle.games.specs.Format.{maxStates}
 use Rattle.families.specs.Bits.{laneStates, laneSets, highStates, lanes, has, hasWith, largerHas, wordWith, coveredBy}
-use Rattle.sets.proofs.Logic.{decided, clash, same-truth, and-left, and-right, and-intro, or-cases, or-left, or-right, false-not, and-false-left, and-false-right, true-not}
+use Rattle.sets.proofs.Logic.{decided, clash, same-truth, and-left, and-right, and-intro, or-cases, or-left, or-right, false-not, and-false-left, true-not}
 use Rattle.sets.proofs.Bounded.{all-more, all-at, all-intro, any-zero, any-more, any-found, any-intro}
 use Rattle.sets.proofs.Mask.{member-zero, member-and, member-or, member-shift, member-low, member-rest, subset-intro, subset-member, subset-refl, subset-antisym, subset-add, add-lt, subset-parts, union-add, union-least, union-subset-left, union-subset-right, member-sub-same, sub-add}
 
@@ -78,23 +78,17 @@ or-own : (a b c : Bool) → c ≡ false → ((a || b) || a) ≡ (a || (b || c))
 or-own true b c e = refl
 or-own false b c e = or-false b ∙ sym (ap (λ (x : Bool). b || x) e ∙ or-false b)
 
-module _ (bits : List ℕ) (lane i with : ℕ) (e : with ≡ lane + 2 ^ i) where
+module _ (bits : List ℕ) (lane i : ℕ) where
   -- this lane lacks the state
-  pub with-hit : lane / 2 ^ i % 2 ≡ 0 → (t : ℕ) → member (getD bits with 0) t ≡ hasWith bits lane i t
-  with-hit q t =
-      ap (λ (x : ℕ). member (getD bits x 0) t) e
-      ∙ ap (λ (b : Bool). b && member (getD bits (lane + 2 ^ i) 0) t) (sym (false-not (ne-eqb (lane / 2 ^ i % 2) 1 (λ f. omega arith))))
+  pub with-hit : (word : ℕ) → word ≡ getD bits (union lane (2 ^ i)) 0 → lane / 2 ^ i % 2 ≡ 0 → (t : ℕ) → member word t ≡ hasWith bits lane i t
+  with-hit word e q t =
+      let f : member lane i ≡ false = ne-eqb (lane / 2 ^ i % 2) 1 (λ d. omega arith) in
+      ap (λ (x : ℕ). member x t) (e ∙ ap (λ (x : ℕ). getD bits x 0) (union-add lane i f)) ∙ ap (λ (b : Bool). b && member (getD bits (lane + 2 ^ i) 0) t) (sym (false-not f))
 
   -- it has the state
   pub with-state : (lane / 2 ^ i % 2 ≡ 0 → ⊥) → (t : ℕ) → member 0 t ≡ hasWith bits lane i t
   with-state q t =
       member-zero t ∙ sym (and-false-left (member (getD bits (lane + 2 ^ i) 0) t) (true-not (eq-eqb (lane / 2 ^ i % 2) 1 (omega arith))))
-
-  -- there is no such lane
-  pub with-none : length bits ≤ with → (t : ℕ) → member 0 t ≡ hasWith bits lane i t
-  with-none l t =
-      member-zero t
-      ∙ sym (and-false-right (not (member lane i)) (ap (λ (x : ℕ). member x t) (List·getD-eq-default bits 0 (subst (λ (x : ℕ). length bits ≤ x) e l)) ∙ member-zero t))
 
 -- ---- this lane and those with a state more
 

@@ -12,7 +12,6 @@ use lib.Pow.{pow-pos}
 use lib.Bits.{or-lt}
 use borrow.Author.Tests.{ltb-true, ltb-false, not-true}
 use Rattle.sets.specs.Mask.{member, common, union}
-use Rattle.sets.specs.Bounded.{select}
 use Rattle.sets.specs.Family.{isMaximal, maximal}
 use Rattle.sets.proofs.Logic.{decided, clash, refuted, same-truth, and-left, and-right, and-intro, or-left, or-right, or-false-left, or-false-right, or-false-intro, false-not}
 use Rattle.sets.proofs.Bounded.{all-intro, select-ext, select-gap}

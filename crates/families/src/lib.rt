@@ -94,15 +94,25 @@ pub fn larger(bits: &[u64], lane: usize) -> u64
     all
 }
 
+// The lane with the state i of the lanes put in, which is this lane where it has it; no set where there is no such lane.
+fn lane_with(bits: &[u64], lane: usize, i: u32) -> u64
+    requires { ⌜ i < highStates ⌝ }
+    ensures { λ r. ⌜ r ≡ getD (now (bits .entry)) (union lane (2 ^ i)) 0 ⌝ }
+{
+    let with = lane | (1 << i);
+    if with < bits.len() {
+        return bits[with];
+    }
+    0
+}
+
 // The lane with the state i of the lanes put in; no set where this lane has it or there is no such lane.
 fn with_state(bits: &[u64], lane: usize, i: u32) -> u64
     requires { ⌜ Lane (now bits) lane × i < highStates ⌝ }
     ensures { λ r. ⌜ ((t : ℕ) → member r t ≡ hasWith (now (bits .entry)) lane i t) ⌝ }
 {
-    let step: usize = 1 << i;
-    let with = lane + step;
-    if (lane >> i) % 2 == 0 && with < bits.len() {
-        return bits[with];
+    if (lane >> i) % 2 == 0 {
+        return lane_with(bits, lane, i);
     }
     0
 }
@@ -263,18 +273,6 @@ fn lower_all(bits: &mut [u64])
         bits[lane] = lower(bits[lane]);
         lane += 1;
     }
-}
-
-// The lane with the state i of the lanes put in, which is this lane where it has it; no set where there is no such lane.
-fn lane_with(bits: &[u64], lane: usize, i: u32) -> u64
-    requires { ⌜ i < highStates ⌝ }
-    ensures { λ r. ⌜ r ≡ getD (now (bits .entry)) (union lane (2 ^ i)) 0 ⌝ }
-{
-    let with = lane | (1 << i);
-    if with < bits.len() {
-        return bits[with];
-    }
-    0
 }
 
 // What this lane and the lanes with one state more have, united. (That a lane has the state is not tested: it is then this lane.)

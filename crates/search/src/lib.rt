@@ -19,6 +19,9 @@ use games::Observation;
 use games::State;
 use tables::Walked;
 
+// The place of the last set of a lane.
+const LAST: u32 = LANE_SETS - 1;
+
 // For every observation, the states of u that show it form a set of the family. One that shows all of u decides: the others show subsets.
 fn shown_in(table: &[u32], family: &[u64], u: u32) -> bool
     requires { ⌜ (checked (now table) ≡ Fine) × (length (now family) ≡ lanes (game (now table) .states)) × DownClosed (isIn (now family)) ⌝ }
@@ -85,7 +88,7 @@ fn pass_lane(
     let mut found = covered;
     let mut left = family[lane as usize] & !covered;
     while left != 0 {
-        let h = 63 - u64::leading_zeros(left);
+        let h = LAST - u64::leading_zeros(left);
         if meets_step(table, low, high, family, lane * LANE_SETS + h) {
             let below = families::subsets(h);
             found = found | below;

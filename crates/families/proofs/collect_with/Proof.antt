@@ -1,6 +1,6 @@
 -- `families::collect_with` meets its contract.
 -- Assumes nothing.
-use mathlib.Core.Path.{ap, _∙_, sym}
+use mathlib.Core.Path.{ap, _∙_}
 use mathlib.Core.List.{List, _++_}
 use borrow.Author.Needs.{needs}
 use Prim.Native.Nat.{ℕ}
