@@ -13,7 +13,7 @@ use Rattle.lists.specs.declared.Answer.{Answer as Listed}
 use Rattle.lists.specs.declared.Answer.the-variants as listed
 use Rattle.tables.specs.Check.{checked}
 use Rattle.fields.specs.Read.{readOf}
-use Rattle.fields.specs.Write.{Outcome as Writing, leaves, writeOf, unlessRefused}
+use Rattle.fields.specs.Write.{leaves, writeOf, unlessRefused}
 use Rattle.tables.specs.declared.Checked.{Checked}
 use Rattle.tables.specs.declared.Checked.the-variants.{Fine, Refused as Stopped}
 use Rattle.fields.specs.declared.ReadFields.{ReadFields}

@@ -7,12 +7,10 @@ use Prim.Native.Nat.{ℕ, _+_, _/_, _%_, _^_, _<_}
 use native.Mathlib.Nat.{div-one, add-div-right}
 use native.Mathlib.Omega.{arith}
 use lib.Dec.{eqb}
-use lib.ListN.{set}
 use lib.Pow.{pow-pos, shr-shr}
 use borrow.Author.Tests.{eqb-true, eqb-false, eq-eqb, not-true}
 use Rattle.sets.specs.Mask.{member, union, subset}
 use Rattle.sets.specs.Bounded.{any}
-use Rattle.sets.specs.Family.{holds}
 use Rattle.sets.proofs.Logic.{decided, same-truth, and-left, and-right, and-intro, or-cases, or-left, or-right, false-not}
 use Rattle.sets.proofs.Bounded.{any-found, any-intro, any-ext}
 use Rattle.sets.proofs.Mask.{member-or, add-lt, subset-member, subset-refl, subset-trans, subset-add, add-subset}

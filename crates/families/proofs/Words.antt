@@ -9,15 +9,15 @@ use native.Mathlib.Nat.{add-suc, add-zero, pow-succ'}
 use native.Mathlib.Numerals.{add-one}
 use native.Mathlib.Omega.{arith}
 use lib.Dec.{eqb}
-use lib.Count.{ones, ones-step, trailingZeros, under}
+use lib.Count.{ones, ones-step, trailingZeros}
 use lib.ListN.{length, getD, take, drop, set, length-append, length-set, length-drop, take-append-drop}
 use lib.Seq.{take-suc-set, drop-set-lt, drop-drop, take-at, drop-append-add}
-use borrow.Author.Tests.{eqb-true, eqb-false, eq-eqb, ne-eqb}
+use borrow.Author.Tests.{eqb-true, eqb-false}
 use Rattle.sets.specs.Mask.{member}
 use Rattle.sets.specs.Bounded.{count, select}
 use Rattle.sets.proofs.Logic.{decided}
 use Rattle.sets.proofs.Mask.{member-zero, member-first, member-half, lowest, member-sub-same, member-sub-other, sub-less, single-le}
-use Rattle.sets.proofs.Bounded.{Lowest, select-lowest, select-none, select-length, select-hit-suc, select-skip-suc, count-zero, count-hit-suc, count-skip-suc, count-none, select-ext, count-ext}
+use Rattle.sets.proofs.Bounded.{select-lowest, select-none, select-length, select-hit-suc, select-skip-suc, count-zero, count-hit-suc, count-skip-suc, count-none, select-ext, count-ext}
 use Rattle.families.specs.Bits.{laneSets, has, sets, raised}
 use Rattle.families.proofs.Lanes.{has-at}
 

@@ -4,28 +4,26 @@
 use mathlib.Core.Path.{_≡_, refl, sym, ap, _∙_, subst}
 use mathlib.Core.Logic.{_⊎_, ⊎-elim}
 use mathlib.Core.Bool.{Bool, true, false, cond}
-use mathlib.Core.List.{List, [], _∷_, List·Memᴰ, List·Memᴰ·head, List·Memᴰ·tail, List·Memᴰ·cases-cons, List·Memᴰ·not-nil}
-use Prim.Native.Nat.{ℕ, zero, suc, _+_, _^_, _≤_, _<_}
-use native.Mathlib.Nat.{not-suc-le-zero, le-of-suc-le-suc}
+use mathlib.Core.List.{List, [], _∷_}
+use Prim.Native.Nat.{ℕ, suc, _^_, _<_}
 use native.Mathlib.Omega.{arith}
 use lib.Dec.{eqb, ltb}
 use lib.ListN.{length, getD}
-use borrow.Author.Tests.{ne-eqb, eqb-true, lt-ltb, ltb-true}
+use borrow.Author.Tests.{ne-eqb, lt-ltb, ltb-true}
 use Rattle.sets.specs.Mask.{member, subset}
-use Rattle.sets.specs.Bounded.{Found, found, nothing, first, orElse}
-use Rattle.sets.specs.Family.{Family, holds, maximal}
+use Rattle.sets.specs.Bounded.{Found, first, orElse}
+use Rattle.sets.specs.Family.{holds}
 use Rattle.sets.proofs.Logic.{decided, clash}
 use Rattle.sets.proofs.Bounded.{first-some, first-found}
 use Rattle.sets.proofs.Mask.{member-zero, subset-member}
 use Rattle.sets.proofs.Family.{at-mem, mem-at, holds-found, mem-maximal}
 use Rattle.games.specs.Game.{Game, Accepted, Shows, enabled}
-use Rattle.games.specs.Play.{Strategy, Play, PlayOf, Under, Lasts, Clear, last, seen, rounds}
-use Rattle.games.specs.Step.{after, meets, lowest, step, antichain, settling}
+use Rattle.games.specs.Play.{Strategy, last, seen, rounds}
+use Rattle.games.specs.Step.{after, lowest, step, antichain}
 use Rattle.games.specs.Verdict.{startSet, startsIn, settled, cells}
 use Rattle.games.specs.Automaton.{Automaton, noCell, cellFrom, cellAfter, actionAfter, holding, chosen, card}
-use Rattle.games.specs.Demands.{Follows, Keeps, Second}
+use Rattle.games.specs.Demands.{Follows, Second}
 use Rattle.games.proofs.Steps.{after-below}
-use Rattle.games.proofs.Plays.{rounds-from-one}
 use Rattle.games.proofs.Memory.{from, memory, holds-on, memory-lasts}
 use Rattle.games.proofs.Lasting.{lowest-below, stepped-survives, stepped-in, stepped-member, start-below, start-member, starts-at}
 use Rattle.games.proofs.Settling.{settled-step, cells-hold}

@@ -1,15 +1,13 @@
 -- The outcome, refusal by refusal.
 -- Assumes nothing.
 use mathlib.Core.Path.{_≡_, sym, ap, _∙_, subst}
-use mathlib.Core.Logic.{_⊎_, ⊎-elim}
 use mathlib.Core.Bool.{Bool, false, cond, true}
 use mathlib.Core.List.{List, _++_}
 use Prim.Native.Nat.{ℕ, _+_, _^_, _≤_, _<_}
-use lib.Dec.{leb}
 use lib.ListN.{length, drop}
-use borrow.Author.Tests.{lt-ltb, le-ltb, le-leb, lt-leb}
+use borrow.Author.Tests.{lt-ltb, le-ltb}
 use Rattle.sets.specs.Bounded.{Found, nothing, found, first}
-use Rattle.sets.proofs.Logic.{and-intro, and-false-left, and-false-right, true-not, false-not}
+use Rattle.sets.proofs.Logic.{true-not, false-not}
 use Rattle.games.specs.Format.{maxStates}
 use Rattle.games.proofs.Limits.{within-high}
 use Rattle.lists.specs.declared.Answer.the-variants.{Words, Refused}

@@ -2,23 +2,22 @@
 -- Assumes nothing.
 use mathlib.Core.Path.{_≡_, refl, sym, ap, ap₂, _∙_, subst}
 use mathlib.Core.Logic.{_⊎_, inl, inr, ⊎-elim}
-use mathlib.Core.Bool.{Bool, true, false, cond, _&&_, _||_, not}
+use mathlib.Core.Bool.{Bool, true, false, cond, _||_}
 use mathlib.Core.List.{List, _++_}
 use Prim.Native.Nat.{ℕ, zero, suc, _+_, _-_, _*_, _/_, _%_, _^_, _≤_, _<_, min}
-use native.Mathlib.Nat.{mod-le, le-refl, le-step, le-trans, eq-or-lt-of-le, not-suc-le-zero, mod-eq-of-lt, div-eq-of-lt, mod-lt, div-lt-iff-lt-mul, pow-suc, add-sub-cancel-left, mul-le-mul-right, suc-mul}
+use native.Mathlib.Nat.{mod-le, le-refl, le-step, le-trans, not-suc-le-zero, pow-suc, add-sub-cancel-left, mul-le-mul-right, suc-mul}
 use native.Mathlib.Numerals.{add-one}
 use native.Mathlib.Omega.{arith}
 use lib.Dec.{eqb, ltb}
 use lib.ListN.{length, getD, take, drop, set, length-set, List·getD-append}
-use lib.Pow.{pow-pos, pow-mono, shr-shr, field, mod-mod-pow, shr-lt}
+use lib.Pow.{pow-mono, shr-shr, field, mod-mod-pow, shr-lt}
 use lib.Seq.{getD-set-same, getD-set-other, length-take-le, getD-take, getD-drop, getD-append-add}
 use borrow.Rule.Slice.PartMut.{putMid, postOf, same-len-mid, mid-len}
-use borrow.Author.Count.{below-none, below-more}
-use borrow.Author.Tests.{eq-eqb, ne-eqb, eqb-true, eqb-false, not-true, not-false, ltb-true, ltb-false}
-use Rattle.sets.specs.Mask.{member, union, subset, unionOver}
-use Rattle.sets.specs.Bounded.{all}
+use borrow.Author.Count.{below-more}
+use borrow.Author.Tests.{eqb-true, not-true, not-false, ltb-true, ltb-false}
+use Rattle.sets.specs.Mask.{member, union, unionOver}
 use Rattle.sets.proofs.Logic.{decided, same-truth, or-left, or-right, or-cases}
-use Rattle.sets.proofs.Mask.{member-beyond, member-below, member-or, member-single, single-le, member-add-same, member-add-other, ext-all, unionOver-zero, unionOver-suc, unionOver-hit, unionOver-skip, unionOver-found, unionOver-intro, unionOver-ext, unionOver-lt}
+use Rattle.sets.proofs.Mask.{member-beyond, member-or, member-single, single-le, member-add-same, member-add-other, ext-all, unionOver-zero, unionOver-hit, unionOver-skip, unionOver-found, unionOver-intro, unionOver-ext, unionOver-lt}
 use Rattle.games.specs.Format.{maxStates, maxActions}
 use Rattle.games.specs.Game.{Game, Accepted, enabled}
 use Rattle.games.specs.Step.{enabledAt, post}
@@ -30,7 +29,6 @@ use Rattle.tables.specs.declared.Checked.the-variants.{Fine}
 use Rattle.tables.proofs.Checks.{sized}
 use Rattle.tables.proofs.Bounds.{game-limited}
 use Rattle.tables.specs.Walk.{walked}
-use Rattle.tables.specs.declared.Walked.{Walked}
 use Rattle.tables.specs.declared.Walked.the-variants.{Blocked, Post}
 use Rattle.moves.specs.Halves.{halfStates, halfSets, sideWords, blockedMark, mark, marked, Doubled, Halved, Sided, Tabled}
 

@@ -3,7 +3,7 @@
 use mathlib.Core.Path.{_≡_, refl, sym, ap, _∙_, subst}
 use mathlib.Core.List.{List, List·Memᴰ}
 use mathlib.Core.Bool.{Bool, true, false, not, _&&_, _||_, or-false}
-use Prim.Native.Nat.{ℕ, suc, _+_, _^_, _≤_, _<_}
+use Prim.Native.Nat.{ℕ, _+_, _^_, _<_}
 use native.Mathlib.Nat.{le-refl, lt-of-lt-of-le}
 use native.Mathlib.Omega.{arith}
 use lib.Dec.{eqb}
@@ -15,7 +15,7 @@ use borrow.Author.Tests.{eq-eqb, not-true}
 use Rattle.sets.specs.Mask.{member, union, common, subset}
 use Rattle.sets.specs.Family.{holds}
 use Rattle.sets.proofs.Logic.{or-right, and-left, and-right, and-intro, false-not, same-truth}
-use Rattle.sets.proofs.Mask.{member-zero, member-beyond, member-or, member-single, member-single-other, union-lt, subset-member, subset-intro, common-zero-intro}
+use Rattle.sets.proofs.Mask.{member-beyond, member-or, member-single, member-single-other, union-lt, subset-member, subset-intro, common-zero-intro}
 use Rattle.sets.proofs.Family.{at-mem, mem-at, holds-found, holds-intro}
 use Rattle.families.specs.Bits.{Bits}
 use Rattle.games.specs.Game.{Game, enabled}

@@ -1,6 +1,6 @@
 -- Passes over the lanes of a family.
 -- Assumes nothing.
-use mathlib.Core.Path.{_≡_, refl, sym, ap, ap₂, _∙_, subst}
+use mathlib.Core.Path.{_≡_, sym, ap, ap₂, _∙_, subst}
 use mathlib.Core.Logic.{_⊎_, inl, inr, ⊎-elim}
 use mathlib.Core.Bool.{Bool, true, false, not, _&&_}
 use mathlib.Core.List.{List, [], _∷_}
@@ -13,13 +13,11 @@ use lib.Bits.{and-le-l}
 use lib.Count.{leadingZeros, leading-top}
 use lib.ListN.{length, getD, set, length-set}
 use lib.Seq.{getD-set-same, getD-set-other}
-use borrow.Author.Count.{below-none, below-more}
 use borrow.Author.Tests.{eqb-true, eqb-false, not-true}
 use Rattle.sets.specs.Mask.{member, common, union, subset}
-use Rattle.sets.specs.Family.{Family}
-use Rattle.sets.proofs.Logic.{decided, clash, refuted, affirmed, same-truth, and-left, and-right, and-intro, and-false-cases, or-cases, or-false-left, or-false-right, false-not, true-not}
+use Rattle.sets.proofs.Logic.{decided, clash, refuted, affirmed, same-truth, and-left, and-right, and-intro, or-cases, or-false-left, or-false-right, false-not}
 use Rattle.sets.proofs.Bounded.{any-found}
-use Rattle.sets.proofs.Mask.{member-zero, member-and, member-or, member-below, member-rest, ext, subset-parts, subset-refl, subset-le, subset-add, common-lt, member-sub-same, member-sub-other, sub-less}
+use Rattle.sets.proofs.Mask.{member-zero, member-and, member-or, member-below, member-rest, ext, subset-parts, subset-refl, subset-le, subset-add, common-lt, member-sub-other, sub-less}
 use Rattle.families.specs.Bits.{laneSets, highStates, lanes, has, hasWith, largerHas, Bits}
 use Rattle.families.proofs.Lanes.{has-at, by-lane, lane-there}
 use Rattle.games.specs.Game.{Game}
@@ -208,17 +206,8 @@ module _ (g : Game) (bits : List ℕ) (S : Stage g bits) (next : List ℕ) where
       inside : (s : ℕ) → has next s ≡ true → Meets g (has bits) s
       inside s h = subst (λ (x : ℕ). Meets g (has bits) x) (by-lane s) (w .done (s / laneSets) (omega arith) (subst (λ (k : ℕ). s / laneSets < k) (w .size) (lane-listed next (s / laneSets) (s % laneSets) h)) .sound (s % laneSets) h)
 
--- ---- comparing and copying
+-- ---- comparing
 
 -- where two families have the same sets, their words are the same
 pub words-same : (d e : List ℕ) (i : ℕ) → getD d i 0 < 2 ^ 64 → getD e i 0 < 2 ^ 64 → ((s : ℕ) → has d s ≡ has e s) → getD d i 0 ≡ getD e i 0
 words-same d e i k l h = ext 64 (getD d i 0) (getD e i 0) k l (λ t m. sym (has-at d i t m) ∙ h (i * laneSets + t) ∙ has-at e i t m)
-
-pub copy-none : (d e : List ℕ) → (j : ℕ) → j < 0 → getD e j 0 ≡ getD d j 0
-copy-none d e = below-none (λ j. getD e j 0 ≡ getD d j 0)
-
-pub copy-more : (d e : List ℕ) (i : ℕ) → i < length e → ((j : ℕ) → j < i → getD e j 0 ≡ getD d j 0) → (j : ℕ) → j < i + 1 → getD (set e i (getD d i 0)) j 0 ≡ getD d j 0
-copy-more d e i l h =
-    below-more (λ j. getD (set e i (getD d i 0)) j 0 ≡ getD d j 0) i
-    (λ j m. getD-set-other e i j (getD d i 0) 0 (λ q. absurd (omega (arith, q))) ∙ h j m)
-    (getD-set-same e i (getD d i 0) 0 l)

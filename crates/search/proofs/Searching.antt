@@ -2,14 +2,14 @@
 -- Assumes nothing.
 use mathlib.Core.Path.{_≡_, refl, sym, ap, _∙_, subst}
 use mathlib.Core.Logic.{_⊎_, ⊎-elim}
-use mathlib.Core.Bool.{Bool, true, false, not}
+use mathlib.Core.Bool.{true, false, not}
 use mathlib.Core.List.{List}
-use Prim.Native.Nat.{ℕ, zero, suc, _+_, _-_, _^_, _≤_, _<_}
+use Prim.Native.Nat.{ℕ, suc, _+_, _-_, _^_, _≤_, _<_}
 use native.Mathlib.Nat.{le-antisymm, sub-zero}
 use native.Mathlib.Numerals.{add-one}
 use native.Mathlib.Omega.{arith}
 use lib.Dec.{leb}
-use lib.Pow.{pow-pos, ones-lt, le-ones}
+use lib.Pow.{pow-pos, ones-lt}
 use borrow.Author.Count.{below-none, below-more}
 use borrow.Author.Tests.{leb-true, leb-false}
 use Rattle.sets.specs.Bounded.{all}
@@ -22,10 +22,10 @@ use Rattle.sets.proofs.Family.{same-intro}
 use Rattle.families.specs.Bits.{has, Bits}
 use Rattle.games.specs.Game.{Game, Accepted}
 use Rattle.games.specs.Step.{step, good, fixed, settling}
-use Rattle.games.specs.Verdict.{Verdict, No, startSet, startsIn, settled, lostRound, verdict}
+use Rattle.games.specs.Verdict.{No, startSet, startsIn, settled, lostRound, verdict}
 use Rattle.games.proofs.Steps.{good-falls, good-subset, step-ext}
 use Rattle.games.proofs.Lasting.{start-below, starts-at}
-use Rattle.games.proofs.Settling.{Settles, settles, settled-good, Drops, lost-round, fixed-at}
+use Rattle.games.proofs.Settling.{settles, settled-good, lost-round, fixed-at}
 use Rattle.games.proofs.Decided.{verdict-no}
 use Rattle.search.specs.Stages.{shownIn, Stage}
 use Rattle.search.specs.Found.{SettledAt, Reached}

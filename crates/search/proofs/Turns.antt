@@ -1,12 +1,11 @@
 -- What one turn of the loops over observations, actions and sets shows, over plain variables.
 -- Assumes nothing.
-use mathlib.Core.Path.{_≡_, refl, sym, ap, _∙_, subst}
+use mathlib.Core.Path.{_≡_, sym, ap, _∙_}
 use mathlib.Core.Logic.{_⊎_, ⊎-elim}
-use mathlib.Core.Bool.{Bool, true, false, cond, _&&_}
+use mathlib.Core.Bool.{Bool, true, false, _&&_}
 use mathlib.Core.List.{List}
-use Prim.Native.Nat.{ℕ, _+_, _-_, _/_, _^_, _≤_, _<_}
+use Prim.Native.Nat.{ℕ, _-_, _^_, _≤_, _<_}
 use native.Mathlib.Omega.{arith}
-use lib.ListN.{length}
 use lib.Pow.{pow-mono}
 use borrow.Author.Tests.{eq-eqb, ne-eqb}
 use Rattle.sets.specs.Mask.{common}

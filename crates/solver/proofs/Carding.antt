@@ -6,9 +6,9 @@ use Prim.Native.Nat.{ℕ, suc, _+_, _*_, _-_, _≤_, _<_}
 use native.Mathlib.Nat.{suc-mul, mul-le-mul-right, mul-le-mul-left, le-trans, le-antisymm, add-sub-cancel-left}
 use native.Mathlib.Numerals.{add-one}
 use native.Mathlib.Omega.{arith}
-use lib.ListN.{length, getD, take, drop, length-append, length-take, length-drop, take-append-drop}
+use lib.ListN.{length, getD, take, drop, length-append, length-drop, take-append-drop}
 use lib.Seq.{take-at, drop-drop, drop-append-add, length-take-le}
-use borrow.Rule.Slice.PartMut.{putMid, postOf, take-put, drop-put, same-len-mid, mid-len, post-is}
+use borrow.Rule.Slice.PartMut.{putMid, postOf, drop-put, same-len-mid, mid-len}
 use Rattle.sets.specs.Bounded.{gather}
 use Rattle.games.specs.Format.{maxCells, maxObservations}
 use Rattle.games.specs.Game.{Game, Accepted}
@@ -25,7 +25,6 @@ use Rattle.cards.proofs.Extra.{gather-length}
 use Rattle.solver.specs.Writing.{SettledSet, frontWords, setWords}
 use Rattle.solver.specs.Solve.{cardOf}
 use Rattle.solver.proofs.Words.{cells-few}
-use Rattle.solver.proofs.Choosing.{gather-ext}
 
 pub set-words-length : (g : Game) (s : ℕ) → length (setWords g s) ≡ 1 + g .observations
 unfolding setWords

@@ -1,20 +1,20 @@
 -- Laws of a cell's words: trying the actions, the cell for each observation.
 -- Assumes nothing.
-use mathlib.Core.Path.{_≡_, refl, sym, ap, ap₂, _∙_, subst, fun-ext}
-use mathlib.Core.Bool.{Bool, true, false}
-use mathlib.Core.List.{List, [], _∷_, _++_}
+use mathlib.Core.Path.{_≡_, sym, ap, ap₂, _∙_, subst, fun-ext}
+use mathlib.Core.Bool.{true, false}
+use mathlib.Core.List.{List, [], _∷_}
 use Prim.Native.Nat.{ℕ, _+_, _^_, _≤_, _<_}
 use native.Mathlib.Omega.{arith}
 use lib.ListN.{length, getD}
 use Rattle.sets.specs.Mask.{common, subset}
 use Rattle.sets.specs.Bounded.{Found, nothing, found, first, orElse, gather, all}
 use Rattle.sets.specs.Family.{holds}
-use Rattle.sets.proofs.Logic.{refuted, clash, and-intro}
-use Rattle.sets.proofs.Bounded.{first-none, first-nothing, first-skip, first-stop, all-more, all-refuted}
+use Rattle.sets.proofs.Logic.{refuted, clash}
+use Rattle.sets.proofs.Bounded.{first-none, first-nothing, first-skip, first-stop, all-refuted}
 use Rattle.sets.proofs.Family.{at-mem, mem-at, holds-found, holds-intro}
 use Rattle.games.specs.Format.{maxActions, maxCells, maxObservations}
 use Rattle.games.specs.Game.{Game, Accepted}
-use Rattle.games.specs.Step.{after, post, meets, lowest, step, settling, good}
+use Rattle.games.specs.Step.{after, meets, lowest, step, settling, good}
 use Rattle.games.specs.Verdict.{settled, cells}
 use Rattle.games.specs.Words.{word}
 use Rattle.games.specs.Automaton.{noCell, holding, chosen}
@@ -26,7 +26,7 @@ use Rattle.tables.specs.declared.Walked.the-variants.{Blocked, Post}
 use Rattle.search.specs.Stages.{shownIn}
 use Rattle.solver.specs.Writing.{SettledSet, setWords}
 use Rattle.search.proofs.Turns.{meets-blocked, meets-shown, walked-post}
-use Rattle.solver.proofs.Words.{holdsAt, holding-empty, holding-at, Filled}
+use Rattle.solver.proofs.Words.{holdsAt, holding-empty, holding-at}
 
 pub gather-ext : (n : ℕ) (p q : ℕ → List ℕ) → ((j : ℕ) → p j ≡ q j) → gather n p ≡ gather n q
 gather-ext n p q h = ap (gather n) (fun-ext h)

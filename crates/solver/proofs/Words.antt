@@ -2,10 +2,10 @@
 -- Assumes nothing.
 use mathlib.Core.Path.{_≡_, refl, sym, ap, ap₂, _∙_, subst}
 use mathlib.Core.Logic.{_⊎_, ⊎-elim}
-use mathlib.Core.Bool.{Bool, true, false, cond, _&&_}
+use mathlib.Core.Bool.{Bool, true, false, cond}
 use mathlib.Core.List.{List, [], _∷_, _++_}
-use Prim.Native.Nat.{ℕ, zero, suc, _+_, _*_, _/_, _^_, _≤_, _<_}
-use native.Mathlib.Nat.{lt-of-lt-of-le, eq-or-lt-of-le, le-refl, le-antisymm, not-suc-le-zero}
+use Prim.Native.Nat.{ℕ, _+_, _*_, _/_, _^_, _≤_, _<_}
+use native.Mathlib.Nat.{lt-of-lt-of-le, eq-or-lt-of-le, le-antisymm}
 use native.Mathlib.Numerals.{add-one}
 use native.Mathlib.Omega.{arith}
 use lib.Dec.{eqb}
@@ -14,25 +14,22 @@ use lib.Seq.{getD-set-same, getD-set-other, drop-set-add, take-suc-set, take-all
 use borrow.Author.Count.{below-none, below-more}
 use borrow.Author.Tests.{eq-eqb, ne-eqb}
 use Rattle.sets.specs.Mask.{common, subset}
-use Rattle.sets.specs.Bounded.{Found, nothing, found, first, orElse, gather, all}
-use Rattle.sets.specs.Family.{holds}
-use Rattle.sets.proofs.Logic.{refuted, clash, and-intro, and-false-right}
-use Rattle.sets.proofs.Bounded.{first-none, first-stop, first-cases, first-nothing, first-skip, first-some, first-found, all-more, all-refuted}
+use Rattle.sets.specs.Bounded.{Found, nothing, found, first, orElse, gather}
+use Rattle.sets.proofs.Logic.{refuted}
+use Rattle.sets.proofs.Bounded.{first-none, first-stop, first-cases}
 use Rattle.sets.proofs.Mask.{subset-le}
-use Rattle.sets.proofs.Family.{at-mem, mem-at, holds-found, holds-intro, maximal-length}
+use Rattle.sets.proofs.Family.{maximal-length}
 use Rattle.games.specs.Format.{lowValues, maxActions, maxCells, maxObservations}
-use Rattle.games.specs.Game.{Game, Accepted}
-use Rattle.games.specs.Step.{after, post, enabledAt, meets, lowest, step, antichain}
-use Rattle.games.specs.Verdict.{startSet, settled, cells}
+use Rattle.games.specs.Game.{Game}
+use Rattle.games.specs.Step.{antichain}
+use Rattle.games.specs.Verdict.{startSet, cells}
 use Rattle.games.specs.Words.{game, word}
 use Rattle.tables.specs.Layout.{Sized}
-use Rattle.tables.proofs.Checks.{sized, accepted}
+use Rattle.tables.proofs.Checks.{sized}
 use Rattle.families.specs.Bits.{laneSets, maxLanes}
-use Rattle.solver.specs.Writing.{Writing, Passed, Starts, NoneBefore, frontWords, setWords}
+use Rattle.solver.specs.Writing.{Writing, Passed, Starts, NoneBefore, frontWords}
 use Rattle.search.proofs.Turns.{sets-few}
-use Rattle.games.specs.Automaton.{noCell, holding, chosen}
-use Rattle.games.proofs.Settling.{cells-hold, settled-step}
-use Rattle.games.proofs.Steps.{good-empty, step-action, after-below}
+use Rattle.games.specs.Automaton.{noCell, holding}
 
 pub lt-by-ne : (a b : ℕ) → a ≤ b → (a ≡ b → ⊥) → a < b
 lt-by-ne a b l n = ⊎-elim (λ e. absurd (n e)) (λ h. h) (eq-or-lt-of-le l)

@@ -1,8 +1,7 @@
 use borrow.Author.Needs.{needs}
-use mathlib.Core.Path.{_≡_, refl, sym, ap, _∙_, subst}
-use Prim.Native.Nat.{ℕ, _+_, _*_, _≤_, _<_, _-_}
+use mathlib.Core.Path.{_≡_, sym, _∙_, subst}
+use Prim.Native.Nat.{ℕ, _+_, _≤_, _<_, _-_}
 use native.Mathlib.Omega.{arith}
-use lib.ListN.{length, take, drop}
 use Rattle.games.specs.Format.{maxActions}
 use Rattle.games.specs.Words.{game}
 use Rattle.tables.proofs.Checks.{sized}
@@ -11,11 +10,6 @@ use Rattle.moves.specs.Halves.{halfStates, Sided}
 use Rattle.moves.proofs.Halving.{few-actions, sided-none, sided-more, row-inside, part-length, side-length, part-marks}
 use Rattle.moves.proofs.fill_side.Statement.{statement}
 use Rattle.moves.proofs.fill_side.Tie as tie
-use Rattle.moves.proofs.fill_side.Reads as reads
-use Rattle.moves.proofs.fill_side.Lts as lts
-use Rattle.moves.proofs.fill_half.Reads as fill-half-reads
-use Rattle.tables.proofs.actions.Reads as actions-reads
-use Rattle.tables.proofs.row.Reads as row-reads
 
 abbrev Inv-loop : tie.InvT-loop
 Inv-loop table side₀ first count actions a₀ side a = (a ≤ actions) × (actions ≤ maxActions) × Sided (game table) first count a side

@@ -1,14 +1,10 @@
-use mathlib.Core.Path.{_≡_, _∙_}
+use mathlib.Core.Path.{_∙_}
 use Rattle.families.specs.Bits.{has}
 use Rattle.games.specs.Words.{game}
 use Rattle.search.proofs.Turns.{meets-blocked, meets-shown}
 use borrow.Author.Needs.{needs}
 use Rattle.search.proofs.action_meets.Statement.{statement}
 use Rattle.search.proofs.action_meets.Tie as tie
-use Rattle.search.proofs.action_meets.Reads as reads
-use Rattle.search.proofs.action_meets.Lts as lts
-use Rattle.search.proofs.shown_in.Reads as shown-in-reads
-use Rattle.moves.proofs.post.Reads as post-reads
 
 post-requires : tie.Need-post-requires
 post-requires c κs = (c .before .before .before .before .pre .0, c .before .before .before .before .pre .3, c .before .before .before .before .pre .4, c .before .before .before .before .pre .2)

@@ -1,9 +1,8 @@
 use borrow.Author.Needs.{needs}
-use mathlib.Core.Path.{_≡_, sym, ap, _∙_, subst}
-use mathlib.Core.List.{List}
-use Prim.Native.Nat.{ℕ, _-_, _≤_, _<_}
+use mathlib.Core.Path.{_≡_, sym, _∙_, subst}
+use Prim.Native.Nat.{ℕ, _-_, _≤_}
 use native.Mathlib.Omega.{arith}
-use lib.ListN.{length, take, set, length-set, replicate}
+use lib.ListN.{length, take, length-set, replicate}
 use lib.Seq.{length-take-le}
 use Rattle.games.specs.Format.{maxActions, maxStates}
 use Rattle.games.specs.Words.{game}
@@ -12,12 +11,6 @@ use Rattle.search.proofs.Turns.{few-states, few-actions}
 use Rattle.search.proofs.First.{Opens, opens-none, opens-more, opens-front, opens-below, first-bits}
 use Rattle.search.proofs.first_family.Statement.{statement}
 use Rattle.search.proofs.first_family.Tie as tie
-use Rattle.search.proofs.first_family.Reads as reads
-use Rattle.search.proofs.first_family.Lts as lts
-use Rattle.families.proofs.below.Reads as below-reads
-use Rattle.search.proofs.open_states.Reads as open-states-reads
-use Rattle.tables.proofs.actions.Reads as actions-reads
-use Rattle.tables.proofs.states.Reads as states-reads
 
 abbrev Inv-loop : tie.InvT-loop
 Inv-loop table family actions masks₀ a₀ masks a = (actions ≤ maxActions) × (a ≤ actions) × (length masks ≡ maxActions) × Opens (game table) a masks

@@ -1,4 +1,3 @@
-use borrow.Author.Needs.{needs}
 use native.Mathlib.Omega.{arith}
 use Rattle.games.specs.Words.{game}
 use Rattle.tables.proofs.Checks.{sized}
@@ -6,8 +5,6 @@ use Rattle.search.proofs.Turns.{few-states}
 use Rattle.search.proofs.First.{is-open}
 use Rattle.search.proofs.is_open.Statement.{statement}
 use Rattle.search.proofs.is_open.Tie as tie
-use Rattle.search.proofs.is_open.Reads as reads
-use Rattle.search.proofs.is_open.Lts as lts
 
 bad-requires : tie.Need-bad-requires
 bad-requires c κs = sized (c .before .args .table .now) (c .before .pre .0)

@@ -1,6 +1,6 @@
 use borrow.Author.Needs.{needs}
 use mathlib.Core.Bool.{false}
-use mathlib.Core.Path.{_≡_, sym, _∙_}
+use mathlib.Core.Path.{_≡_, _∙_}
 use Prim.Native.Nat.{_≤_, _-_}
 use native.Mathlib.Omega.{arith}
 use Rattle.sets.specs.Bounded.{any}
@@ -13,11 +13,6 @@ use Rattle.tables.proofs.Checks.{sized}
 use Rattle.search.proofs.Turns.{step-bad, step-none, step-hit}
 use Rattle.search.proofs.meets_step.Statement.{statement}
 use Rattle.search.proofs.meets_step.Tie as tie
-use Rattle.search.proofs.meets_step.Reads as reads
-use Rattle.search.proofs.meets_step.Lts as lts
-use Rattle.search.proofs.action_meets.Reads as action-meets-reads
-use Rattle.tables.proofs.actions.Reads as actions-reads
-use Rattle.tables.proofs.bad.Reads as bad-reads
 
 abbrev Inv-loop : tie.InvT-loop
 Inv-loop table low high family s actions a₀ a = (a ≤ actions) × (any a (meets (game table) (has family) s) ≡ false)

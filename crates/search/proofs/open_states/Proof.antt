@@ -1,9 +1,8 @@
 use borrow.Author.Needs.{needs}
 use mathlib.Core.Logic.{⊎-elim}
-use mathlib.Core.Path.{_≡_, sym, _∙_, subst}
-use Prim.Native.Nat.{ℕ, _-_, _≤_, _<_}
+use mathlib.Core.Path.{_≡_, sym, subst}
+use Prim.Native.Nat.{ℕ, _-_, _≤_}
 use native.Mathlib.Omega.{arith}
-use native.Mathlib.Nat.{le-antisymm}
 use Rattle.games.specs.Format.{maxStates}
 use Rattle.games.specs.Words.{game}
 use Rattle.tables.proofs.Checks.{sized}
@@ -12,11 +11,6 @@ use Rattle.search.proofs.Turns.{few-states}
 use Rattle.search.proofs.First.{open-none, open-hit, open-skip}
 use Rattle.search.proofs.open_states.Statement.{statement}
 use Rattle.search.proofs.open_states.Tie as tie
-use Rattle.search.proofs.open_states.Reads as reads
-use Rattle.search.proofs.open_states.Lts as lts
-use Rattle.sets.proofs.single.Reads as single-reads
-use Rattle.search.proofs.is_open.Reads as is-open-reads
-use Rattle.tables.proofs.states.Reads as states-reads
 
 abbrev Inv-loop : tie.InvT-loop
 Inv-loop table a n mask₀ i₀ mask i = (n ≤ maxStates) × (i ≤ n) × OpenStates (game table) (a .0) i mask

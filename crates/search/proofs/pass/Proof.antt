@@ -1,19 +1,15 @@
 use borrow.Author.Needs.{needs}
-use mathlib.Core.Path.{_≡_, sym, _∙_, subst}
-use Prim.Native.Nat.{ℕ, _+_, _-_, _≤_, _<_, _^_}
+use mathlib.Core.Path.{_≡_, sym, _∙_}
+use Prim.Native.Nat.{_-_, _≤_}
 use native.Mathlib.Omega.{arith}
-use lib.ListN.{length, set, length-set}
-use Rattle.families.specs.Bits.{lanes, maxLanes}
+use lib.ListN.{length}
+use Rattle.families.specs.Bits.{maxLanes}
 use Rattle.games.specs.Words.{game}
 use Rattle.tables.proofs.Checks.{sized}
 use Rattle.search.proofs.Turns.{table-lanes}
 use Rattle.search.proofs.Passes.{Passing, passing-none, covered-sound, passing-more, passing-end}
 use Rattle.search.proofs.pass.Statement.{statement}
 use Rattle.search.proofs.pass.Tie as tie
-use Rattle.search.proofs.pass.Reads as reads
-use Rattle.search.proofs.pass.Lts as lts
-use Rattle.families.proofs.larger.Reads as larger-reads
-use Rattle.search.proofs.pass_lane.Reads as pass-lane-reads
 
 abbrev Inv-loop : tie.InvT-loop
 Inv-loop table low high family next₀ lane₀ next lane = (length family ≤ maxLanes) × (lane ≤ length family) × Passing (game table) family lane next

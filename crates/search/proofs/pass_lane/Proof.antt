@@ -1,11 +1,8 @@
 use borrow.Author.Needs.{needs}
-use mathlib.Core.Path.{_≡_, sym, _∙_, subst}
-use Prim.Native.Nat.{ℕ, _+_, _-_, _*_, _≤_, _<_, _^_}
+use Prim.Native.Nat.{_-_, _<_}
 use native.Mathlib.Omega.{arith}
 use lib.Count.{leadingZeros}
-use lib.ListN.{length}
 use Rattle.sets.proofs.Mask.{single-le}
-use Rattle.families.specs.Bits.{laneSets}
 use Rattle.families.proofs.Lanes.{shift-one}
 use Rattle.games.specs.Words.{game}
 use Rattle.tables.proofs.Checks.{sized}

@@ -1,8 +1,7 @@
 use borrow.Author.Needs.{needs}
 use borrow.Author.Tests.{not-true, not-false}
-use mathlib.Core.Bool.{Bool, true, false}
 use mathlib.Core.Path.{_≡_, sym, ap, _∙_, subst}
-use Prim.Native.Nat.{ℕ, _-_, _≤_, _<_, _^_}
+use Prim.Native.Nat.{ℕ, _-_, _≤_, _^_}
 use native.Mathlib.Omega.{arith}
 use lib.Pow.{pow-pos, ones-lt}
 use Rattle.families.specs.Bits.{has}
@@ -13,15 +12,6 @@ use Rattle.search.proofs.Turns.{few-states}
 use Rattle.search.proofs.Searching.{good-stage, first-lost, first-settled, first-on}
 use Rattle.search.proofs.search.Statement.{statement}
 use Rattle.search.proofs.search.Tie as tie
-use Rattle.search.proofs.search.Reads as reads
-use Rattle.search.proofs.search.Lts as lts
-use Rattle.families.proofs.has.Reads as has-reads
-use Rattle.search.proofs.first_family.Reads as first-family-reads
-use Rattle.search.proofs.settle.Reads as settle-reads
-use Rattle.search.proofs.shown_in.Reads as shown-in-reads
-use Rattle.sets.proofs.single.Reads as single-reads
-use Rattle.tables.proofs.start.Reads as start-reads
-use Rattle.tables.proofs.states.Reads as states-reads
 
 -- the number of sets
 sets-are : (c : tie.After-single) → c .single .result ≡ 2 ^ game (c .before .before .before .before .before .before .before .args .table .now) .states

@@ -1,9 +1,8 @@
-use borrow.Author.Needs.{needs}
 use borrow.Author.Tests.{not-true, not-false}
-use mathlib.Core.Bool.{Bool, true, false}
+use mathlib.Core.Bool.{Bool}
 use mathlib.Core.Path.{_≡_, sym, ap, _∙_, subst}
 use mathlib.Core.List.{List}
-use Prim.Native.Nat.{ℕ, _+_, _-_, _≤_, _<_, _^_}
+use Prim.Native.Nat.{ℕ, _+_, _-_, _≤_, _^_}
 use native.Mathlib.Omega.{arith}
 use lib.ListN.{length}
 use Rattle.families.specs.Bits.{Bits}
@@ -17,13 +16,6 @@ use Rattle.search.proofs.Turns.{sets-few}
 use Rattle.search.proofs.Searching.{good-stage, good-next, searching-bound, turn-lost, turn-settled, turn-on}
 use Rattle.search.proofs.settle.Statement.{statement}
 use Rattle.search.proofs.settle.Tie as tie
-use Rattle.search.proofs.settle.Reads as reads
-use Rattle.search.proofs.settle.Lts as lts
-use Rattle.search.proofs.copy.Reads as copy-reads
-use Rattle.search.proofs.pass.Reads as pass-reads
-use Rattle.search.proofs.same.Reads as same-reads
-use Rattle.search.proofs.shown_in.Reads as shown-in-reads
-use Rattle.tables.proofs.start.Reads as start-reads
 
 abbrev Inv-loop : tie.InvT-loop
 Inv-loop table low high family₀ next₀ start k₀ family next k = (2 ^ game table .states ≤ maxSets) × (length next ≡ length family) × Reached (game table) k family

@@ -2,7 +2,7 @@ use borrow.Author.Needs.{needs}
 use borrow.Author.Tests.{not-true, not-false}
 use mathlib.Core.Bool.{true}
 use mathlib.Core.Path.{_≡_, sym, _∙_}
-use Prim.Native.Nat.{ℕ, _≤_, _<_, _-_, _/_, _^_}
+use Prim.Native.Nat.{_≤_, _-_}
 use native.Mathlib.Omega.{arith}
 use Rattle.sets.specs.Bounded.{all}
 use Rattle.sets.specs.Mask.{common}
@@ -15,11 +15,6 @@ use Rattle.tables.proofs.Checks.{sized, accepted}
 use Rattle.search.proofs.Turns.{shown-fails, shown-holds, shown-whole, shown-below}
 use Rattle.search.proofs.shown_in.Statement.{statement}
 use Rattle.search.proofs.shown_in.Tie as tie
-use Rattle.search.proofs.shown_in.Reads as reads
-use Rattle.search.proofs.shown_in.Lts as lts
-use Rattle.families.proofs.has.Reads as has-reads
-use Rattle.tables.proofs.observations.Reads as observations-reads
-use Rattle.tables.proofs.shown.Reads as shown-reads
 
 abbrev Inv-loop : tie.InvT-loop
 Inv-loop table family u o j₀ j = (j ≤ o) × (all j (λ i. has family (common u (game table .shown i))) ≡ true)

@@ -1,6 +1,6 @@
 use borrow.Author.Needs.{needs}
-use mathlib.Core.Path.{_≡_, sym, ap, _∙_, subst}
-use Prim.Native.Nat.{ℕ, _*_, _^_, _≤_}
+use mathlib.Core.Path.{_≡_, sym, ap, _∙_}
+use Prim.Native.Nat.{ℕ, _≤_}
 use native.Mathlib.Omega.{arith}
 use lib.ListN.{length, take}
 use lib.Seq.{length-take-le}
@@ -12,12 +12,6 @@ use Rattle.solver.specs.Solve.{byVerdict}
 use Rattle.solver.proofs.Collecting.{settled-closed, put-front, put-within}
 use Rattle.solver.proofs.accept.Statement.{statement}
 use Rattle.solver.proofs.accept.Tie as tie
-use Rattle.solver.proofs.accept.Reads as reads
-use Rattle.solver.proofs.accept.Lts as lts
-use Rattle.families.proofs.collect.Reads as collect-reads
-use Rattle.solver.proofs.grant.Reads as grant-reads
-use Rattle.solver.proofs.mark_starts.Reads as mark-starts-reads
-use Rattle.tables.proofs.states.Reads as states-reads
 
 -- the cells stand in front of the work
 front : (c : tie.After-collect) → (take (c .collect .result) (c .collect .last .1 .1 .0) ≡ cells (game (c .before .before .before .before .before .before .before .before .before .args .table .now))) × (c .collect .result ≤ length (c .collect .last .1 .1 .0))

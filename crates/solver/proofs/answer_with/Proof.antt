@@ -1,17 +1,11 @@
 use borrow.Author.Needs.{needs}
-use mathlib.Core.Path.{_≡_, sym, ap, _∙_, subst, refl}
-use mathlib.Core.List.{List}
-use Prim.Native.Nat.{ℕ}
+use mathlib.Core.Path.{subst, refl}
 use Rattle.games.specs.Words.{game}
 use Rattle.search.specs.Found.{Searched}
 use Rattle.search.specs.declared.Outcome.{Outcome}
 use Rattle.solver.proofs.Answers.{decided-no, decided-yes}
 use Rattle.solver.proofs.answer_with.Statement.{statement}
 use Rattle.solver.proofs.answer_with.Tie as tie
-use Rattle.solver.proofs.answer_with.Reads as reads
-use Rattle.solver.proofs.answer_with.Lts as lts
-use Rattle.search.proofs.search.Reads as search-reads
-use Rattle.solver.proofs.accept.Reads as accept-reads
 
 search-requires : tie.Need-search-requires
 search-requires c κs = search needs

@@ -2,7 +2,6 @@ use borrow.Author.Needs.{needs}
 use mathlib.Core.Path.{_≡_, sym, ap, _∙_, subst}
 use Prim.Native.Nat.{ℕ, _≤_}
 use native.Mathlib.Omega.{arith}
-use lib.ListN.{length}
 use lib.Seq.{length-take-le}
 use Rattle.families.specs.Bits.{lanes, maxLanes}
 use Rattle.games.specs.Format.{maxStates}
@@ -11,14 +10,6 @@ use Rattle.tables.proofs.Checks.{sized}
 use Rattle.search.proofs.Turns.{few-states, table-lanes}
 use Rattle.solver.proofs.decide.Statement.{statement}
 use Rattle.solver.proofs.decide.Tie as tie
-use Rattle.solver.proofs.decide.Reads as reads
-use Rattle.solver.proofs.decide.Lts as lts
-use Rattle.families.proofs.lane_count.Reads as lane-count-reads
-use Rattle.moves.proofs.fill.Reads as fill-reads
-use Rattle.solver.proofs.answer_with.Reads as answer-with-reads
-use Rattle.solver.proofs.room.Reads as room-reads
-use Rattle.solver.proofs.side.Reads as side-reads
-use Rattle.tables.proofs.states.Reads as states-reads
 
 -- the lanes of the table's sets, and that there is room for them
 lanes-are : (c : tie.After-lane-count) → (c .lane-count .result ≡ lanes (game (c .before .before .before .before .before .args .table .now) .states)) × (c .lane-count .result ≤ maxLanes)

@@ -6,8 +6,6 @@ use Rattle.solver.specs.Writing.{Passed}
 use Rattle.solver.proofs.Words.{passed-more}
 use Rattle.solver.proofs.first_from.Statement.{statement}
 use Rattle.solver.proofs.first_from.Tie as tie
-use Rattle.solver.proofs.first_from.Reads as reads
-use Rattle.solver.proofs.first_from.Lts as lts
 
 abbrev Inv-loop : tie.InvT-loop
 Inv-loop cells from bound i₀ i = Passed cells bound i

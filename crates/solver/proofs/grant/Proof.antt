@@ -1,5 +1,5 @@
-use mathlib.Core.Path.{_≡_, sym, _∙_, subst}
-use Prim.Native.Nat.{ℕ, _+_, _*_, _≤_}
+use mathlib.Core.Path.{subst}
+use Prim.Native.Nat.{ℕ, _≤_}
 use native.Mathlib.Nat.{le-refl}
 use native.Mathlib.Omega.{arith}
 use lib.ListN.{length}
@@ -10,10 +10,6 @@ use Rattle.solver.proofs.Answers.{granted-short, granted-written}
 use borrow.Author.Needs.{needs}
 use Rattle.solver.proofs.grant.Statement.{statement}
 use Rattle.solver.proofs.grant.Tie as tie
-use Rattle.solver.proofs.grant.Reads as reads
-use Rattle.solver.proofs.grant.Lts as lts
-use Rattle.solver.proofs.write_card.Reads as write-card-reads
-use Rattle.tables.proofs.observations.Reads as observations-reads
 
 observations-requires : tie.Need-observations-requires
 observations-requires c κs = sized (c .before .before .before .before .before .before .before .args .table .now) (c .before .before .before .before .before .before .before .pre .0)

@@ -1,15 +1,11 @@
 use borrow.Author.Needs.{needs}
-use mathlib.Core.Path.{_≡_, sym, _∙_}
-use Prim.Native.Nat.{_-_, _*_, _≤_}
+use mathlib.Core.Path.{sym, _∙_}
+use Prim.Native.Nat.{_-_, _≤_}
 use native.Mathlib.Omega.{arith}
-use lib.ListN.{length}
-use Rattle.families.specs.Bits.{laneSets, maxLanes}
+use Rattle.families.specs.Bits.{maxLanes}
 use Rattle.solver.proofs.Words.{Marking, marking-none, marking-more, marking-end}
 use Rattle.solver.proofs.mark_starts.Statement.{statement}
 use Rattle.solver.proofs.mark_starts.Tie as tie
-use Rattle.solver.proofs.mark_starts.Reads as reads
-use Rattle.solver.proofs.mark_starts.Lts as lts
-use Rattle.solver.proofs.first_from.Reads as first-from-reads
 
 abbrev Inv-loop : tie.InvT-loop
 Inv-loop cells starts₀ at₀ lane₀ starts at lane = (lane ≤ maxLanes) × Marking cells lane at starts

@@ -1,5 +1,5 @@
 use borrow.Author.Needs.{needs}
-use mathlib.Core.Path.{_≡_, sym, _∙_, subst}
+use mathlib.Core.Path.{sym, _∙_, subst}
 use Prim.Native.Nat.{ℕ, _/_, _<_}
 use native.Mathlib.Nat.{le-refl, lt-of-lt-of-le}
 use Rattle.families.specs.Bits.{laneSets, maxLanes}

@@ -1,7 +1,6 @@
-use mathlib.Core.Path.{_≡_, sym, ap, _∙_, subst}
+use mathlib.Core.Path.{sym, ap, _∙_, subst}
 use Prim.Native.Nat.{ℕ, _*_, _≤_}
 use native.Mathlib.Omega.{arith}
-use lib.ListN.{length, take}
 use lib.Seq.{length-take-le}
 use Rattle.games.specs.Format.{maxStates}
 use Rattle.games.specs.Words.{game}
@@ -13,13 +12,6 @@ use Rattle.solver.proofs.Promises.{promised}
 use borrow.Author.Needs.{needs}
 use Rattle.solver.proofs.solve.Statement.{statement}
 use Rattle.solver.proofs.solve.Tie as tie
-use Rattle.solver.proofs.solve.Reads as reads
-use Rattle.solver.proofs.solve.Lts as lts
-use Rattle.sets.proofs.fill.Reads as fill-reads
-use Rattle.solver.proofs.decide.Reads as decide-reads
-use Rattle.solver.proofs.set_count.Reads as set-count-reads
-use Rattle.tables.proofs.check.Reads as check-reads
-use Rattle.tables.proofs.states.Reads as states-reads
 
 check-requires : tie.Need-check-requires
 check-requires c κs = search needs

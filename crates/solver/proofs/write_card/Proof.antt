@@ -1,21 +1,16 @@
 use borrow.Author.Needs.{needs}
-use mathlib.Core.Path.{_≡_, sym, ap, _∙_, subst}
+use mathlib.Core.Path.{sym, ap, _∙_}
 use mathlib.Core.List.{_++_}
-use Prim.Native.Nat.{ℕ, _+_, _*_, _≤_, _<_, _-_}
+use Prim.Native.Nat.{ℕ, _+_, _≤_, _-_}
 use lib.Seq.{length-take-le}
 use Rattle.games.specs.Format.{maxCells}
 use Rattle.solver.proofs.Carding.{Carded, carded-none, carded-room, carded-part, carded-more, carded-end, front-room, fronted-same, carded-whole, prefix-room, parts-few, observations-at-most, cells-at-most, cell-of}
 use native.Mathlib.Omega.{arith}
-use lib.ListN.{length, take, drop}
+use lib.ListN.{length, drop}
 use Rattle.games.specs.Words.{game}
 use Rattle.tables.proofs.Checks.{sized, accepted}
 use Rattle.solver.proofs.write_card.Statement.{statement}
 use Rattle.solver.proofs.write_card.Tie as tie
-use Rattle.solver.proofs.write_card.Reads as reads
-use Rattle.solver.proofs.write_card.Lts as lts
-use Rattle.solver.proofs.write_cell.Reads as write-cell-reads
-use Rattle.solver.proofs.write_front.Reads as write-front-reads
-use Rattle.tables.proofs.observations.Reads as observations-reads
 
 abbrev Inv-loop : tie.InvT-loop
 Inv-loop table low high family starts cells card₀ part c₀ card c = (part ≤ 9) × (length cells ≤ maxCells) × Carded (game table) cells part card₀ c card

@@ -3,7 +3,6 @@ use borrow.Author.Tests.{eq-eqb, ne-eqb}
 use mathlib.Core.Bool.{true, false}
 use mathlib.Core.Logic.{⊎-elim}
 use mathlib.Core.Path.{_≡_, refl, sym, ap, _∙_, subst}
-use mathlib.Core.List.{List}
 use Prim.Native.Nat.{ℕ, _+_, _≤_, _<_, _-_, _^_}
 use native.Mathlib.Omega.{arith}
 use lib.ListN.{length, set, length-set}
@@ -23,15 +22,6 @@ use Rattle.solver.proofs.Words.{lt-by-ne, holdsAt, Filled, filled-none,
 use Rattle.solver.proofs.Choosing.{Trying, trying-next, trying-with, chosen-is, never-none, blocked-fails, uncovered-fails, covered-meets, after-is, uncovered, named-empty, named-at, nextWord, next-word, set-words}
 use Rattle.solver.proofs.write_cell.Statement.{statement}
 use Rattle.solver.proofs.write_cell.Tie as tie
-use Rattle.solver.proofs.write_cell.Reads as reads
-use Rattle.solver.proofs.write_cell.Lts as lts
-use Rattle.cards.proofs.naming.Reads as naming-reads
-use Rattle.cards.proofs.picking.Reads as picking-reads
-use Rattle.tables.proofs.actions.Reads as actions-reads
-use Rattle.tables.proofs.observations.Reads as observations-reads
-use Rattle.tables.proofs.shown.Reads as shown-reads
-use Rattle.moves.proofs.post.Reads as post-reads
-use Rattle.solver.proofs.scan_from.Reads as scan-from-reads
 
 abbrev Inv-loop2 : tie.InvT-loop2
 Inv-loop2 table low high family starts cells s out o a₀ u j t i₀ a-end a i = (a ≡ a₀) × (i ≤ length cells) × (first i (holdsAt cells t) ≡ nothing)

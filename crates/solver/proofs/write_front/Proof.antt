@@ -1,6 +1,5 @@
 use borrow.Author.Needs.{needs}
-use mathlib.Core.Path.{_≡_, sym, ap, _∙_, subst}
-use mathlib.Core.List.{List}
+use mathlib.Core.Path.{sym, ap, _∙_, subst}
 use Prim.Native.Nat.{ℕ, _+_, _≤_, _<_, _-_}
 use native.Mathlib.Omega.{arith}
 use lib.ListN.{length, length-set}
@@ -10,15 +9,6 @@ use Rattle.tables.proofs.Checks.{sized}
 use Rattle.solver.proofs.Words.{Filled, filled-none, filled-more, filled-end, firstWord, first-word, front-is, holding-small, cells-small, observations-small, actions-small}
 use Rattle.solver.proofs.write_front.Statement.{statement}
 use Rattle.solver.proofs.write_front.Tie as tie
-use Rattle.solver.proofs.write_front.Reads as reads
-use Rattle.solver.proofs.write_front.Lts as lts
-use Rattle.cards.proofs.naming.Reads as naming-reads
-use Rattle.games.proofs.word.Reads as word-reads
-use Rattle.solver.proofs.holding.Reads as holding-reads
-use Rattle.tables.proofs.actions.Reads as actions-reads
-use Rattle.tables.proofs.observations.Reads as observations-reads
-use Rattle.tables.proofs.shown.Reads as shown-reads
-use Rattle.tables.proofs.start.Reads as start-reads
 
 abbrev Inv-loop : tie.InvT-loop
 Inv-loop table cells out₀ start o j₀ out j = (length cells ≤ maxCells) × (o ≤ maxObservations) × (j ≤ o) × Filled o (firstWord (game table) cells) j out
