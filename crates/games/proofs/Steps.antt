@@ -14,6 +14,8 @@ use Rattle.sets.proofs.Logic.{clash, and-left, and-right, and-intro, implies-in
 use Rattle.sets.proofs.Bounded.{all-at, all-intro, all-fails, all-ext, any-found, any-intro, any-ext}
 use Rattle.sets.proofs.Mask.{member-and, member-zero, common-lt, subset-member, subset-of, subset-refl, subset-le, subset-common-mono, common-zero, common-witness, unionOver-found, unionOver-intro, unionOver-mono}
 use Rattle.games.specs.Game.{Game, Accepted, enabled}
+-- this one for the order alone
+use Rattle.games.proofs.Stations.{every-station}
 use Rattle.games.specs.Step.{safe, enabledAt, post, after, meets, step, good}
 
 module _ (g : Game) where
