@@ -64,7 +64,9 @@ fn check_fast(fast: &mut Fast, game: &Game, verdict: &Verdict) {
 
 fn check_search(solver: &mut fast::Solver, game: &Game, verdict: &Verdict) {
     let mut card = vec![0; 1 + 8 + 924 * 9];
-    let found = solver.solve(&oracle::table_words(game), &mut card);
+    let mut work = vec![7; 4 * 4096];
+    let found = solver.solve(&oracle::table_words(game), &mut work, &mut card);
+    assert!(work[..4 << game.n].iter().all(|&word| word == 0), "{game:?}");
     match verdict {
         Verdict::No { round } => assert_eq!(found, fast::Verdict::No { round: *round }, "{game:?}"),
         Verdict::Yes { index, card: expected } => {
@@ -290,7 +292,7 @@ fn judges_and_refusals_agree() {
         good += u32::from(found == Ok(true));
         if let Err(refusal) = oracle::read_table(&table) {
             let expected = fast::Verdict::Refused { number: refusal.number, place: refusal.place as usize };
-            assert_eq!(solver.solve(&table, &mut []), expected, "{table:x?}");
+            assert_eq!(solver.solve(&table, &mut [], &mut []), expected, "{table:x?}");
             refused += 1;
         }
     }

@@ -101,8 +101,8 @@ fn fast_model_gives_the_stations(search: Search) {
     for Row { name, call, outcome } in stations::stations().into_iter().chain(stations::refusals()) {
         let mut out = vec![0; 64];
         let found = match call {
-            Call::Solve { table, work, card } if work >= 32 || outcome.answer[1] != 8 => {
-                match solver.solve(table, &mut out[..card]) {
+            Call::Solve { table, work, card } => {
+                match solver.solve(table, &mut vec![7; work], &mut out[..card]) {
                     fast::Verdict::Yes { index, cells } => [0, index.into(), cells as u64],
                     fast::Verdict::No { round } => [1, round.into(), 0],
                     fast::Verdict::Refused { number, place } => [2, number.into(), place as u64],

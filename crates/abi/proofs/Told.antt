@@ -12,13 +12,14 @@ use Rattle.lists.specs.Plain.{MaximalOf}
 use Rattle.lists.specs.declared.Answer.{Answer as Listed}
 use Rattle.lists.specs.declared.Answer.the-variants as listed
 use Rattle.tables.specs.Check.{checked}
-use Rattle.tables.specs.Fields.{Outcome as Writing, leaves, readOf, writeOf, unlessRefused}
+use Rattle.fields.specs.Read.{readOf}
+use Rattle.fields.specs.Write.{leaves, writeOf, unlessRefused}
 use Rattle.tables.specs.declared.Checked.{Checked}
 use Rattle.tables.specs.declared.Checked.the-variants.{Fine, Refused as Stopped}
-use Rattle.tables.specs.declared.ReadFields.{ReadFields}
-use Rattle.tables.specs.declared.Written.{Written}
-use Rattle.tables.specs.declared.Written.the-variants as written
-use Rattle.tables.proofs.RoundTrip.{read-then-write}
+use Rattle.fields.specs.declared.ReadFields.{ReadFields}
+use Rattle.fields.specs.declared.Written.{Written}
+use Rattle.fields.specs.declared.Written.the-variants as written
+use Rattle.fields.proofs.RoundTrip.{read-then-write}
 use Rattle.abi.specs.Words.{done, solveWords, listWords, writeWords}
 use Rattle.abi.specs.Calls.{solve, toldSolve, call, toldList, toldWrite, rewritten}
 

@@ -4,7 +4,8 @@ use mathlib.Core.List.{List}
 use Prim.Native.Nat.{ℕ}
 use Rattle.solver.specs.Solve.{Outcome as Solved}
 use Rattle.lists.specs.Lists.{Outcome as Listed}
-use Rattle.tables.specs.Fields.{Outcome as Written, readOf, writeOf, unlessRefused}
+use Rattle.fields.specs.Read.{readOf}
+use Rattle.fields.specs.Write.{Outcome as Written, writeOf, unlessRefused}
 use Rattle.abi.specs.Words.{solveWords, listWords, writeWords}
 
 -- the answer words, and the words of the work and of the card room

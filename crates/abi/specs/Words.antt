@@ -8,8 +8,8 @@ use Rattle.judge.specs.declared.Judged.{Judged}
 use Rattle.judge.specs.declared.Judged.the-variants as judged
 use Rattle.lists.specs.declared.Answer.{Answer as Listed}
 use Rattle.lists.specs.declared.Answer.the-variants as listed
-use Rattle.tables.specs.declared.Written.{Written}
-use Rattle.tables.specs.declared.Written.the-variants as written
+use Rattle.fields.specs.declared.Written.{Written}
+use Rattle.fields.specs.declared.Written.the-variants as written
 use Rattle.cards.specs.declared.Move.{Move}
 use Rattle.cards.specs.declared.Move.the-variants as moved
 use Rattle.show.specs.declared.Shown.{Shown}

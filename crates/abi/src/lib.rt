@@ -12,17 +12,17 @@ ghost use Rattle.lists.specs.Plain.{OfEither, OfBoth, MaximalOf};
 ghost use Rattle.cards.specs.Run.{opened, stepped};
 ghost use Rattle.show.specs.Show.{found};
 ghost use Rattle.tables.specs.Check.{checked};
-ghost use Rattle.tables.specs.Fields.{leaves};
+ghost use Rattle.fields.specs.Write.{leaves};
 ghost use Rattle.tables.specs.declared.Checked.the-variants.{Fine};
 ghost use Rattle.abi.specs.Words.{done, no as noWords, refused as refusedWords, solveWords, judgeWords, listWords, writeWords, moveWords, showWords};
 ghost use Rattle.abi.specs.Calls.{solve, toldSolve, call, toldList, toldWrite, rewritten};
 use cards::Move;
+use fields::Written;
 use games::Cell;
 use games::Observation;
 use judge::Judged;
 use show::Shown;
 use tables::Checked;
-use tables::Written;
 
 // Done, with two numbers.
 fn pair(x: u32, y: u32) -> [u64; 3]
@@ -162,11 +162,11 @@ pub extern "C" fn kirdanzug_meet(
 fn rewrite(table: &[u32], out: &mut [u32]) -> Written
     ensures { λ r. ⌜ leaves r (now (out .exit)) ≡ rewritten (now (table .entry)) (now (out .entry)) ⌝ }
 {
-    let got = tables::read(table);
+    let got = fields::read(table);
     let answer = got.answer;
     match answer {
         Checked::Refused(number, place) => Written::Refused(number, place),
-        Checked::Fine => tables::write(got.fields, out),
+        Checked::Fine => fields::write(got.fields, out),
     }
 }
 

@@ -7,24 +7,26 @@ use mathlib.Core.List.{List}
 use Prim.Native.Nat.{ℕ, suc, _+_, _*_, _-_, _%_, _≤_, _<_}
 use native.Mathlib.Nat.{suc-mul, mul-le-mul-right, mul-mod-left, mul-add-mod-self-right, mod-eq-of-lt, mul-le-mul}
 use native.Mathlib.Omega.{arith}
-use lib.Dec.{eqb, leb, ltb}
+use lib.Dec.{eqb, ltb}
 use lib.ListN.{length, getD}
-use borrow.Author.Tests.{eq-eqb, ne-eqb, lt-ltb, le-ltb, eqb-true, leb-true, ltb-true, not-false}
+use borrow.Author.Tests.{eq-eqb, ne-eqb, lt-ltb, le-ltb, eqb-true, ltb-true, not-false}
 use Rattle.sets.specs.Bounded.{Found, nothing, found, first}
-use Rattle.sets.proofs.Logic.{decided, clash, and-left, and-right, or-cases, true-not, false-not}
+use Rattle.sets.proofs.Logic.{and-left, and-right, or-cases, true-not, false-not}
 use Rattle.sets.proofs.Bounded.{first-zero, first-skip, first-stop, first-nothing}
-use Rattle.games.specs.Automaton.{Automaton, noCell}
+use Rattle.games.specs.Format.{within, maxActions, maxObservations, maxSets, maxCells, lowValues, numberValues, kindCard, kindFirst, kindCell, kindNext}
+use Rattle.games.specs.Automaton.{noCell}
 use Rattle.games.specs.Words.{lowField, numberField, actionField, word, cardLength}
+use Rattle.games.proofs.Limits.{within-low, within-high}
 use Rattle.cards.specs.declared.CardCheck.{CardCheck}
 use Rattle.cards.specs.declared.CardCheck.the-variants.{Fine, Refused}
-use Rattle.cards.specs.Card.{maxCells, maxObservations, maxActions, setLimit, headPlace, firstPlace, cellPlace, nextPlace, cardCells, cardObservations, cardActions, automaton, upTo, headFits, cellNamed, cellFits, partFits, wordFits, wrongWord, wordsChecked, checked, Named, Fitting}
+use Rattle.cards.specs.Card.{headPlace, firstPlace, cellPlace, nextPlace, cardCells, cardObservations, cardActions, automaton, headFits, cellNamed, cellFits, partFits, wordFits, wrongWord, wordsChecked, checked, Fitting}
 
 -- the word at a place, by where the place lies
 pub word-head : (w : List ℕ) (p : ℕ) → p ≡ 0 → wordFits w p ≡ headFits (getD w p 0)
 unfolding wordFits
 word-head w p e = rw (wordFits, eq-eqb p 0 e)
 
-pub word-first : (w : List ℕ) (p : ℕ) → (p ≡ 0 → ⊥) → p < firstPlace (cardObservations w) → wordFits w p ≡ cellNamed 9 (cardCells w) (p - 1) (getD w p 0)
+pub word-first : (w : List ℕ) (p : ℕ) → (p ≡ 0 → ⊥) → p < firstPlace (cardObservations w) → wordFits w p ≡ cellNamed kindFirst (cardCells w) (p - 1) (getD w p 0)
 unfolding wordFits
 word-first w p n l = rw (wordFits, ne-eqb p 0 n, lt-ltb p (firstPlace (cardObservations w)) l)
 
@@ -33,9 +35,9 @@ unfolding wordFits
 word-part w p n l = rw (wordFits, ne-eqb p 0 n, le-ltb p (firstPlace (cardObservations w)) l)
 
 -- the same as the code has it, which read the head's fields before
-pub first-told : (w : List ℕ) (p m o : ℕ) → (p ≡ 0 → ⊥) → m ≡ cardCells w → o ≡ cardObservations w → p < 1 + o → cellNamed 9 m (p - 1) (getD w p 0) ≡ wordFits w p
+pub first-told : (w : List ℕ) (p m o : ℕ) → (p ≡ 0 → ⊥) → m ≡ cardCells w → o ≡ cardObservations w → p < 1 + o → cellNamed kindFirst m (p - 1) (getD w p 0) ≡ wordFits w p
 first-told w p m o n e f l =
-    ap (λ (k : ℕ). cellNamed 9 k (p - 1) (getD w p 0)) e ∙ sym (word-first w p n (subst (λ (k : ℕ). p < 1 + k) f l))
+    ap (λ (k : ℕ). cellNamed kindFirst k (p - 1) (getD w p 0)) e ∙ sym (word-first w p n (subst (λ (k : ℕ). p < 1 + k) f l))
 
 pub part-told : (w : List ℕ) (p m a o : ℕ) → (p ≡ 0 → ⊥) → m ≡ cardCells w → a ≡ cardActions w → o ≡ cardObservations w → 1 + o ≤ p → partFits m a o (p - (1 + o)) (getD w p 0) ≡ wordFits w p
 part-told w p m a o n e g f l = rw (e, g, f) (sym (word-part w p n (subst (λ (k : ℕ). 1 + k ≤ p) f l)))
@@ -44,11 +46,11 @@ pub named-told : (k m j x low y : ℕ) → low ≡ lowField x → y ≡ word k l
 unfolding cellNamed
 named-told k m j x low y e f = rw (f, e)
 
-pub cell-told : (a x low action y : ℕ) → low ≡ lowField x → action ≡ actionField x → y ≡ word 10 low 0 action → (eqb x y && ltb low setLimit && ltb action a) ≡ cellFits a x
+pub cell-told : (a x low action y : ℕ) → low ≡ lowField x → action ≡ actionField x → y ≡ word kindCell low 0 action → (eqb x y && ltb low maxSets && ltb action a) ≡ cellFits a x
 unfolding cellFits
 cell-told a x low action y e g f = rw (f, e, g)
 
-pub head-told : (x low number action y : ℕ) (p q r : Bool) → low ≡ lowField x → number ≡ numberField x → action ≡ actionField x → y ≡ word 8 low number action → p ≡ upTo maxCells low → q ≡ upTo maxObservations number → r ≡ upTo maxActions action → (eqb x y && p && q && r) ≡ headFits x
+pub head-told : (x low number action y : ℕ) (p q r : Bool) → low ≡ lowField x → number ≡ numberField x → action ≡ actionField x → y ≡ word kindCard low number action → p ≡ within low maxCells → q ≡ within number maxObservations → r ≡ within action maxActions → (eqb x y && p && q && r) ≡ headFits x
 unfolding headFits
 head-told x low number action y p q r e h g f i j k = rw (i, j, k, f, e, h, g)
 
@@ -60,7 +62,7 @@ pub part-cell : (m a o i x : ℕ) → i % (1 + o) ≡ 0 → partFits m a o i x �
 unfolding partFits
 part-cell m a o i x e = rw (partFits, eq-eqb (i % (1 + o)) 0 e)
 
-pub part-next : (m a o i x : ℕ) → (i % (1 + o) ≡ 0 → ⊥) → partFits m a o i x ≡ cellNamed 11 m (i % (1 + o) - 1) x
+pub part-next : (m a o i x : ℕ) → (i % (1 + o) ≡ 0 → ⊥) → partFits m a o i x ≡ cellNamed kindNext m (i % (1 + o) - 1) x
 unfolding partFits
 part-next m a o i x n = rw (partFits, ne-eqb (i % (1 + o)) 0 n)
 
@@ -135,16 +137,13 @@ sound w e =
 
 -- what a head that fits says
 pub record Headed (x : ℕ) : Type 0 where
-  pub shape : x ≡ word 8 (lowField x) (numberField x) (actionField x)
+  pub shape : x ≡ word kindCard (lowField x) (numberField x) (actionField x)
   pub some-cell : 1 ≤ lowField x
   pub cells : lowField x ≤ maxCells
   pub some-observation : 1 ≤ numberField x
   pub observations : numberField x ≤ maxObservations
   pub some-action : 1 ≤ actionField x
   pub actions : actionField x ≤ maxActions
-
-in-limit : (limit n : ℕ) → upTo limit n ≡ true → (1 ≤ n) × (n ≤ limit)
-in-limit limit n e = (leb-true 1 n (and-left (leb 1 n) (leb n limit) e), leb-true n limit (and-right (leb 1 n) (leb n limit) e))
 
 four-and : (a b c d : Bool) → (a && b && c && d) ≡ true → (a ≡ true) × (b ≡ true) × (c ≡ true) × (d ≡ true)
 four-and a b c d e =
@@ -155,15 +154,15 @@ four-and a b c d e =
 pub headed : (x : ℕ) → headFits x ≡ true → Headed x
 unfolding headFits
 headed x e =
-    let f = four-and (eqb x (word 8 (lowField x) (numberField x) (actionField x))) (upTo maxCells (lowField x)) (upTo maxObservations (numberField x)) (upTo maxActions (actionField x)) e in
+    let f = four-and (eqb x (word kindCard (lowField x) (numberField x) (actionField x))) (within (lowField x) maxCells) (within (numberField x) maxObservations) (within (actionField x) maxActions) e in
     record {
-      shape = eqb-true x (word 8 (lowField x) (numberField x) (actionField x)) (f .0);
-      some-cell = in-limit maxCells (lowField x) (f .1) .0;
-      cells = in-limit maxCells (lowField x) (f .1) .1;
-      some-observation = in-limit maxObservations (numberField x) (f .2) .0;
-      observations = in-limit maxObservations (numberField x) (f .2) .1;
-      some-action = in-limit maxActions (actionField x) (f .3) .0;
-      actions = in-limit maxActions (actionField x) (f .3) .1;
+      shape = eqb-true x (word kindCard (lowField x) (numberField x) (actionField x)) (f .0);
+      some-cell = within-low (lowField x) maxCells (f .1);
+      cells = within-high (lowField x) maxCells (f .1);
+      some-observation = within-low (numberField x) maxObservations (f .2);
+      observations = within-high (numberField x) maxObservations (f .2);
+      some-action = within-low (actionField x) maxActions (f .3);
+      actions = within-high (actionField x) maxActions (f .3);
     }
 
 -- the places of a cell's words, counted behind the first words
@@ -177,15 +176,13 @@ pub next-turn : (o c j : ℕ) → j < o → (c * (1 + o) + (1 + j)) % (1 + o) �
 next-turn o c j l = mul-add-mod-self-right c (1 + o) (1 + j) ∙ mod-eq-of-lt (omega arith)
 
 -- a card's words are few
-pub few : (m o : ℕ) → m < 65536 → o < 16 → m * (1 + o) ≤ 1048560
-few m o l k =
-    let e : m * (1 + o) ≤ 65535 * 16 = mul-le-mul {n₁ = m} {m₁ = 1 + o} {n₂ = 65535} {m₂ = 16} (omega arith) (omega arith) in
-    omega arith
+pub few : (m o : ℕ) → m < lowValues → o < numberValues → m * (1 + o) ≤ lowValues * numberValues
+few m o l k = mul-le-mul {n₁ = m} {m₁ = 1 + o} {n₂ = lowValues} {m₂ = numberValues} (omega arith) (omega arith)
 
 -- the word at each place that has a meaning
-pub word-begins : (w : List ℕ) (j : ℕ) → j < cardObservations w → wordFits w (firstPlace j) ≡ cellNamed 9 (cardCells w) j (getD w (firstPlace j) 0)
+pub word-begins : (w : List ℕ) (j : ℕ) → j < cardObservations w → wordFits w (firstPlace j) ≡ cellNamed kindFirst (cardCells w) j (getD w (firstPlace j) 0)
 word-begins w j l =
-    word-first w (firstPlace j) (λ e. omega arith) (omega arith) ∙ ap (λ (i : ℕ). cellNamed 9 (cardCells w) i (getD w (firstPlace j) 0)) (let e : 1 + j - 1 ≡ j = omega arith in e)
+    word-first w (firstPlace j) (λ e. omega arith) (omega arith) ∙ ap (λ (i : ℕ). cellNamed kindFirst (cardCells w) i (getD w (firstPlace j) 0)) (let e : 1 + j - 1 ≡ j = omega arith in e)
 
 behind : (w : List ℕ) (i : ℕ) → wordFits w (1 + cardObservations w + i) ≡ partFits (cardCells w) (cardActions w) (cardObservations w) i (getD w (1 + cardObservations w + i) 0)
 behind w i =
@@ -198,15 +195,15 @@ word-cell w c = behind w (c * (1 + cardObservations w)) ∙ part-cell _ _ _ _ _ 
 next-place : (o c j : ℕ) → 1 + o + (c * (1 + o) + (1 + j)) ≡ nextPlace o c j
 next-place o c j = omega arith
 
-pub word-next : (w : List ℕ) (c j : ℕ) → j < cardObservations w → wordFits w (nextPlace (cardObservations w) c j) ≡ cellNamed 11 (cardCells w) j (getD w (nextPlace (cardObservations w) c j) 0)
+pub word-next : (w : List ℕ) (c j : ℕ) → j < cardObservations w → wordFits w (nextPlace (cardObservations w) c j) ≡ cellNamed kindNext (cardCells w) j (getD w (nextPlace (cardObservations w) c j) 0)
 word-next w c j l =
     let o = cardObservations w in
     let t : (c * (1 + o) + (1 + j)) % (1 + o) ≡ 1 + j = next-turn o c j l in
     let k : (c * (1 + o) + (1 + j)) % (1 + o) - 1 ≡ j = omega arith in
-    subst (λ (p : ℕ). wordFits w p ≡ cellNamed 11 (cardCells w) j (getD w p 0)) (next-place o c j)
+    subst (λ (p : ℕ). wordFits w p ≡ cellNamed kindNext (cardCells w) j (getD w p 0)) (next-place o c j)
     (behind w (c * (1 + o) + (1 + j))
     ∙ part-next (cardCells w) (cardActions w) o (c * (1 + o) + (1 + j)) (getD w (1 + o + (c * (1 + o) + (1 + j))) 0) (λ e. omega arith)
-    ∙ ap (λ (i : ℕ). cellNamed 11 (cardCells w) i (getD w (1 + o + (c * (1 + o) + (1 + j))) 0)) k)
+    ∙ ap (λ (i : ℕ). cellNamed kindNext (cardCells w) i (getD w (1 + o + (c * (1 + o) + (1 + j))) 0)) k)
 
 -- the places of a card lie in it
 pub cell-within : (m o c : ℕ) → c < m → cellPlace o c < cardLength m o
@@ -229,16 +226,16 @@ named k m j x e =
     ⊎-elim (λ h. inl (ltb-true (lowField x) m h)) (λ h. inr (eqb-true (lowField x) noCell h))
     (or-cases (ltb (lowField x) m) (eqb (lowField x) noCell) (and-right (eqb x (word k (lowField x) j 0)) (ltb (lowField x) m || eqb (lowField x) noCell) e))
 
-pub cell-set : (a x : ℕ) → cellFits a x ≡ true → lowField x < setLimit
+pub cell-set : (a x : ℕ) → cellFits a x ≡ true → lowField x < maxSets
 unfolding cellFits
 cell-set a x e =
-    let s = eqb x (word 10 (lowField x) 0 (actionField x)) in
-    ltb-true (lowField x) setLimit (and-right s (ltb (lowField x) setLimit) (and-left (s && ltb (lowField x) setLimit) (ltb (actionField x) a) e))
+    let s = eqb x (word kindCell (lowField x) 0 (actionField x)) in
+    ltb-true (lowField x) maxSets (and-right s (ltb (lowField x) maxSets) (and-left (s && ltb (lowField x) maxSets) (ltb (actionField x) a) e))
 
 pub cell-action : (a x : ℕ) → cellFits a x ≡ true → actionField x < a
 unfolding cellFits
 cell-action a x e =
-    ltb-true (actionField x) a (and-right (eqb x (word 10 (lowField x) 0 (actionField x)) && ltb (lowField x) setLimit) (ltb (actionField x) a) e)
+    ltb-true (actionField x) a (and-right (eqb x (word kindCell (lowField x) 0 (actionField x)) && ltb (lowField x) maxSets) (ltb (actionField x) a) e)
 
 -- what a card means can be held by a card
 pub fitting : (w : List ℕ) → checked w ≡ Fine → Fitting (automaton w) (cardActions w) (cardObservations w)
@@ -255,8 +252,8 @@ fitting w e =
       observations = h .observations;
       set-below = λ c l. cell-set (cardActions w) _ (sym (word-cell w c) ∙ s .words (cellPlace (cardObservations w) c) (in-card s (cell-within (cardCells w) (cardObservations w) c l)));
       action-below = λ c l. cell-action (cardActions w) _ (sym (word-cell w c) ∙ s .words (cellPlace (cardObservations w) c) (in-card s (cell-within (cardCells w) (cardObservations w) c l)));
-      begins-named = λ j l. named 9 (cardCells w) j _ (sym (word-begins w j l) ∙ s .words (firstPlace j) (in-card s (first-within (cardCells w) (cardObservations w) j l)));
-      next-named = λ c j l k. named 11 (cardCells w) j _ (sym (word-next w c j k) ∙ s .words (nextPlace (cardObservations w) c j) (in-card s (next-within (cardCells w) (cardObservations w) c j l k)));
+      begins-named = λ j l. named kindFirst (cardCells w) j _ (sym (word-begins w j l) ∙ s .words (firstPlace j) (in-card s (first-within (cardCells w) (cardObservations w) j l)));
+      next-named = λ c j l k. named kindNext (cardCells w) j _ (sym (word-next w c j k) ∙ s .words (nextPlace (cardObservations w) c j) (in-card s (next-within (cardCells w) (cardObservations w) c j l k)));
     }
   where
     in-card : Sound w → {p : ℕ} → p < cardLength (cardCells w) (cardObservations w) → p < length w

@@ -1,8 +1,8 @@
 -- Laws of `gather` where its lists are equally long.
 -- Assumes nothing.
-use mathlib.Core.Path.{_≡_, refl, sym, ap, subst, _∙_}
+use mathlib.Core.Path.{_≡_, sym, ap, _∙_}
 use mathlib.Core.Logic.{⊎-elim}
-use mathlib.Core.List.{List, [], _∷_, _++_}
+use mathlib.Core.List.{List, _++_}
 use Prim.Native.Nat.{ℕ, zero, suc, _+_, _*_, _≤_, _<_}
 use native.Mathlib.Nat.{le-step, le-refl, le-of-suc-le-suc, not-suc-le-zero, eq-or-lt-of-le, zero-mul, suc-mul, mul-le-mul-right}
 use native.Mathlib.Omega.{arith}

@@ -1,22 +1,20 @@
 -- Laws of the run: each move by its case, and what a card's automaton is.
 -- Assumes nothing.
 use mathlib.Core.Path.{_≡_, refl, sym, ap, subst, _∙_}
-use mathlib.Core.Logic.{_⊎_, inl, inr, ⊎-elim}
-use mathlib.Core.Bool.{true, false, cond}
-use mathlib.Core.List.{List, [], _∷_, _++_}
+use mathlib.Core.Logic.{_⊎_, ⊎-elim}
+use mathlib.Core.List.{List}
 use Prim.Native.Nat.{ℕ, _+_, _≤_, _<_}
 use native.Mathlib.Omega.{arith}
 use lib.ListN.{length, getD}
 use borrow.Author.Tests.{eq-eqb, ne-eqb, le-leb, lt-leb}
-use Rattle.games.specs.Automaton.{Automaton, noCell, cellFrom, cellAfter, actionAfter}
-use Rattle.games.specs.Words.{lowField, numberField, actionField}
-use Rattle.cards.specs.declared.CardCheck.{CardCheck}
+use Rattle.games.specs.Format.{lowValues}
+use Rattle.games.specs.Automaton.{Automaton, noCell}
+use Rattle.games.specs.Words.{lowField, actionField}
 use Rattle.cards.specs.declared.CardCheck.the-variants.{Fine, Refused as Wrong}
-use Rattle.cards.specs.declared.Move.{Move}
-use Rattle.cards.specs.declared.Move.the-variants.{Entered, Refused}
-use Rattle.cards.specs.Card.{firstPlace, cellPlace, nextPlace, cardCells, cardObservations, cardActions, automaton, checked, Named, Fitting}
-use Rattle.cards.specs.Run.{entered, enters, begun, followed, past, opened, stepped, cellOr, moved, ranFrom, ran}
-use Rattle.cards.proofs.Checked.{fitting, some-word, first-in, cell-in, next-in}
+use Rattle.cards.specs.declared.Move.the-variants.{Refused}
+use Rattle.cards.specs.Card.{firstPlace, cellPlace, nextPlace, cardCells, cardObservations, automaton, checked, Named}
+use Rattle.cards.specs.Run.{entered, enters, begun, followed, opened, stepped}
+use Rattle.cards.proofs.Checked.{fitting, cell-in, next-in}
 
 -- the fields of a card's automaton
 module _ (w : List ℕ) where
@@ -93,7 +91,7 @@ stepped-wrong w c j n p e = rw (stepped, e)
 
 -- what the functions over a checked card read
 module _ (w : List ℕ) (e : checked w ≡ Fine) where
-  pub named-small : (c : ℕ) → Named (automaton w) c → c < 65536
+  pub named-small : (c : ℕ) → Named (automaton w) c → c < lowValues
   named-small c h =
       ⊎-elim (λ (l : c < automaton w .size). omega (arith, fitting w e .cells)) (λ (n : c ≡ noCell). omega arith) h
 

@@ -3,7 +3,7 @@
 -- Assumes nothing.
 use mathlib.Core.Path.{_≡_, refl, sym, ap, subst, _∙_}
 use mathlib.Core.List.{List, [], _∷_, _++_}
-use Prim.Native.Nat.{ℕ, zero, suc, _+_, _≤_, _<_}
+use Prim.Native.Nat.{ℕ, _+_, _≤_, _<_}
 use native.Mathlib.Nat.{not-suc-le-zero}
 use native.Mathlib.Numerals.{add-one}
 use native.Mathlib.Omega.{arith}
@@ -16,9 +16,9 @@ use Rattle.games.specs.Words.{cardWords}
 use Rattle.games.specs.Demands.{Follows, Second}
 use Rattle.cards.specs.declared.CardCheck.the-variants.{Fine}
 use Rattle.cards.specs.declared.Move.{Move}
-use Rattle.cards.specs.declared.Move.the-variants.{Entered, Refused}
+use Rattle.cards.specs.declared.Move.the-variants.{Refused}
 use Rattle.cards.specs.Card.{cardObservations, automaton, checked, Fitting, Named}
-use Rattle.cards.specs.Run.{entered, enters, begun, followed, opened, stepped, moved, ranFrom, ran}
+use Rattle.cards.specs.Run.{entered, enters, opened, stepped, moved, ranFrom, ran}
 use Rattle.cards.proofs.Checked.{fitting}
 use Rattle.cards.proofs.Running.{named-cell, enters-cell, begun-enters, followed-outside, followed-enters, opened-fine, stepped-fine}
 use Rattle.cards.proofs.Written.{Agree, written-observations, written-checked, written-agrees}

@@ -1,89 +1,87 @@
 -- The words that are written of an automaton are a card, and mean that automaton.
 -- Assumes nothing.
 use mathlib.Core.Path.{_≡_, refl, sym, ap, subst, _∙_}
-use mathlib.Core.Logic.{_⊎_, inl, inr, ⊎-elim}
-use mathlib.Core.Bool.{Bool, true, false, not, _&&_, _||_}
+use mathlib.Core.Logic.{_⊎_, ⊎-elim}
+use mathlib.Core.Bool.{true, not, _||_}
 use mathlib.Core.List.{List, [], _∷_, _++_}
 use Prim.Native.Nat.{ℕ, zero, suc, _+_, _*_, _-_, _/_, _%_, _≤_, _<_}
-use native.Mathlib.Nat.{div-div-eq-div-mul, div-add-mod', mod-lt, div-lt-iff-lt-mul}
+use native.Mathlib.Nat.{div-add-mod', mod-lt, div-lt-iff-lt-mul}
 use native.Mathlib.Omega.{arith}
-use lib.Dec.{eqb, leb, ltb}
+use lib.Dec.{eqb, ltb}
 use lib.ListN.{length, getD, length-append, List·getD-append}
 use lib.Seq.{getD-append-add}
-use borrow.Author.Tests.{eq-eqb, ne-eqb, lt-ltb, le-leb, ltb-true, ltb-false}
+use borrow.Author.Tests.{eq-eqb, lt-ltb, ltb-true, ltb-false}
 use Rattle.sets.specs.Bounded.{gather}
 use Rattle.sets.proofs.Logic.{decided, and-intro, or-left, or-right, true-not}
+use Rattle.games.specs.Format.{within, maxActions, maxObservations, maxSets, maxCells, lowValues, numberValues, actionValues, kindCard, kindFirst, kindCell, kindNext}
 use Rattle.games.specs.Automaton.{Automaton, noCell}
 use Rattle.games.specs.Words.{lowField, numberField, actionField, word, cardLength, cellWords, cardWords}
-use Rattle.cards.specs.declared.CardCheck.{CardCheck}
-use Rattle.cards.specs.declared.CardCheck.the-variants.{Fine, Refused}
-use Rattle.cards.specs.Card.{maxCells, maxObservations, maxActions, setLimit, headPlace, firstPlace, cellPlace, nextPlace, cardCells, cardObservations, cardActions, automaton, upTo, headFits, cellNamed, cellFits, partFits, wordFits, wrongWord, wordsChecked, checked, Named, Fitting}
+use Rattle.games.proofs.Limits.{within-limit}
+use Rattle.cards.specs.declared.CardCheck.the-variants.{Fine}
+use Rattle.cards.specs.Card.{headPlace, firstPlace, cellPlace, nextPlace, cardCells, cardObservations, cardActions, automaton, headFits, cellNamed, cellFits, wordFits, checked, Named, Fitting}
 use Rattle.sets.proofs.Bounded.{first-none}
 use Rattle.cards.proofs.Extra.{gather-length, gather-at}
-use Rattle.cards.proofs.Checked.{word-head, word-begins, word-cell, word-next, only-words, Passed, passed-all}
+use Rattle.cards.proofs.Checked.{word-head, word-begins, word-cell, word-next, only-words, passed-all}
 use Rattle.cards.proofs.Running.{size-of, set-of, action-of, begins-of, next-of}
 
 -- the fields of a word
-pub low-of : (k x n y : ℕ) → x < 65536 → n < 16 → y < 16 → lowField (word k x n y) ≡ x
+pub low-of : (k x n y : ℕ) → x < lowValues → n < numberValues → y < actionValues → lowField (word k x n y) ≡ x
 low-of k x n y a b c = omega arith
 
-pub number-of : (k x n y : ℕ) → x < 65536 → n < 16 → y < 16 → numberField (word k x n y) ≡ n
+pub number-of : (k x n y : ℕ) → x < lowValues → n < numberValues → y < actionValues → numberField (word k x n y) ≡ n
 number-of k x n y a b c = omega arith
 
-pub action-of-word : (k x n y : ℕ) → x < 65536 → n < 16 → y < 16 → actionField (word k x n y) ≡ y
+pub action-of-word : (k x n y : ℕ) → x < lowValues → n < numberValues → y < actionValues → actionField (word k x n y) ≡ y
 action-of-word k x n y a b c = omega arith
 
 -- the words that are written are right
-in-limit : (limit n : ℕ) → 1 ≤ n → n ≤ limit → upTo limit n ≡ true
-in-limit limit n a b = and-intro (le-leb 1 n a) (le-leb n limit b)
-
-pub head-right : (m o a : ℕ) → 1 ≤ m → m ≤ maxCells → 1 ≤ o → o ≤ maxObservations → 1 ≤ a → a ≤ maxActions → headFits (word 8 m o a) ≡ true
+pub head-right : (m o a : ℕ) → 1 ≤ m → m ≤ maxCells → 1 ≤ o → o ≤ maxObservations → 1 ≤ a → a ≤ maxActions → headFits (word kindCard m o a) ≡ true
 unfolding headFits
 head-right m o a p q r s t u =
-    let x = word 8 m o a in
-    let e : lowField x ≡ m = low-of 8 m o a (omega arith) (omega arith) (omega arith) in
-    let f : numberField x ≡ o = number-of 8 m o a (omega arith) (omega arith) (omega arith) in
-    let g : actionField x ≡ a = action-of-word 8 m o a (omega arith) (omega arith) (omega arith) in
+    let x = word kindCard m o a in
+    let e : lowField x ≡ m = low-of kindCard m o a (omega arith) (omega arith) (omega arith) in
+    let f : numberField x ≡ o = number-of kindCard m o a (omega arith) (omega arith) (omega arith) in
+    let g : actionField x ≡ a = action-of-word kindCard m o a (omega arith) (omega arith) (omega arith) in
     and-intro
     (and-intro
-    (and-intro (eq-eqb x (word 8 (lowField x) (numberField x) (actionField x)) (omega arith)) (in-limit maxCells (lowField x) (omega arith) (omega arith)))
-    (in-limit maxObservations (numberField x) (omega arith) (omega arith)))
-    (in-limit maxActions (actionField x) (omega arith) (omega arith))
+    (and-intro (eq-eqb x (word kindCard (lowField x) (numberField x) (actionField x)) (omega arith)) (within-limit (lowField x) maxCells (omega arith) (omega arith)))
+    (within-limit (numberField x) maxObservations (omega arith) (omega arith)))
+    (within-limit (actionField x) maxActions (omega arith) (omega arith))
 
 one-named : (m x : ℕ) → (x < m) ⊎ (x ≡ noCell) → (ltb x m || eqb x noCell) ≡ true
 one-named m x h = ⊎-elim (λ l. or-left (eqb x noCell) (lt-ltb x m l)) (λ e. or-right (ltb x m) (eq-eqb x noCell e)) h
 
-pub named-right : (k m j x : ℕ) → x < 65536 → j < 16 → (x < m) ⊎ (x ≡ noCell) → cellNamed k m j (word k x j 0) ≡ true
+pub named-right : (k m j x : ℕ) → x < lowValues → j < numberValues → (x < m) ⊎ (x ≡ noCell) → cellNamed k m j (word k x j 0) ≡ true
 unfolding cellNamed
 named-right k m j x a b h =
     let y = word k x j 0 in
     let e : lowField y ≡ x = low-of k x j 0 a b (omega arith) in
     and-intro (eq-eqb y (word k (lowField y) j 0) (ap (λ (z : ℕ). word k z j 0) (sym e))) (subst (λ (z : ℕ). (ltb z m || eqb z noCell) ≡ true) (sym e) (one-named m x h))
 
-pub cell-right : (a x y : ℕ) → x < setLimit → y < a → a ≤ maxActions → cellFits a (word 10 x 0 y) ≡ true
+pub cell-right : (a x y : ℕ) → x < maxSets → y < a → a ≤ maxActions → cellFits a (word kindCell x 0 y) ≡ true
 unfolding cellFits
 cell-right a x y p q r =
-    let z = word 10 x 0 y in
-    let e : lowField z ≡ x = low-of 10 x 0 y (omega arith) (omega arith) (omega arith) in
-    let f : actionField z ≡ y = action-of-word 10 x 0 y (omega arith) (omega arith) (omega arith) in
-    and-intro (and-intro (eq-eqb z (word 10 (lowField z) 0 (actionField z)) (omega arith)) (lt-ltb (lowField z) setLimit (omega arith))) (lt-ltb (actionField z) a (omega arith))
+    let z = word kindCell x 0 y in
+    let e : lowField z ≡ x = low-of kindCell x 0 y (omega arith) (omega arith) (omega arith) in
+    let f : actionField z ≡ y = action-of-word kindCell x 0 y (omega arith) (omega arith) (omega arith) in
+    and-intro (and-intro (eq-eqb z (word kindCell (lowField z) 0 (actionField z)) (omega arith)) (lt-ltb (lowField z) maxSets (omega arith))) (lt-ltb (actionField z) a (omega arith))
 
 -- where the words of an automaton stand
 module _ (A : Automaton) (a o : ℕ) where
   abbrev firsts : List ℕ
-  firsts = gather o (λ j. word 9 (A .begins j) j 0 ∷ [])
+  firsts = gather o (λ j. word kindFirst (A .begins j) j 0 ∷ [])
 
   abbrev cellsOf : List ℕ
   cellsOf = gather (A .size) (cellWords A o)
 
   abbrev nexts : ℕ → List ℕ
-  nexts c = gather o (λ j. word 11 (A .next c j) j 0 ∷ [])
+  nexts c = gather o (λ j. word kindNext (A .next c j) j 0 ∷ [])
 
   nexts-length : (c : ℕ) → length (nexts c) ≡ o
-  nexts-length c = let l : length (nexts c) ≡ o * 1 = gather-length o 1 (λ j. word 11 (A .next c j) j 0 ∷ []) (λ i b. refl) in omega arith
+  nexts-length c = let l : length (nexts c) ≡ o * 1 = gather-length o 1 (λ j. word kindNext (A .next c j) j 0 ∷ []) (λ i b. refl) in omega arith
 
   firsts-length : length firsts ≡ o
-  firsts-length = let l : length firsts ≡ o * 1 = gather-length o 1 (λ j. word 9 (A .begins j) j 0 ∷ []) (λ i b. refl) in omega arith
+  firsts-length = let l : length firsts ≡ o * 1 = gather-length o 1 (λ j. word kindFirst (A .begins j) j 0 ∷ []) (λ i b. refl) in omega arith
 
   cell-length : (c : ℕ) → length (cellWords A o c) ≡ 1 + o
   unfolding cellWords
@@ -96,7 +94,7 @@ module _ (A : Automaton) (a o : ℕ) where
   unfolding cardWords
   card-long = omega (arith, length-append firsts cellsOf, firsts-length, cells-length)
 
-  pub head-at : getD (cardWords A a o) headPlace 0 ≡ word 8 (A .size) o a
+  pub head-at : getD (cardWords A a o) headPlace 0 ≡ word kindCard (A .size) o a
   unfolding cardWords
   head-at = refl
 
@@ -108,8 +106,8 @@ module _ (A : Automaton) (a o : ℕ) where
   single : (f : ℕ → ℕ) (j : ℕ) → j < o → getD (gather o (λ i. f i ∷ [])) j 0 ≡ f j
   single f j l = ap (λ (p : ℕ). getD (gather o (λ i. f i ∷ [])) p 0) (let e : j ≡ j * 1 + 0 = omega arith in e) ∙ gather-at o 1 (λ i. f i ∷ []) (λ i b. refl) j 0 l (omega arith)
 
-  pub first-at : (j : ℕ) → j < o → getD (cardWords A a o) (firstPlace j) 0 ≡ word 9 (A .begins j) j 0
-  first-at j l = tail-at j ∙ List·getD-append firsts cellsOf 0 j (omega (arith, firsts-length)) ∙ single (λ i. word 9 (A .begins i) i 0) j l
+  pub first-at : (j : ℕ) → j < o → getD (cardWords A a o) (firstPlace j) 0 ≡ word kindFirst (A .begins j) j 0
+  first-at j l = tail-at j ∙ List·getD-append firsts cellsOf 0 j (omega (arith, firsts-length)) ∙ single (λ i. word kindFirst (A .begins i) i 0) j l
 
   -- behind the first words
   cells-at : (q : ℕ) → getD (cardWords A a o) (1 + o + q) 0 ≡ getD cellsOf q 0
@@ -121,16 +119,16 @@ module _ (A : Automaton) (a o : ℕ) where
   part-at : (c r : ℕ) → c < A .size → r < 1 + o → getD (cardWords A a o) (1 + o + (c * (1 + o) + r)) 0 ≡ getD (cellWords A o c) r 0
   part-at c r l k = cells-at (c * (1 + o) + r) ∙ gather-at (A .size) (1 + o) (cellWords A o) (λ i b. cell-length i) c r l k
 
-  pub cell-at : (c : ℕ) → c < A .size → getD (cardWords A a o) (cellPlace o c) 0 ≡ word 10 (A .set c) 0 (A .action c)
+  pub cell-at : (c : ℕ) → c < A .size → getD (cardWords A a o) (cellPlace o c) 0 ≡ word kindCell (A .set c) 0 (A .action c)
   unfolding cellWords
   cell-at c l = ap (λ (p : ℕ). getD (cardWords A a o) p 0) (let e : cellPlace o c ≡ 1 + o + (c * (1 + o) + 0) = omega arith in e) ∙ part-at c 0 l (omega arith)
 
-  pub next-at : (c j : ℕ) → c < A .size → j < o → getD (cardWords A a o) (nextPlace o c j) 0 ≡ word 11 (A .next c j) j 0
+  pub next-at : (c j : ℕ) → c < A .size → j < o → getD (cardWords A a o) (nextPlace o c j) 0 ≡ word kindNext (A .next c j) j 0
   unfolding cellWords
   next-at c j l k =
       ap (λ (p : ℕ). getD (cardWords A a o) p 0) (let e : nextPlace o c j ≡ 1 + o + (c * (1 + o) + suc j) = omega arith in e)
       ∙ part-at c (suc j) l (omega arith)
-      ∙ single (λ i. word 11 (A .next c i) i 0) j k
+      ∙ single (λ i. word kindNext (A .next c i) i 0) j k
 
 -- two automata with the same cells, sets and actions, and the same first and next cells for o observations
 pub record Agree (A B : Automaton) (o : ℕ) : Type 0 where
@@ -141,17 +139,17 @@ pub record Agree (A B : Automaton) (o : ℕ) : Type 0 where
   pub next-same : (c j : ℕ) → c < A .size → j < o → A .next c j ≡ B .next c j
 
 module _ (A : Automaton) (a o : ℕ) (F : Fitting A a o) where
-  cell-small : (c : ℕ) → Named A c → c < 65536
+  cell-small : (c : ℕ) → Named A c → c < lowValues
   cell-small c h = ⊎-elim (λ (l : c < A .size). omega (arith, F .cells)) (λ (e : c ≡ noCell). omega arith) h
 
   pub written-cells : cardCells (cardWords A a o) ≡ A .size
-  written-cells = ap lowField (head-at A a o) ∙ low-of 8 (A .size) o a (omega arith) (omega arith) (omega arith)
+  written-cells = ap lowField (head-at A a o) ∙ low-of kindCard (A .size) o a (omega arith) (omega arith) (omega arith)
 
   pub written-observations : cardObservations (cardWords A a o) ≡ o
-  written-observations = ap numberField (head-at A a o) ∙ number-of 8 (A .size) o a (omega arith) (omega arith) (omega arith)
+  written-observations = ap numberField (head-at A a o) ∙ number-of kindCard (A .size) o a (omega arith) (omega arith) (omega arith)
 
   pub written-actions : cardActions (cardWords A a o) ≡ a
-  written-actions = ap actionField (head-at A a o) ∙ action-of-word 8 (A .size) o a (omega arith) (omega arith) (omega arith)
+  written-actions = ap actionField (head-at A a o) ∙ action-of-word kindCard (A .size) o a (omega arith) (omega arith) (omega arith)
 
   written-long : length (cardWords A a o) ≡ cardLength (cardCells (cardWords A a o)) (cardObservations (cardWords A a o))
   written-long = rw (written-cells, written-observations) (card-long A a o)
@@ -163,8 +161,8 @@ module _ (A : Automaton) (a o : ℕ) (F : Fitting A a o) where
   first-word : (j : ℕ) → j < o → wordFits (cardWords A a o) (firstPlace j) ≡ true
   first-word j l =
       word-begins (cardWords A a o) j (omega (arith, written-observations))
-      ∙ ap (cellNamed 9 (cardCells (cardWords A a o)) j) (first-at A a o j l)
-      ∙ ap (λ (m : ℕ). cellNamed 9 m j (word 9 (A .begins j) j 0)) written-cells
+      ∙ ap (cellNamed kindFirst (cardCells (cardWords A a o)) j) (first-at A a o j l)
+      ∙ ap (λ (m : ℕ). cellNamed kindFirst m j (word kindFirst (A .begins j) j 0)) written-cells
       ∙ named-right 9 (A .size) j (A .begins j) (cell-small (A .begins j) (F .begins-named j l)) (omega (arith, F .observations)) (F .begins-named j l)
 
   cell-word : (c : ℕ) → c < A .size → wordFits (cardWords A a o) (cellPlace o c) ≡ true
@@ -173,16 +171,16 @@ module _ (A : Automaton) (a o : ℕ) (F : Fitting A a o) where
       ∙ word-cell (cardWords A a o) c
       ∙ ap (λ (p : ℕ). cellFits (cardActions (cardWords A a o)) (getD (cardWords A a o) (cellPlace p c) 0)) written-observations
       ∙ ap (cellFits (cardActions (cardWords A a o))) (cell-at A a o c l)
-      ∙ ap (λ (b : ℕ). cellFits b (word 10 (A .set c) 0 (A .action c))) written-actions
+      ∙ ap (λ (b : ℕ). cellFits b (word kindCell (A .set c) 0 (A .action c))) written-actions
       ∙ cell-right a (A .set c) (A .action c) (F .set-below c l) (F .action-below c l) (F .actions)
 
   next-word : (c j : ℕ) → c < A .size → j < o → wordFits (cardWords A a o) (nextPlace o c j) ≡ true
   next-word c j l k =
       ap (λ (p : ℕ). wordFits (cardWords A a o) (nextPlace p c j)) (sym written-observations)
       ∙ word-next (cardWords A a o) c j (omega (arith, written-observations))
-      ∙ ap (λ (p : ℕ). cellNamed 11 (cardCells (cardWords A a o)) j (getD (cardWords A a o) (nextPlace p c j) 0)) written-observations
-      ∙ ap (cellNamed 11 (cardCells (cardWords A a o)) j) (next-at A a o c j l k)
-      ∙ ap (λ (m : ℕ). cellNamed 11 m j (word 11 (A .next c j) j 0)) written-cells
+      ∙ ap (λ (p : ℕ). cellNamed kindNext (cardCells (cardWords A a o)) j (getD (cardWords A a o) (nextPlace p c j) 0)) written-observations
+      ∙ ap (cellNamed kindNext (cardCells (cardWords A a o)) j) (next-at A a o c j l k)
+      ∙ ap (λ (m : ℕ). cellNamed kindNext m j (word kindNext (A .next c j) j 0)) written-cells
       ∙ named-right 11 (A .size) j (A .next c j) (cell-small (A .next c j) (F .next-named c j l k)) (omega (arith, F .observations)) (F .next-named c j l k)
 
   -- every place is one of these
@@ -217,10 +215,10 @@ module _ (A : Automaton) (a o : ℕ) (F : Fitting A a o) where
       record {
         size-same = size-of w ∙ written-cells;
         set-same = λ c l. set-of w c ∙ ap (λ (p : ℕ). lowField (getD w (cellPlace p c) 0)) written-observations ∙ ap lowField (cell-at A a o c (out c l))
-            ∙ low-of 10 (A .set c) 0 (A .action c) (omega (arith, F .set-below c (out c l))) (omega arith) (omega (arith, F .action-below c (out c l)));
+            ∙ low-of kindCell (A .set c) 0 (A .action c) (omega (arith, F .set-below c (out c l))) (omega arith) (omega (arith, F .action-below c (out c l)));
         action-same = λ c l. action-of w c ∙ ap (λ (p : ℕ). actionField (getD w (cellPlace p c) 0)) written-observations ∙ ap actionField (cell-at A a o c (out c l))
-            ∙ action-of-word 10 (A .set c) 0 (A .action c) (omega (arith, F .set-below c (out c l))) (omega arith) (omega (arith, F .action-below c (out c l)));
-        begins-same = λ j l. begins-of w j ∙ ap lowField (first-at A a o j l) ∙ low-of 9 (A .begins j) j 0 (cell-small (A .begins j) (F .begins-named j l)) (omega arith) (omega arith);
+            ∙ action-of-word kindCell (A .set c) 0 (A .action c) (omega (arith, F .set-below c (out c l))) (omega arith) (omega (arith, F .action-below c (out c l)));
+        begins-same = λ j l. begins-of w j ∙ ap lowField (first-at A a o j l) ∙ low-of kindFirst (A .begins j) j 0 (cell-small (A .begins j) (F .begins-named j l)) (omega arith) (omega arith);
         next-same = λ c j l k. next-of w c j ∙ ap (λ (p : ℕ). lowField (getD w (nextPlace p c j) 0)) written-observations ∙ ap lowField (next-at A a o c j (out c l) k)
-            ∙ low-of 11 (A .next c j) j 0 (cell-small (A .next c j) (F .next-named c j (out c l) k)) (omega arith) (omega arith);
+            ∙ low-of kindNext (A .next c j) j 0 (cell-small (A .next c j) (F .next-named c j (out c l) k)) (omega arith) (omega arith);
       }

@@ -5,26 +5,14 @@ use mathlib.Core.Logic.{_⊎_}
 use mathlib.Core.Bool.{Bool, true, false, cond, not, _&&_, _||_}
 use mathlib.Core.List.{List}
 use Prim.Native.Nat.{ℕ, _+_, _*_, _-_, _/_, _%_, _≤_, _<_}
-use lib.Dec.{eqb, leb, ltb}
+use lib.Dec.{eqb, ltb}
 use lib.ListN.{length, getD}
 use Rattle.sets.specs.Bounded.{Found, nothing, found, first}
 use Rattle.games.specs.Automaton.{Automaton, noCell}
+use Rattle.games.specs.Format.{within, maxActions, maxObservations, maxSets, maxCells, kindCard, kindFirst, kindCell, kindNext}
 use Rattle.games.specs.Words.{lowField, numberField, actionField, word, cardLength}
 use Rattle.cards.specs.declared.CardCheck.{CardCheck}
 use Rattle.cards.specs.declared.CardCheck.the-variants.{Fine, Refused}
-
--- the limits of a card: cells, observations and actions are each from 1 up to these, and a set is below `setLimit`
-abbrev pub maxCells : ℕ
-maxCells = 4096
-
-abbrev pub maxObservations : ℕ
-maxObservations = 8
-
-abbrev pub maxActions : ℕ
-maxActions = 8
-
-abbrev pub setLimit : ℕ
-setLimit = 4096
 
 -- the places of a card's words, for o observations: the head; the first cell by observation; a cell; its next cell by observation
 abbrev pub headPlace : ℕ
@@ -61,29 +49,25 @@ automaton w =
       next = λ c j. lowField (getD w (nextPlace o c j) 0);
     }
 
--- a number from 1 up to the limit
-abbrev pub upTo : ℕ → ℕ → Bool
-upTo limit n = leb 1 n && leb n limit
-
--- a head: kind 8, spare bits 0, its three numbers within the limits
+-- a head: its kind, spare bits 0, its three numbers within the limits
 unfoldable pub headFits : ℕ → Bool
 headFits x =
-    eqb x (word 8 (lowField x) (numberField x) (actionField x))
-    && upTo maxCells (lowField x)
-    && upTo maxObservations (numberField x)
-    && upTo maxActions (actionField x)
+    eqb x (word kindCard (lowField x) (numberField x) (actionField x))
+    && within (lowField x) maxCells
+    && within (numberField x) maxObservations
+    && within (actionField x) maxActions
 
 -- a first or next word (the kind says which) for observation j: its low field names one of the m cells or is `noCell`
 unfoldable pub cellNamed : (kind m j : ℕ) → ℕ → Bool
 cellNamed k m j x = eqb x (word k (lowField x) j 0) && (ltb (lowField x) m || eqb (lowField x) noCell)
 
--- a cell's own word: its set is below the limit, its action below a
+-- a cell's own word: its set is one of at most `maxStates` states, its action below a
 unfoldable pub cellFits : (a : ℕ) → ℕ → Bool
-cellFits a x = eqb x (word 10 (lowField x) 0 (actionField x)) && ltb (lowField x) setLimit && ltb (actionField x) a
+cellFits a x = eqb x (word kindCell (lowField x) 0 (actionField x)) && ltb (lowField x) maxSets && ltb (actionField x) a
 
 -- the word number i behind the first words of a card for m cells, a actions and o observations: each cell has 1 + o of them
 unfoldable pub partFits : (m a o i : ℕ) → ℕ → Bool
-partFits m a o i x = cond (eqb (i % (1 + o)) 0) (cellFits a x) (cellNamed 11 m (i % (1 + o) - 1) x)
+partFits m a o i x = cond (eqb (i % (1 + o)) 0) (cellFits a x) (cellNamed kindNext m (i % (1 + o) - 1) x)
 
 -- the word at place p is right: the head, then a first word for each observation, then the words of the cells
 unfoldable pub wordFits : List ℕ → ℕ → Bool
@@ -91,7 +75,7 @@ wordFits w p =
     let o = cardObservations w in
     let x = getD w p 0 in
     cond (eqb p headPlace) (headFits x)
-    (cond (ltb p (firstPlace o)) (cellNamed 9 (cardCells w) (p - 1) x)
+    (cond (ltb p (firstPlace o)) (cellNamed kindFirst (cardCells w) (p - 1) x)
     (partFits (cardCells w) (cardActions w) o (p - firstPlace o) x))
 
 -- the lowest wrong word stops the check
@@ -122,7 +106,7 @@ pub record Fitting (A : Automaton) (a o : ℕ) : Type 0 where
   pub actions : a ≤ maxActions
   pub some-observation : 1 ≤ o
   pub observations : o ≤ maxObservations
-  pub set-below : (c : ℕ) → c < A .size → A .set c < setLimit
+  pub set-below : (c : ℕ) → c < A .size → A .set c < maxSets
   pub action-below : (c : ℕ) → c < A .size → A .action c < a
   pub begins-named : (j : ℕ) → j < o → Named A (A .begins j)
   pub next-named : (c j : ℕ) → c < A .size → j < o → Named A (A .next c j)

@@ -5,21 +5,11 @@ use games::Observation;
 ghost use mathlib.Core.Path.{_≡_};
 ghost use Prim.Native.Nat.{_<_, _≤_};
 ghost use lib.ListN.{length};
-ghost use Rattle.games.specs.Words.{lowField, numberField, actionField, word as wordOf, cardLength};
-ghost use Rattle.cards.specs.Card.{upTo, headFits, cellNamed, cellFits, partFits, wordFits, wordsChecked, checked, automaton, cardObservations, cellPlace, Named};
+ghost use Rattle.games.specs.Format.{lowValues, numberValues, actionValues, kindValues, kindCell};
+ghost use Rattle.games.specs.Words.{lowField, numberField, word, cardLength};
+ghost use Rattle.cards.specs.Card.{headFits, cellNamed, cellFits, partFits, wordFits, wordsChecked, checked, automaton, cardObservations, cellPlace, Named};
 ghost use Rattle.games.specs.Automaton.{noCell};
 ghost use Rattle.cards.specs.Run.{enters, begun, followed, opened, stepped, cellOr};
-
-// The limits of a card.
-const MAX_CELLS: u32 = 4096;
-
-const MAX_OBSERVATIONS: u32 = 8;
-
-const MAX_ACTIONS: u32 = 8;
-
-const SET_LIMIT: u32 = 4096;
-// The cell number that says: the observation cannot occur here.
-const NO_CELL: u32 = 65535;
 
 pub enum CardCheck {
     Fine,
@@ -31,93 +21,62 @@ pub enum Move {
     Refused(u32, usize),
 }
 
-pub fn low_field(w: u32) -> u32
-    ensures { λ r. ⌜ r ≡ lowField w ⌝ }
-{
-    w % 65536
-}
-
-pub fn number_field(w: u32) -> u32
-    ensures { λ r. ⌜ r ≡ numberField w ⌝ }
-{
-    w / 65536 % 16
-}
-
-pub fn action_field(w: u32) -> u32
-    ensures { λ r. ⌜ r ≡ actionField w ⌝ }
-{
-    w / 1048576 % 16
-}
-
-pub fn word(kind: u32, low: u32, number: u32, action: u32) -> u32
-    requires { ⌜ (kind < 16) × (low < 65536) × (number < 16) × (action < 16) ⌝ }
-    ensures { λ r. ⌜ r ≡ wordOf kind low number action ⌝ }
-{
-    kind * 268435456 + action * 1048576 + number * 65536 + low
-}
-
 // The word of a kind that names the cell to go to on an observation.
 pub fn naming(kind: u32, cell: Cell, seen: Observation) -> u32
-    requires { ⌜ (kind < 16) × (cell .0 < 65536) × (seen .0 < 16) ⌝ }
-    ensures { λ r. ⌜ r ≡ wordOf kind (cell .0) (seen .0) 0 ⌝ }
+    requires { ⌜ (kind < kindValues) × (cell .0 < lowValues) × (seen .0 < numberValues) ⌝ }
+    ensures { λ r. ⌜ r ≡ word kind (cell .0) (seen .0) 0 ⌝ }
 {
-    word(kind, cell.0, seen.0, 0)
+    games::word(kind, cell.0, seen.0, 0)
 }
 
 // The word of a cell: its set and the action picked there.
 pub fn picking(set: u32, picked: Action) -> u32
-    requires { ⌜ (set < 65536) × (picked .0 < 16) ⌝ }
-    ensures { λ r. ⌜ r ≡ wordOf 10 set 0 (picked .0) ⌝ }
+    requires { ⌜ (set < lowValues) × (picked .0 < actionValues) ⌝ }
+    ensures { λ r. ⌜ r ≡ word kindCell set 0 (picked .0) ⌝ }
 {
-    word(10, set, 0, picked.0)
-}
-
-fn up_to(limit: u32, n: u32) -> bool
-    ensures { λ r. ⌜ r ≡ upTo limit n ⌝ }
-{
-    (1 <= n) & (n <= limit)
+    games::word(games::KIND_CELL, set, 0, picked.0)
 }
 
 fn head_fits(x: u32) -> bool
     ensures { λ r. ⌜ r ≡ headFits x ⌝ }
 {
-    let low = low_field(x);
-    let number = number_field(x);
-    let action = action_field(x);
-    (x == word(8, low, number, action))
-        & up_to(MAX_CELLS, low)
-        & up_to(MAX_OBSERVATIONS, number)
-        & up_to(MAX_ACTIONS, action)
+    let low = games::low_field(x);
+    let number = games::number_field(x);
+    let action = games::action_field(x);
+    (x == games::word(games::KIND_CARD, low, number, action))
+        & games::within(low, games::MAX_CELLS)
+        & games::within(number, games::MAX_OBSERVATIONS)
+        & games::within(action, games::MAX_ACTIONS)
 }
 
 // A first or next word, by its kind, for observation j: it names a cell below m, or none.
 fn cell_named(kind: u32, m: u32, j: u32, x: u32) -> bool
-    requires { ⌜ (kind < 16) × (j < 16) ⌝ }
+    requires { ⌜ (kind < kindValues) × (j < numberValues) ⌝ }
     ensures { λ r. ⌜ r ≡ cellNamed kind m j x ⌝ }
 {
-    let low = low_field(x);
-    (x == word(kind, low, j, 0)) & ((low < m) | (low == NO_CELL))
+    let low = games::low_field(x);
+    (x == games::word(kind, low, j, 0)) & ((low < m) | (low == games::NO_CELL))
 }
 
 // A cell's own word: its set is below the limit, its action below a.
 fn cell_fits(a: u32, x: u32) -> bool
     ensures { λ r. ⌜ r ≡ cellFits a x ⌝ }
 {
-    let low = low_field(x);
-    let action = action_field(x);
-    (x == word(10, low, 0, action)) & (low < SET_LIMIT) & (action < a)
+    let low = games::low_field(x);
+    let action = games::action_field(x);
+    (x == games::word(games::KIND_CELL, low, 0, action)) & (low < games::MAX_SETS) & (action < a)
 }
 
 // The word number i behind the first words: each cell has one of its own and one for each observation.
 fn part_fits(m: u32, a: u32, o: u32, i: usize, x: u32) -> bool
-    requires { ⌜ o < 16 ⌝ }
+    requires { ⌜ o < numberValues ⌝ }
     ensures { λ r. ⌜ r ≡ partFits m a o i x ⌝ }
 {
     let part = i % (1 + o as usize);
     if part == 0 {
         cell_fits(a, x)
     } else {
-        cell_named(11, m, (part - 1) as u32, x)
+        cell_named(games::KIND_NEXT, m, (part - 1) as u32, x)
     }
 }
 
@@ -128,15 +87,21 @@ fn word_fits(card: &[u32], p: usize) -> bool
 {
     let head = card[0];
     let x = card[p];
-    let o = number_field(head);
+    let o = games::number_field(head);
     let start = 1 + o as usize;
     if p == 0 {
         return head_fits(x);
     }
     if p < start {
-        cell_named(9, low_field(head), (p - 1) as u32, x)
+        cell_named(games::KIND_FIRST, games::low_field(head), (p - 1) as u32, x)
     } else {
-        part_fits(low_field(head), action_field(head), o, p - start, x)
+        part_fits(
+            games::low_field(head),
+            games::action_field(head),
+            o,
+            p - start,
+            x,
+        )
     }
 }
 
@@ -144,8 +109,8 @@ fn word_fits(card: &[u32], p: usize) -> bool
 fn card_length(head: u32) -> usize
     ensures { λ r. ⌜ r ≡ cardLength (lowField head) (numberField head) ⌝ }
 {
-    let m = low_field(head) as usize;
-    let o = number_field(head) as usize;
+    let m = games::low_field(head) as usize;
+    let o = games::number_field(head) as usize;
     1 + o + m * (1 + o)
 }
 
@@ -181,7 +146,7 @@ pub fn check(card: &[u32]) -> CardCheck
 }
 
 pub fn cell_place(o: u32, c: u32) -> usize
-    requires { ⌜ (o < 16) × (c < 65536) ⌝ }
+    requires { ⌜ (o < numberValues) × (c < lowValues) ⌝ }
     ensures { λ r. ⌜ r ≡ cellPlace o c ⌝ }
 {
     let each = 1 + o as usize;
@@ -193,11 +158,11 @@ fn enter(card: &[u32], cell: Cell, seen: Observation) -> Move
     requires { ⌜ (checked (now card) ≡ CardCheck.Fine) × Named (automaton (now card)) (cell .0) ⌝ }
     ensures { λ r. ⌜ r ≡ enters (automaton (now (card .entry))) (cell .0) (seen .0) ⌝ }
 {
-    if cell.0 == NO_CELL {
+    if cell.0 == games::NO_CELL {
         return Move::Refused(14, seen.0 as usize);
     }
-    let place = cell_place(number_field(card[0]), cell.0);
-    Move::Entered(cell, Action(action_field(card[place])))
+    let place = cell_place(games::number_field(card[0]), cell.0);
+    Move::Entered(cell, Action(games::action_field(card[place])))
 }
 
 // Opening a checked card.
@@ -205,11 +170,11 @@ fn start(card: &[u32], seen: Observation) -> Move
     requires { ⌜ checked (now card) ≡ CardCheck.Fine ⌝ }
     ensures { λ r. ⌜ r ≡ begun (automaton (now (card .entry))) (cardObservations (now (card .entry))) (seen .0) ⌝ }
 {
-    if number_field(card[0]) <= seen.0 {
+    if games::number_field(card[0]) <= seen.0 {
         return Move::Refused(12, seen.0 as usize);
     }
     let place = 1 + seen.0 as usize;
-    enter(card, Cell(low_field(card[place])), seen)
+    enter(card, Cell(games::low_field(card[place])), seen)
 }
 
 // A step on a checked card.
@@ -217,15 +182,15 @@ fn follow(card: &[u32], cell: Cell, seen: Observation) -> Move
     requires { ⌜ checked (now card) ≡ CardCheck.Fine ⌝ }
     ensures { λ r. ⌜ r ≡ followed (automaton (now (card .entry))) (cardObservations (now (card .entry))) (cell .0) (seen .0) ⌝ }
 {
-    if low_field(card[0]) <= cell.0 {
+    if games::low_field(card[0]) <= cell.0 {
         return Move::Refused(12, cell.0 as usize);
     }
-    let o = number_field(card[0]);
+    let o = games::number_field(card[0]);
     if o <= seen.0 {
         return Move::Refused(12, seen.0 as usize);
     }
     let place = cell_place(o, cell.0) + 1 + seen.0 as usize;
-    enter(card, Cell(low_field(card[place])), seen)
+    enter(card, Cell(games::low_field(card[place])), seen)
 }
 
 // Document 01's opening of a card with the first observation.
@@ -254,7 +219,7 @@ pub fn first_cell(card: &[u32], seen: Observation) -> Cell
 {
     match begin(card, seen) {
         Move::Entered(cell, _) => cell,
-        Move::Refused(_, _) => Cell(NO_CELL),
+        Move::Refused(_, _) => Cell(games::NO_CELL),
     }
 }
 

@@ -1,19 +1,17 @@
 -- The verdict meets the demands.
 -- Assumes nothing.
-use mathlib.Core.Path.{_≡_, refl, sym, ap, _∙_, subst}
+use mathlib.Core.Path.{_≡_, refl, sym, _∙_, subst}
 use mathlib.Core.Logic.{_⊎_, ⊎-elim}
-use mathlib.Core.Bool.{Bool, true, false, cond, true≢false}
-use mathlib.Core.List.{List}
-use Prim.Native.Nat.{ℕ, zero, suc, _-_, _^_, _≤_, _<_}
+use mathlib.Core.Bool.{true, false, true≢false}
+use Prim.Native.Nat.{ℕ, zero, suc, _-_}
 use native.Mathlib.Omega.{arith}
 use lib.ListN.{length}
-use Rattle.sets.specs.Bounded.{all}
-use Rattle.sets.proofs.Logic.{decided, clash}
+use Rattle.sets.proofs.Logic.{decided}
 use Rattle.sets.proofs.Bounded.{all-intro, all-fails}
 use Rattle.games.specs.Game.{Game, Accepted}
-use Rattle.games.specs.Play.{Strategy, Lasts, Clear}
+use Rattle.games.specs.Play.{Strategy, Lasts}
 use Rattle.games.specs.Step.{good, settling}
-use Rattle.games.specs.Verdict.{Verdict, Yes, No, startSet, startsIn, settled, cells, lostRound, verdict}
+use Rattle.games.specs.Verdict.{Yes, No, startSet, startsIn, settled, cells, lostRound, verdict}
 use Rattle.games.specs.Automaton.{card}
 use Rattle.games.specs.Demands.{Lost, Third, Second, Decides}
 use Rattle.games.proofs.Losing.{start-lost, lost-no-lasting}

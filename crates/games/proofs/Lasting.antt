@@ -3,11 +3,11 @@
 -- Assumes nothing.
 use mathlib.Core.Path.{_≡_, refl, sym, ap, _∙_, subst}
 use mathlib.Core.Logic.{_⊎_, ⊎-elim}
-use mathlib.Core.Bool.{Bool, true, false}
-use mathlib.Core.List.{List, [], _∷_}
-use Prim.Native.Nat.{ℕ, zero, suc, pred, _^_, _≤_, _<_}
-use Rattle.sets.specs.Mask.{member, common}
-use Rattle.sets.specs.Bounded.{Found, found, nothing, first, orElse}
+use mathlib.Core.Bool.{true, false}
+use mathlib.Core.List.{List}
+use Prim.Native.Nat.{ℕ, suc, pred, _^_, _<_}
+use Rattle.sets.specs.Mask.{member}
+use Rattle.sets.specs.Bounded.{Found, orElse}
 use Rattle.sets.specs.Family.{Family}
 use Rattle.sets.proofs.Logic.{and-intro}
 use Rattle.sets.proofs.Bounded.{all-at, first-cases, first-some, first-found}

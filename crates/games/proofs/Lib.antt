@@ -1,3 +1,4 @@
+pub mod Limits
 pub mod Stations
 pub mod Steps
 pub mod Plays

@@ -2,7 +2,7 @@
 -- Assumes nothing.
 use mathlib.Core.Path.{_≡_, refl, sym, ap, _∙_, subst}
 use mathlib.Core.Logic.{_⊎_, ⊎-elim}
-use mathlib.Core.Bool.{Bool, true, false, _&&_, true≢false}
+use mathlib.Core.Bool.{true, false, true≢false}
 use mathlib.Core.List.{List, [], _∷_, _++_}
 use Prim.Native.Nat.{ℕ, zero, suc, _+_, _^_, _≤_, _<_}
 use native.Mathlib.Omega.{arith}
@@ -11,8 +11,8 @@ use Rattle.sets.specs.Bounded.{all, any}
 use Rattle.sets.proofs.Logic.{clash, and-left, and-right, and-false-cases}
 use Rattle.sets.proofs.Bounded.{all-fails, any-none}
 use Rattle.sets.proofs.Mask.{member-and, common-lt-left}
-use Rattle.games.specs.Game.{Game, Accepted, Shows, enabled}
-use Rattle.games.specs.Play.{Strategy, Play, begin, more, last, seen, rounds, upTo, PlayOf, Under, Survives, Survived, Lasts}
+use Rattle.games.specs.Game.{Game, Accepted, enabled}
+use Rattle.games.specs.Play.{Strategy, Play, begin, more, last, seen, rounds, PlayOf, Under, Survives, Lasts}
 use Rattle.games.specs.Step.{safe, enabledAt, after, meets, step, good}
 use Rattle.games.specs.Verdict.{startSet}
 use Rattle.games.specs.Demands.{Lost}

@@ -2,15 +2,15 @@
 -- A memory state is entered by the first observation and changed by each later one, and gives an action. Where a relation between rounds
 -- left, memory and state holds at the start, is kept by the moves and grants survival, the strategy lasts.
 -- Assumes nothing.
-use mathlib.Core.Path.{_≡_, refl, sym, ap, _∙_, subst, subst₂}
-use mathlib.Core.Bool.{Bool, true, false}
+use mathlib.Core.Path.{_≡_, refl, sym, _∙_, subst}
+use mathlib.Core.Bool.{true, false}
 use mathlib.Core.List.{List, [], _∷_, _++_}
-use Prim.Native.Nat.{ℕ, zero, suc, _+_, _-_, _≤_, _<_}
+use Prim.Native.Nat.{ℕ, suc, _+_, _-_}
 use native.Mathlib.Omega.{arith}
 use Rattle.sets.specs.Mask.{member}
 use Rattle.games.specs.Game.{Game, Shows, enabled}
-use Rattle.games.specs.Play.{Strategy, Play, begin, more, last, seen, rounds, PlayOf, Under, Survives, Lasts}
-use Rattle.games.proofs.Plays.{lasts-by-last, seen-some, rounds-from-one}
+use Rattle.games.specs.Play.{Strategy, Play, begin, more, last, seen, rounds, PlayOf, Under, Lasts}
+use Rattle.games.proofs.Plays.{lasts-by-last, seen-some}
 
 module _ {M : Type 0} (idle : M) (first : ℕ → M) (next : M → ℕ → M) where
   unfoldable pub from : M → List ℕ → M

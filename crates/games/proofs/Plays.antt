@@ -1,17 +1,17 @@
 -- Laws of plays: each round of a play is the last round of a play.
 -- Assumes nothing.
 use mathlib.Core.Path.{_≡_, refl, sym, ap, _∙_, subst}
-use mathlib.Core.Logic.{_⊎_, inl, inr, ⊎-elim}
-use mathlib.Core.Bool.{Bool, true, false, cond}
+use mathlib.Core.Logic.{_⊎_, ⊎-elim}
+use mathlib.Core.Bool.{true, false}
 use mathlib.Core.List.{List, [], _∷_, _++_}
-use Prim.Native.Nat.{ℕ, zero, suc, _+_, _≤_, _<_}
-use native.Mathlib.Nat.{le-refl, le-trans, le-antisymm}
+use Prim.Native.Nat.{ℕ, suc, _+_, _≤_}
+use native.Mathlib.Nat.{le-refl, le-trans}
 use native.Mathlib.Omega.{arith}
 use lib.Dec.{leb}
-use borrow.Author.Tests.{le-leb, lt-leb, leb-true, leb-false}
+use borrow.Author.Tests.{lt-leb, leb-true, leb-false}
 use Rattle.sets.proofs.Logic.{decided}
 use Rattle.games.specs.Game.{Game}
-use Rattle.games.specs.Play.{Strategy, Play, begin, more, last, seen, rounds, upTo, PlayOf, Under, Survives, Survived, Lasts, Clear}
+use Rattle.games.specs.Play.{Strategy, Play, begin, more, last, seen, rounds, upTo, PlayOf, Under, Survives, Lasts}
 
 pub rounds-from-one : (p : Play) → 1 ≤ rounds p
 unfolding rounds

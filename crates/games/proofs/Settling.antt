@@ -3,7 +3,6 @@
 use mathlib.Core.Path.{_≡_, refl, sym, ap, _∙_, subst}
 use mathlib.Core.Logic.{_⊎_, ⊎-elim}
 use mathlib.Core.Bool.{Bool, true, false, not}
-use mathlib.Core.List.{List}
 use Prim.Native.Nat.{ℕ, zero, suc, _+_, _^_, _≤_, _<_}
 use native.Mathlib.Nat.{le-refl, le-of-lt}
 use native.Mathlib.Decide.{le-ind}
@@ -11,16 +10,15 @@ use native.Mathlib.Omega.{arith}
 use borrow.Author.Tests.{not-true, not-false, leb-true, leb-false}
 use lib.Dec.{leb}
 use lib.Pow.{pow-pos}
-use Rattle.sets.specs.Bounded.{Found, found, nothing, all, first, orElse, count}
-use Rattle.sets.specs.Family.{Family, same, maximal, holds}
-use Rattle.sets.proofs.Logic.{decided, clash, refuted, same-truth, true-not, false-not}
-use Rattle.sets.proofs.Bounded.{all-intro, all-fails, count-le, count-strict, count-pos, first-cases, first-some, first-found}
+use Rattle.sets.specs.Bounded.{Found, orElse, count}
+use Rattle.sets.specs.Family.{maximal, holds}
+use Rattle.sets.proofs.Logic.{decided, refuted, false-not}
+use Rattle.sets.proofs.Bounded.{count-le, count-strict, count-pos, first-cases, first-some, first-found}
 use Rattle.sets.proofs.Family.{same-at, same-intro, same-witness, represents, maximal-ext}
 use Rattle.games.specs.Game.{Game, Accepted}
 use Rattle.games.specs.Step.{step, good, antichain, fixed, settling}
-use Rattle.games.specs.Verdict.{startSet, startsIn, settled, cells, lostRound}
+use Rattle.games.specs.Verdict.{startsIn, settled, cells, lostRound}
 use Rattle.games.proofs.Steps.{good-subset, good-falls, good-fewer, good-empty, step-ext}
-use Rattle.games.proofs.Lasting.{start-below, starts-at}
 
 -- the settling count: the families agree there, not before, and it is below 2 ^ n
 pub record Settles (g : Game) : Type 0 where

@@ -9,7 +9,7 @@ use Rattle.games.specs.Step.{safe, enabledAt, post, after, meets, lowest
 use Rattle.games.specs.Verdict.{startSet, startsIn, settled, cells, lostRound, verdict}
 use Rattle.games.specs.Automaton.{holding, chosen, card}
 use Rattle.games.specs.Words.{game, cellWords, cardWords}
-use Rattle.games.specs.Stations.{Every, none, row, stations, comesOut, sameList, sameVerdict, tableA, tableB, tableC, tableD, tableE, tableF, tableG, tableH}
+use Rattle.games.specs.Stations.{Every, none, row, stations, comesOut, sameList, sameVerdict}
 
 -- a refusal names the row that doesn't come out
 pub every-station : Every stations

@@ -1,22 +1,20 @@
 -- Laws of the step on sets: smaller sets and larger families are no worse, and good sets fall with the rounds.
 -- The stations stand before the laws, so that a wrong definition is refused first by the station it breaks.
 -- Assumes nothing.
-use mathlib.Core.Path.{_≡_, refl, sym, ap, ap₂, _∙_, subst}
-use mathlib.Core.Logic.{_⊎_, ⊎-elim}
-use mathlib.Core.Bool.{Bool, true, false, not, _&&_, _||_, true≢false}
-use mathlib.Core.List.{List}
+use mathlib.Core.Path.{_≡_, refl, sym, ap, _∙_}
+use mathlib.Core.Bool.{Bool, true, false, not, _&&_, _||_}
 use Prim.Native.Nat.{ℕ, zero, suc, _+_, _^_, _≤_, _<_}
 use native.Mathlib.Decide.{le-ind}
 use native.Mathlib.Omega.{arith}
-use lib.Dec.{eqb}
 use borrow.Author.Tests.{eq-eqb, eqb-true, eqb-false}
 use Rattle.sets.specs.Mask.{member, common, subset, unionOver}
 use Rattle.sets.specs.Bounded.{all, any}
 use Rattle.sets.specs.Family.{Family}
-use Rattle.sets.proofs.Logic.{clash, refuted, same-truth, and-left, and-right, and-intro, implies-intro, implies-at, implies-fails}
+use Rattle.sets.proofs.Logic.{clash, and-left, and-right, and-intro, implies-intro, implies-at, implies-fails}
 use Rattle.sets.proofs.Bounded.{all-at, all-intro, all-fails, all-ext, any-found, any-intro, any-ext}
-use Rattle.sets.proofs.Mask.{member-and, member-zero, common-lt, subset-member, subset-of, subset-refl, subset-le, subset-common-mono, common-zero, common-zero-intro, common-witness, common-nonzero, unionOver-found, unionOver-intro, unionOver-mono}
+use Rattle.sets.proofs.Mask.{member-and, member-zero, common-lt, subset-member, subset-of, subset-refl, subset-le, subset-common-mono, common-zero, common-witness, unionOver-found, unionOver-intro, unionOver-mono}
 use Rattle.games.specs.Game.{Game, Accepted, enabled}
+-- this one for the order alone
 use Rattle.games.proofs.Stations.{every-station}
 use Rattle.games.specs.Step.{safe, enabledAt, post, after, meets, step, good}
 

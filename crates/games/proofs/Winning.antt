@@ -4,44 +4,29 @@
 use mathlib.Core.Path.{_≡_, refl, sym, ap, _∙_, subst}
 use mathlib.Core.Logic.{_⊎_, ⊎-elim}
 use mathlib.Core.Bool.{Bool, true, false, cond}
-use mathlib.Core.List.{List, [], _∷_, List·Memᴰ, List·Memᴰ·head, List·Memᴰ·tail, List·Memᴰ·cases-cons, List·Memᴰ·not-nil}
-use Prim.Native.Nat.{ℕ, zero, suc, _+_, _^_, _≤_, _<_}
-use native.Mathlib.Nat.{not-suc-le-zero, le-of-suc-le-suc}
+use mathlib.Core.List.{List, [], _∷_}
+use Prim.Native.Nat.{ℕ, suc, _^_, _<_}
 use native.Mathlib.Omega.{arith}
 use lib.Dec.{eqb, ltb}
 use lib.ListN.{length, getD}
-use borrow.Author.Tests.{ne-eqb, eqb-true, lt-ltb, ltb-true}
+use borrow.Author.Tests.{ne-eqb, lt-ltb, ltb-true}
 use Rattle.sets.specs.Mask.{member, subset}
-use Rattle.sets.specs.Bounded.{Found, found, nothing, first, orElse}
-use Rattle.sets.specs.Family.{Family, holds, maximal}
+use Rattle.sets.specs.Bounded.{Found, first, orElse}
+use Rattle.sets.specs.Family.{holds}
 use Rattle.sets.proofs.Logic.{decided, clash}
 use Rattle.sets.proofs.Bounded.{first-some, first-found}
 use Rattle.sets.proofs.Mask.{member-zero, subset-member}
-use Rattle.sets.proofs.Family.{holds-found, mem-maximal}
+use Rattle.sets.proofs.Family.{at-mem, mem-at, holds-found, mem-maximal}
 use Rattle.games.specs.Game.{Game, Accepted, Shows, enabled}
-use Rattle.games.specs.Play.{Strategy, Play, PlayOf, Under, Lasts, Clear, last, seen, rounds}
-use Rattle.games.specs.Step.{after, meets, lowest, step, antichain, settling}
+use Rattle.games.specs.Play.{Strategy, last, seen, rounds}
+use Rattle.games.specs.Step.{after, lowest, step, antichain}
 use Rattle.games.specs.Verdict.{startSet, startsIn, settled, cells}
 use Rattle.games.specs.Automaton.{Automaton, noCell, cellFrom, cellAfter, actionAfter, holding, chosen, card}
-use Rattle.games.specs.Demands.{Follows, Keeps, Second}
+use Rattle.games.specs.Demands.{Follows, Second}
 use Rattle.games.proofs.Steps.{after-below}
-use Rattle.games.proofs.Plays.{rounds-from-one}
 use Rattle.games.proofs.Memory.{from, memory, holds-on, memory-lasts}
 use Rattle.games.proofs.Lasting.{lowest-below, stepped-survives, stepped-in, stepped-member, start-below, start-member, starts-at}
 use Rattle.games.proofs.Settling.{settled-step, cells-hold}
-
--- what stands at a place of a list is listed, and what is listed stands at a place
-pub at-mem : (l : List ℕ) (c : ℕ) → c < length l → List·Memᴰ (getD l c 0) l
-at-mem [] c h = absurd (not-suc-le-zero h)
-at-mem (x ∷ l) zero h = List·Memᴰ·head refl
-at-mem (x ∷ l) (suc c) h = List·Memᴰ·tail (at-mem l c (le-of-suc-le-suc h))
-
-pub mem-at : (l : List ℕ) (s : ℕ) → List·Memᴰ s l → (c : ℕ) × (c < length l) × (getD l c 0 ≡ s)
-mem-at [] s m = absurd (List·Memᴰ·not-nil m)
-mem-at (x ∷ l) s m = go (mem-at l s) (List·Memᴰ·cases-cons m)
-  where
-    go : (List·Memᴰ s l → (c : ℕ) × (c < length l) × (getD l c 0 ≡ s)) → (s ≡ x) ⊎ List·Memᴰ s l → (c : ℕ) × (c < length (x ∷ l)) × (getD (x ∷ l) c 0 ≡ s)
-    go down = ⊎-elim (λ e. (0, omega arith, sym e)) (λ n. let w = down n in (suc (w .0), omega arith, w .2))
 
 -- the memory theorem's memory, where it is an automaton's cell
 from-cell : (B : Automaton) (c : ℕ) (h : List ℕ) → from noCell (B .begins) (B .next) c h ≡ cellFrom B c h

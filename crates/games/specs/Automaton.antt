@@ -3,18 +3,19 @@
 use mathlib.Core.Path.{_≡_}
 use mathlib.Core.Bool.{Bool, true, false, cond}
 use mathlib.Core.List.{List, [], _∷_}
-use Prim.Native.Nat.{ℕ}
+use Prim.Native.Nat.{ℕ, _-_}
 use lib.Dec.{eqb}
 use lib.ListN.{length, getD}
 use Rattle.sets.specs.Mask.{subset}
 use Rattle.sets.specs.Bounded.{first, orElse}
+use Rattle.games.specs.Format.{lowValues}
 use Rattle.games.specs.Game.{Game}
 use Rattle.games.specs.Step.{after, lowest}
 use Rattle.games.specs.Verdict.{startSet, settled, cells}
 
--- the cell number that says: the observation cannot occur here
+-- the largest cell number says: the observation cannot occur here
 abbrev pub noCell : ℕ
-noCell = 65535
+noCell = lowValues - 1
 
 pub record Automaton : Type 0 where
   -- the number of cells; a cell's set and action; the first cell by observation, the next by cell and observation

@@ -1,3 +1,4 @@
+pub mod Format
 pub mod Game
 pub mod Play
 pub mod Step

@@ -1,42 +1,39 @@
--- The words of a table and of a card (document 01, "Words"): a word's kind is its bits 28 to 31.
+-- The words of a table and of a card (document 01, "Words").
 -- Assumes nothing.
 use mathlib.Core.List.{List, [], _∷_, _++_}
-use Prim.Native.Nat.{ℕ, _+_, _*_, _/_, _%_, _^_}
+use Prim.Native.Nat.{ℕ, _+_, _*_, _/_, _%_}
 use lib.ListN.{length, getD}
 use Rattle.sets.specs.Bounded.{gather}
+use Rattle.games.specs.Format.{lowValues, numberAt, numberValues, actionAt, actionValues, kindAt, headValues, headActionsAt, headObservationsAt, kindCard, kindFirst, kindCell, kindNext}
 use Rattle.games.specs.Game.{Game}
 use Rattle.games.specs.Automaton.{Automaton}
-
--- where a field begins, and how many values it has
-abbrev pub kindAt : ℕ
-kindAt = 2 ^ 28
 
 abbrev pub kind : ℕ → ℕ
 kind w = w / kindAt
 
--- a mask or a cell number in bits 0-15, an observation or a state in 16-19, an action in 20-23
+-- a mask or a cell number, an observation or a state, an action
 abbrev pub lowField : ℕ → ℕ
-lowField w = w % 2 ^ 16
+lowField w = w % lowValues
 
 abbrev pub numberField : ℕ → ℕ
-numberField w = w / 2 ^ 16 % 2 ^ 4
+numberField w = w / numberAt % numberValues
 
 abbrev pub actionField : ℕ → ℕ
-actionField w = w / 2 ^ 20 % 2 ^ 4
+actionField w = w / actionAt % actionValues
 
 -- a word of a kind with these three fields
 abbrev pub word : ℕ → ℕ → ℕ → ℕ → ℕ
-word k low number action = k * kindAt + action * 2 ^ 20 + number * 2 ^ 16 + low
+word k low number action = k * kindAt + action * actionAt + number * numberAt + low
 
--- a table's head: states in bits 0-7, actions in 8-15, observations in 16-23
+-- the numbers of a table's head
 abbrev pub headStates : ℕ → ℕ
-headStates w = w % 2 ^ 8
+headStates w = w % headValues
 
 abbrev pub headActions : ℕ → ℕ
-headActions w = w / 2 ^ 8 % 2 ^ 8
+headActions w = w / headActionsAt % headValues
 
 abbrev pub headObservations : ℕ → ℕ
-headObservations w = w / 2 ^ 16 % 2 ^ 8
+headObservations w = w / headObservationsAt % headValues
 
 -- the places of a table's words
 abbrev pub startPlace : ℕ
@@ -74,7 +71,7 @@ abbrev pub cardLength : (cells observations : ℕ) → ℕ
 cardLength m o = 1 + o + m * (1 + o)
 
 unfoldable pub cellWords : Automaton → ℕ → ℕ → List ℕ
-cellWords A o c = word 10 (A .set c) 0 (A .action c) ∷ gather o (λ j. word 11 (A .next c j) j 0 ∷ [])
+cellWords A o c = word kindCell (A .set c) 0 (A .action c) ∷ gather o (λ j. word kindNext (A .next c j) j 0 ∷ [])
 
 unfoldable pub cardWords : Automaton → (actions observations : ℕ) → List ℕ
-cardWords A a o = word 8 (A .size) o a ∷ gather o (λ j. word 9 (A .begins j) j 0 ∷ []) ++ gather (A .size) (cellWords A o)
+cardWords A a o = word kindCard (A .size) o a ∷ gather o (λ j. word kindFirst (A .begins j) j 0 ∷ []) ++ gather (A .size) (cellWords A o)

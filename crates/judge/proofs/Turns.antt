@@ -10,7 +10,7 @@ use Rattle.sets.specs.Mask.{common}
 use Rattle.sets.specs.Bounded.{all, any}
 use Rattle.sets.specs.Family.{Family}
 use Rattle.sets.proofs.Logic.{and-intro, and-false-left, and-false-right, or-false-intro}
-use Rattle.sets.proofs.Bounded.{all-more, all-refuted, any-more}
+use Rattle.sets.proofs.Bounded.{all-intro, all-more, all-refuted, any-more}
 use Rattle.games.specs.Game.{Game, Accepted}
 use Rattle.games.specs.Step.{safe, enabledAt, post, after, meets, step, good}
 use Rattle.games.proofs.Steps.{step-intro, good-empty}
@@ -105,3 +105,7 @@ module _ (g : Game) where
   all-observations k s a u e h =
       let w = walk-enabled s a u e in
       sym (and-intro (w .0) (subst (λ (v : ℕ). all (g .observations) (goodIn k v) ≡ true) (sym (w .1)) h))
+
+  -- and with no round after it they all do
+  pub last-round : (k s a u : ℕ) → walked g s a ≡ Post u → k ≡ 0 → true ≡ meets g (good g k) s a
+  last-round k s a u e z = all-observations k s a u e (all-intro (g .observations) (goodIn k u) (λ o l. sym (no-round k (common u (g .shown o)) z)))

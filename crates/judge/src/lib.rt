@@ -54,6 +54,9 @@ fn observation_turn(table: &[u32], s: u32, a: Action, k: u32) -> bool
     let Walked::Post(u) = tables::walk(table, s, a) else {
         return false; // blocked at a member
     };
+    if k == 0 {
+        return true; // every set is good for 0 rounds, so no observation is asked
+    }
     let end = tables::observations(table);
     let mut o: u32 = 0;
     while o < end {

@@ -13,9 +13,8 @@ use borrow.Author.Tests.{leb-false, ltb-true, ltb-false}
 use Rattle.sets.specs.Bounded.{Found, nothing, found, first, orElse}
 use Rattle.sets.proofs.Bounded.{first-stop, first-is, first-none, first-found, first-nothing, first-cases}
 use Rattle.sets.proofs.Logic.{decided}
-use Rattle.sets.proofs.Family.{Within}
+use Rattle.sets.proofs.Family.{Within, mem-at}
 use Rattle.lists.specs.Checks.{firstBeyond}
-use Rattle.lists.proofs.Extra.{mem-index}
 
 -- the mask at i is `end` or more
 abbrev pub beyond : List ℕ → ℕ → ℕ → Bool
@@ -53,7 +52,7 @@ beyond-none l end i q h =
 -- then its sets are sets of states below n
 pub beyond-within : (n : ℕ) (l : List ℕ) → first (length l) (beyond l (2 ^ n)) ≡ nothing → Within n l
 beyond-within n l e t m =
-    let w = mem-index l t m in
+    let w = mem-at l t m in
     subst (λ (x : ℕ). x < 2 ^ n) (w .2) (leb-false (2 ^ n) (getD l (w .0) 0) (first-nothing (length l) (beyond l (2 ^ n)) e (w .0) (w .1)))
 
 module _ (k l : List ℕ) (end : ℕ) where

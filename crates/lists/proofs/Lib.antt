@@ -1,5 +1,4 @@
-pub mod Extra
-pub mod Tops
 pub mod Checks
+pub mod Merging
 pub mod Outcomes
 pub mod Plain

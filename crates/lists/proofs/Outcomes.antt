@@ -1,31 +1,24 @@
 -- The outcome, refusal by refusal.
 -- Assumes nothing.
 use mathlib.Core.Path.{_≡_, sym, ap, _∙_, subst}
-use mathlib.Core.Logic.{_⊎_, ⊎-elim}
-use mathlib.Core.Bool.{Bool, false, cond}
+use mathlib.Core.Bool.{Bool, false, cond, true}
 use mathlib.Core.List.{List, _++_}
 use Prim.Native.Nat.{ℕ, _+_, _^_, _≤_, _<_}
-use lib.Dec.{leb}
-use native.Mathlib.Nat.{le-add-right}
-use lib.Pow.{pow-mono}
-use lib.ListN.{length, length-append, take, drop}
-use lib.Seq.{take-append-seam}
-use borrow.Author.Tests.{lt-ltb, le-ltb, le-leb, lt-leb}
-use Rattle.sets.specs.Bounded.{Found, nothing, found, first, count, select}
-use Rattle.sets.specs.Family.{join, meet}
-use Rattle.sets.proofs.Logic.{and-intro, and-false-left, and-false-right, true-not, false-not}
-use Rattle.sets.proofs.Bounded.{select-length}
+use lib.ListN.{length, drop}
+use borrow.Author.Tests.{lt-ltb, le-ltb}
+use Rattle.sets.specs.Bounded.{Found, nothing, found, first}
+use Rattle.sets.proofs.Logic.{true-not, false-not}
+use Rattle.games.specs.Format.{maxStates}
+use Rattle.games.proofs.Limits.{within-high}
 use Rattle.lists.specs.declared.Answer.the-variants.{Words, Refused}
-use Rattle.lists.specs.Lists.{leaves, maxStates, isWidth, foreign, fitted, unlessFound, outcome}
-use Rattle.lists.specs.Tops.{top}
+use Rattle.lists.specs.Lists.{leaves, isWidth, foreign, fitted, unlessFound, outcome}
+use Rattle.lists.specs.Merging.{Masks}
 use Rattle.lists.specs.Checks.{firstBeyond}
-use Rattle.lists.proofs.Tops.{select-top}
 use Rattle.lists.proofs.Checks.{beyond, beyond-found, beyond-within, found-first, found-second, found-neither}
 
 -- the width is right, and `end` is the first mask with a state too many
 pub record Width (n end : ℕ) : Type 0 where
-  pub low : 1 ≤ n
-  pub high : n ≤ maxStates
+  pub right : isWidth n ≡ true
   pub power : end ≡ 2 ^ n
 
 -- the list has no such mask
@@ -35,27 +28,25 @@ Clean end l = first (length l) (beyond l end) ≡ nothing
 -- ---- the result and its room
 
 -- a longer result is refused
-fitted-long : (r d : List ℕ) (w : ℕ) → w ≡ length r → length d < w → leaves (Refused 15 w) d ≡ fitted r d
+pub fitted-long : (r d : List ℕ) (w : ℕ) → w ≡ length r → length d < w → leaves (Refused 15 w) d ≡ fitted r d
 fitted-long r d w e h =
     ap (λ (x : ℕ). leaves (Refused 15 x) d) e
     ∙ sym (ap (λ (b : Bool). cond b (leaves (Refused 15 (length r)) d) (leaves (Words (length r)) (r ++ drop (length r) d))) (lt-ltb (length d) (length r) (subst (λ (x : ℕ). length d < x) e h)))
 
 -- one that fits is written in front
-fitted-fits : (r d q : List ℕ) (w : ℕ) → w ≡ length r → w ≤ length d → leaves (Words w) (take w (r ++ q) ++ drop w d) ≡ fitted r d
-fitted-fits r d q w e h =
-    ap (λ (x : ℕ). leaves (Words x) (take x (r ++ q) ++ drop x d)) e
-    ∙ ap (λ (x : List ℕ). leaves (Words (length r)) (x ++ drop (length r) d)) (take-append-seam r q)
-    ∙ sym (ap (λ (b : Bool). cond b (leaves (Refused 15 (length r)) d) (leaves (Words (length r)) (r ++ drop (length r) d))) (le-ltb (length d) (length r) (subst (λ (x : ℕ). x ≤ length d) e h)))
+pub fitted-fits : (r d : List ℕ) (w : ℕ) (x : List ℕ) → w ≡ length r → w ≤ length d → x ≡ r ++ drop w d → leaves (Words w) x ≡ fitted r d
+fitted-fits r d w x e h f =
+    ap (leaves (Words w)) f
+    ∙ ap (λ (y : ℕ). leaves (Words y) (r ++ drop y d)) e
+    ∙ sym (ap (λ (b : Bool). cond b (leaves (Refused 15 (length r)) d) (leaves (Words (length r)) (r ++ drop (length r) d))) (le-ltb (length d) (length r) (subst (λ (y : ℕ). y ≤ length d) e h)))
 
 -- ---- the refusals before it
 
 module _ (op : List ℕ → List ℕ → List ℕ) (n : ℕ) (k l d : List ℕ) where
   -- the width is wrong
-  pub refused-width : (n < 1) ⊎ (maxStates < n) → leaves (Refused 2 0) d ≡ outcome op n k l d
+  pub refused-width : isWidth n ≡ false → leaves (Refused 2 0) d ≡ outcome op n k l d
   unfolding outcome
-  refused-width h =
-      let e : isWidth n ≡ false = ⊎-elim (λ a. and-false-left (leb n maxStates) (lt-leb 1 n a)) (λ a. and-false-right (leb 1 n) (lt-leb n maxStates a)) h in
-      sym (ap (λ (b : Bool). cond b (leaves (Refused 2 0) d) (unlessFound (foreign n (k ++ l)) d (fitted (op k l) d))) (false-not e))
+  refused-width e = sym (ap (λ (b : Bool). cond b (leaves (Refused 2 0) d) (unlessFound (foreign n (k ++ l)) d (fitted (op k l) d))) (false-not e))
 
   module _ (end : ℕ) (w : Width n end) where
     -- it is right: what the masks decide
@@ -63,7 +54,7 @@ module _ (op : List ℕ → List ℕ → List ℕ) (n : ℕ) (k l d : List ℕ) 
     unfolding outcome
     checked f e =
         ap (λ (x : Found). unlessFound x d (fitted (op k l) d)) (sym (subst (λ (x : ℕ). first (length (k ++ l)) (beyond (k ++ l) x) ≡ f) (w .power) e))
-        ∙ sym (ap (λ (b : Bool). cond b (leaves (Refused 2 0) d) (unlessFound (foreign n (k ++ l)) d (fitted (op k l) d))) (true-not (and-intro (le-leb 1 n (w .low)) (le-leb n maxStates (w .high)))))
+        ∙ sym (ap (λ (b : Bool). cond b (leaves (Refused 2 0) d) (unlessFound (foreign n (k ++ l)) d (fitted (op k l) d))) (true-not (w .right)))
 
     -- a mask of the first list is refused
     pub refused-first : (i : ℕ) → i ≡ firstBeyond k end → i < length k → leaves (Refused 5 i) d ≡ outcome op n k l d
@@ -74,39 +65,16 @@ module _ (op : List ℕ → List ℕ → List ℕ) (n : ℕ) (k l d : List ℕ) 
     refused-second j c e h = checked (found (length k + j)) (found-second k l end j c (beyond-found l end j e h))
 
     -- none is
-    allowed : Clean end k → Clean end l → fitted (op k l) d ≡ outcome op n k l d
+    pub allowed : Clean end k → Clean end l → fitted (op k l) d ≡ outcome op n k l d
     allowed a b = checked nothing (found-neither k l end a b)
 
 -- ---- the work done
 
-module _ (m : Bool) (n end : ℕ) (k l d : List ℕ) (w : Width n end) (a : Clean end k) (b : Clean end l) where
-  -- what is collected is the join or the meet
-  collected : select end (top m k l) ≡ cond m (meet n) (join n) k l
-  collected =
-      ap (λ (x : ℕ). select x (top m k l)) (w .power)
-      ∙ select-top n k l (beyond-within n k (subst (λ (x : ℕ). Clean x k) (w .power) a)) (beyond-within n l (subst (λ (x : ℕ). Clean x l) (w .power) b)) m
-
-  finished : fitted (select end (top m k l)) d ≡ outcome (cond m (meet n) (join n)) n k l d
-  finished = ap (λ (x : List ℕ). fitted x d) collected ∙ allowed (cond m (meet n) (join n)) n k l d end w a b
-
-  -- it is too long
-  pub refused-long : (r : ℕ) → r ≡ count end (top m k l) → length d < r → leaves (Refused 15 r) d ≡ outcome (cond m (meet n) (join n)) n k l d
-  refused-long r e h = fitted-long (select end (top m k l)) d r (e ∙ sym (select-length end (top m k l))) h ∙ finished
-
-  -- it is written
-  pub written : (r : ℕ) (x y q : List ℕ) → r ≡ count end (top m k l) → r ≤ length d → x ≡ select end (top m k l) ++ q → y ≡ take r x ++ drop r d → leaves (Words r) y ≡ outcome (cond m (meet n) (join n)) n k l d
-  written r x y q e h f g =
-      ap (leaves (Words r)) (g ∙ ap (λ (z : List ℕ). take r z ++ drop r d) f)
-      ∙ fitted-fits (select end (top m k l)) d q r (e ∙ sym (select-length end (top m k l))) h ∙ finished
-
--- ---- room for what is collected
-
--- the masks of any width fit
-pub width-room : {n end : ℕ} → Width n end → end ≤ 4096
-width-room w = subst (λ (x : ℕ). x ≤ 4096) (sym (w .power)) (pow-mono (w .high))
-
--- what is collected is in front of a list at least as long
-pub room-for : (p : ℕ → Bool) (end r : ℕ) (x q : List ℕ) → r ≡ count end p → x ≡ select end p ++ q → r ≤ length x
-room-for p end r x q e f =
-    subst (λ (y : ℕ). r ≤ y) (sym (ap length f ∙ length-append (select end p) q))
-    (subst (λ (y : ℕ). y ≤ length (select end p) + length q) (select-length end p ∙ sym e) (le-add-right (length (select end p)) (length q)))
+module _ (n end : ℕ) (k l : List ℕ) (w : Width n end) (a : Clean end k) (b : Clean end l) where
+  -- the lists are as the work asks for them
+  pub masks : Masks n k l
+  masks = record {
+    width = within-high n maxStates (w .right);
+    first = beyond-within n k (subst (λ (x : ℕ). Clean x k) (w .power) a);
+    second = beyond-within n l (subst (λ (x : ℕ). Clean x l) (w .power) b);
+  }

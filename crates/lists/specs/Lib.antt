@@ -1,4 +1,4 @@
 pub mod Lists
 pub mod Plain
-pub mod Tops
+pub mod Merging
 pub mod Checks

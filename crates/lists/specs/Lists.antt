@@ -1,12 +1,13 @@
 -- What join and meet of two lists answer, and what they leave in the buffer (document 01, "Lists").
 -- Assumes nothing.
-use mathlib.Core.Bool.{Bool, cond, not, _&&_}
+use mathlib.Core.Bool.{Bool, cond, not}
 use mathlib.Core.List.{List, _++_}
 use Prim.Native.Nat.{ℕ, _^_}
 use lib.Dec.{ltb, leb}
 use lib.ListN.{length, getD, drop}
 use Rattle.sets.specs.Bounded.{Found, nothing, found, first}
 use Rattle.sets.specs.Family.{join, meet}
+use Rattle.games.specs.Format.{within, maxStates}
 use Rattle.lists.specs.declared.Answer.{Answer}
 use Rattle.lists.specs.declared.Answer.the-variants.{Words, Refused}
 
@@ -18,12 +19,9 @@ pub record Outcome : Type 0 where
 abbrev pub leaves : Answer → List ℕ → Outcome
 leaves a d = record { answer = a; out = d }
 
--- the widths of lists: 1 to 12
-abbrev pub maxStates : ℕ
-maxStates = 12
-
+-- the widths of lists
 abbrev pub isWidth : ℕ → Bool
-isWidth n = leb 1 n && leb n maxStates
+isWidth n = within n maxStates
 
 -- the first mask that names a state from n up
 abbrev pub foreign : ℕ → List ℕ → Found

@@ -2,23 +2,23 @@
 -- Assumes nothing.
 use mathlib.Core.Path.{_≡_, refl, sym, ap, ap₂, _∙_, subst}
 use mathlib.Core.Logic.{_⊎_, inl, inr, ⊎-elim}
-use mathlib.Core.Bool.{Bool, true, false, cond, _&&_, _||_, not}
+use mathlib.Core.Bool.{Bool, true, false, cond, _||_}
 use mathlib.Core.List.{List, _++_}
 use Prim.Native.Nat.{ℕ, zero, suc, _+_, _-_, _*_, _/_, _%_, _^_, _≤_, _<_, min}
-use native.Mathlib.Nat.{mod-le, le-refl, le-step, le-trans, eq-or-lt-of-le, not-suc-le-zero, mod-eq-of-lt, div-eq-of-lt, mod-lt, div-lt-iff-lt-mul, pow-suc, add-sub-cancel-left, mul-le-mul-right, suc-mul}
+use native.Mathlib.Nat.{mod-le, le-refl, le-step, le-trans, not-suc-le-zero, pow-suc, add-sub-cancel-left, mul-le-mul-right, suc-mul}
 use native.Mathlib.Numerals.{add-one}
 use native.Mathlib.Omega.{arith}
 use lib.Dec.{eqb, ltb}
 use lib.ListN.{length, getD, take, drop, set, length-set, List·getD-append}
-use lib.Pow.{pow-pos, pow-mono, shr-shr, field, mod-mod-pow, shr-lt}
+use lib.Pow.{pow-mono, shr-shr, field, mod-mod-pow, shr-lt}
 use lib.Seq.{getD-set-same, getD-set-other, length-take-le, getD-take, getD-drop, getD-append-add}
 use borrow.Rule.Slice.PartMut.{putMid, postOf, same-len-mid, mid-len}
-use borrow.Author.Count.{below-none, below-more}
-use borrow.Author.Tests.{eq-eqb, ne-eqb, eqb-true, eqb-false, not-true, not-false, ltb-true, ltb-false}
-use Rattle.sets.specs.Mask.{member, union, subset, unionOver}
-use Rattle.sets.specs.Bounded.{all}
+use borrow.Author.Count.{below-more}
+use borrow.Author.Tests.{eqb-true, not-true, not-false, ltb-true, ltb-false}
+use Rattle.sets.specs.Mask.{member, union, unionOver}
 use Rattle.sets.proofs.Logic.{decided, same-truth, or-left, or-right, or-cases}
-use Rattle.sets.proofs.Mask.{member-beyond, member-below, member-or, member-single, single-le, member-add-same, member-add-other, ext-all, unionOver-zero, unionOver-suc, unionOver-hit, unionOver-skip, unionOver-found, unionOver-intro, unionOver-ext, unionOver-lt}
+use Rattle.sets.proofs.Mask.{member-beyond, member-or, member-single, single-le, member-add-same, member-add-other, ext-all, unionOver-zero, unionOver-hit, unionOver-skip, unionOver-found, unionOver-intro, unionOver-ext, unionOver-lt}
+use Rattle.games.specs.Format.{maxStates, maxActions}
 use Rattle.games.specs.Game.{Game, Accepted, enabled}
 use Rattle.games.specs.Step.{enabledAt, post}
 use Rattle.games.proofs.Steps.{enabled-at, enabled-fails}
@@ -29,9 +29,8 @@ use Rattle.tables.specs.declared.Checked.the-variants.{Fine}
 use Rattle.tables.proofs.Checks.{sized}
 use Rattle.tables.proofs.Bounds.{game-limited}
 use Rattle.tables.specs.Walk.{walked}
-use Rattle.tables.specs.declared.Walked.{Walked}
 use Rattle.tables.specs.declared.Walked.the-variants.{Blocked, Post}
-use Rattle.moves.specs.Halves.{halfStates, halfSets, blockedMark, mark, marked, Doubled, Halved, Sided, Tabled}
+use Rattle.moves.specs.Halves.{halfStates, halfSets, sideWords, blockedMark, mark, marked, Doubled, Halved, Sided, Tabled}
 
 -- the union sees only the members below the bound
 members-same : (n s t : ℕ) (f : ℕ → ℕ) → ((i : ℕ) → i < n → member s i ≡ member t i) → unionOver n s f ≡ unionOver n t f
@@ -151,15 +150,15 @@ halving-room moves half i size l b k =
 low-member : (s i : ℕ) → i < halfStates → member (s % halfSets) i ≡ member s i
 low-member s i l =
     ap (λ (x : ℕ). eqb x 1)
-    (ap (λ (m : ℕ). s % 2 ^ m / 2 ^ i % 2) six
+    (ap (λ (m : ℕ). s % 2 ^ m / 2 ^ i % 2) rest
     ∙ ap (λ (x : ℕ). x % 2) (field s (halfStates - i) i)
     ∙ ap (λ (m : ℕ). s / 2 ^ i % 2 ^ m % 2) one
-    ∙ mod-mod-pow (s / 2 ^ i) (5 - i) 1)
+    ∙ mod-mod-pow (s / 2 ^ i) (halfStates - 1 - i) 1)
   where
-    six : halfStates ≡ halfStates - i + i
-    six = omega arith
+    rest : halfStates ≡ halfStates - i + i
+    rest = omega arith
 
-    one : halfStates - i ≡ 5 - i + 1
+    one : halfStates - i ≡ halfStates - 1 - i + 1
     one = omega arith
 
 high-member : (s i : ℕ) → member (s / halfSets) i ≡ member s (halfStates + i)
@@ -211,7 +210,7 @@ module _ (n k s : ℕ) (F : ℕ → ℕ) (within : k ≤ n) (few : k ≤ halfSta
 
 -- ---- what the marks tell
 
-module _ (g : Game) (A : Accepted g) (few : g .states ≤ 12) (s a : ℕ) (b : a < g .actions) where
+module _ (g : Game) (A : Accepted g) (few : g .states ≤ maxStates) (s a : ℕ) (b : a < g .actions) where
   unmarked : enabledAt g s a ≡ true → unionOver (g .states) s (λ i. mark (g .successors a i)) ≡ post g s a
   unfolding post enabled
   unmarked h =
@@ -248,10 +247,10 @@ module _ (g : Game) (A : Accepted g) (few : g .states ≤ 12) (s a : ℕ) (b : a
 
 -- ---- filling a side, one action behind the other
 
-pub few-actions : (w : List ℕ) → checked w ≡ Fine → game w .actions ≤ 8
+pub few-actions : (w : List ℕ) → checked w ≡ Fine → game w .actions ≤ maxActions
 few-actions w h = game-limited w (sized w h) .most-actions
 
-pub few-states : (w : List ℕ) → checked w ≡ Fine → game w .states ≤ 12
+pub few-states : (w : List ℕ) → checked w ≡ Fine → game w .states ≤ maxStates
 few-states w h = game-limited w (sized w h) .most-states
 
 -- a part that was written is read at its place, and what lies before it as it was
@@ -266,29 +265,29 @@ put-inside a k h xs ys l b =
     ∙ List·getD-append ys (postOf a k xs) 0 h l
 
 module _ (g : Game) (first count : ℕ) where
-  pub sided-none : (side : List ℕ) → length side ≡ 8 * halfSets → Sided g first count 0 side
+  pub sided-none : (side : List ℕ) → length side ≡ sideWords → Sided g first count 0 side
   sided-none side h = record { size = h; at = λ a h l b. absurd (not-suc-le-zero l) }
 
-  pub sided-more : (a : ℕ) (side moves e : List ℕ) → a < 8 → count ≤ halfStates → length moves ≡ count → ((i : ℕ) → i < count → marked moves i ≡ mark (g .successors a (first + i))) → Sided g first count a side → Halved moves e → Sided g first count (a + 1) (putMid (a * halfSets) (a * halfSets + 64 - a * halfSets) side e)
+  pub sided-more : (a : ℕ) (side moves e : List ℕ) → a < maxActions → count ≤ halfStates → length moves ≡ count → ((i : ℕ) → i < count → marked moves i ≡ mark (g .successors a (first + i))) → Sided g first count a side → Halved moves e → Sided g first count (a + 1) (putMid (a * halfSets) (a * halfSets + halfSets - a * halfSets) side e)
   sided-more a side moves e l few long is w h =
       let at = a * halfSets in
-      let inside : at + 64 ≤ length side = omega (arith, w .size) in
+      let inside : at + halfSets ≤ length side = omega (arith, w .size) in
       record {
-        size = same-len-mid at (at + 64 - at) side e (h .size ∙ sym (mid-len at (at + 64) side inside ∙ add-sub-cancel-left at 64)) ∙ w .size;
-        at = λ c x d y. below-more (λ b. (x : ℕ) → x < 2 ^ count → getD (putMid at (at + 64 - at) side e) (b * halfSets + x) 0 ≡ unionOver count x (λ i. mark (g .successors b (first + i)))) a
-            (λ b c x y. put-before at (at + 64 - at) (b * halfSets + x) side e (before b x c (small x y)) (omega (arith, w .size)) ∙ w .at b x c y)
+        size = same-len-mid at (at + halfSets - at) side e (h .size ∙ sym (mid-len at (at + halfSets) side inside ∙ add-sub-cancel-left at halfSets)) ∙ w .size;
+        at = λ c x d y. below-more (λ b. (x : ℕ) → x < 2 ^ count → getD (putMid at (at + halfSets - at) side e) (b * halfSets + x) 0 ≡ unionOver count x (λ i. mark (g .successors b (first + i)))) a
+            (λ b c x y. put-before at (at + halfSets - at) (b * halfSets + x) side e (before b x c (small x y)) (omega (arith, w .size)) ∙ w .at b x c y)
             (λ x y.
-            put-inside at (at + 64 - at) x side e (omega (arith, h .size, small x y)) (omega (arith, w .size))
+            put-inside at (at + halfSets - at) x side e (omega (arith, h .size, small x y)) (omega (arith, w .size))
             ∙ h .at x (subst (λ (n : ℕ). x < 2 ^ n) (sym long) y)
             ∙ ap (λ (n : ℕ). unionOver n x (marked moves)) long
             ∙ unionOver-ext count x (marked moves) (λ i. mark (g .successors a (first + i))) (λ i b m. is i b))
             c d x y;
       }
     where
-      small : (x : ℕ) → x < 2 ^ count → x < 64
+      small : (x : ℕ) → x < 2 ^ count → x < halfSets
       small x y = let p = pow-mono {i = count} {j = halfStates} few in omega arith
 
-      before : (b x : ℕ) → b < a → x < 64 → b * halfSets + x < a * halfSets
+      before : (b x : ℕ) → b < a → x < halfSets → b * halfSets + x < a * halfSets
       before b x c y = omega arith
 
 -- the row's words give the successors
@@ -300,9 +299,9 @@ row-marks w z a first count i l b h =
     ∙ getD-drop (tableLength (headStates (getD w 0 0)) a (headObservations (getD w 0 0)) + first) w i 0
     ∙ ap (λ (p : ℕ). getD w p 0) (omega arith))
 
-pub high-small : (w : List ℕ) → checked w ≡ Fine → (s : ℕ) → s < 2 ^ game w .states → s / 64 < 64
+pub high-small : (w : List ℕ) → checked w ≡ Fine → (s : ℕ) → s < 2 ^ game w .states → s / halfSets < halfSets
 high-small w h s l =
-    let p = pow-mono {i = game w .states} {j = 12} (few-states w h) in
+    let p = pow-mono {i = game w .states} {j = maxStates} (few-states w h) in
     omega arith
 
 -- an action's row lies in the table, and so does a part of it
@@ -316,15 +315,15 @@ row-inside w z a first count l b =
 pub part-length : (w : List ℕ) (from count : ℕ) → from + count ≤ length w → length (take (from + count - from) (drop from w)) ≡ count
 part-length w from count h = mid-len from (from + count) w h ∙ add-sub-cancel-left from count
 
-pub side-length : (side : List ℕ) (a : ℕ) → length side ≡ 8 * halfSets → a < 8 → length (take (a * 64 + 64 - a * 64) (drop (a * 64) side)) ≡ halfSets
-side-length side a h l = part-length side (a * 64) 64 (omega arith)
+pub side-length : (side : List ℕ) (a : ℕ) → length side ≡ sideWords → a < maxActions → length (take (a * halfSets + halfSets - a * halfSets) (drop (a * halfSets) side)) ≡ halfSets
+side-length side a h l = part-length side (a * halfSets) halfSets (omega arith)
 
 pub part-marks : (w : List ℕ) → Sized w → (a first count row : ℕ) → row ≡ tableLength (headStates (getD w 0 0)) a (headObservations (getD w 0 0)) → a < game w .actions → first + count ≤ game w .states → (i : ℕ) → i < count → marked (take (row + first + count - (row + first)) (drop (row + first) w)) i ≡ mark (game w .successors a (first + i))
 part-marks w z a first count row e l b i h =
     ap₂ (λ (n p : ℕ). marked (take n (drop (p + first) w)) i) (add-sub-cancel-left (row + first) count) e ∙ row-marks w z a first count i l b h
 
 -- both sides together
-pub sides-tabled : (g : Game) (k : ℕ) (low high : List ℕ) → g .states ≤ 12 → k ≡ min (g .states) halfStates → Sided g 0 k (g .actions) low → Sided g k (g .states - k) (g .actions) high → Tabled g low high
+pub sides-tabled : (g : Game) (k : ℕ) (low high : List ℕ) → g .states ≤ maxStates → k ≡ min (g .states) halfStates → Sided g 0 k (g .actions) low → Sided g k (g .states - k) (g .actions) high → Tabled g low high
 sides-tabled g k low high few is l h =
     record {
       low-size = l .size;

@@ -1,4 +1,5 @@
-// The successors of every set of states in two reads, for the search: a table for the states 0 to 5 and one for the states 6 to 11.
+// The successors of every set of states in two reads, for the search: a table for the lower half of the states and one for the
+// upper half.
 ghost use mathlib.Core.Path.{_≡_};
 ghost use Prim.Native.Nat.{_+_, _*_, _^_, _<_, _≤_, min};
 ghost use lib.ListN.{length};
@@ -6,12 +7,22 @@ ghost use Rattle.games.specs.Words.{game, lowField};
 ghost use Rattle.tables.specs.Check.{checked};
 ghost use Rattle.tables.specs.Walk.{walked};
 ghost use Rattle.tables.specs.declared.Checked.the-variants.{Fine};
-ghost use Rattle.moves.specs.Halves.{halfStates, halfSets, mark, Doubled, Halved, Sided, Tabled};
+ghost use Rattle.moves.specs.Halves.{halfStates, halfSets, sideWords, mark, Doubled, Halved, Sided, Tabled};
 use games::Action;
 use tables::Walked;
 
+// The states of a half, their sets, and the words for these.
+const HALF_STATES: usize = (games::MAX_STATES as usize + 1) / 2;
+
+const HALF_SETS: u32 = 1 << HALF_STATES;
+
+const HALF_WORDS: usize = HALF_SETS as usize;
+
+// The words of one of the two tables: a half for each action.
+pub const SIDE_WORDS: usize = games::MAX_ACTIONS as usize * HALF_WORDS;
+
 // Above every mask: it stands for the successors where the action is blocked.
-const BLOCKED: u32 = 65536;
+const BLOCKED: u32 = games::LOW_VALUES;
 
 // The first entries again behind them, united with the successors of one state more.
 fn double(half: &mut [u32], size: usize, w: u32)
@@ -29,10 +40,14 @@ fn double(half: &mut [u32], size: usize, w: u32)
 fn mark_word(w: u32) -> u32
     ensures { λ r. ⌜ r ≡ mark (lowField w) ⌝ }
 {
-    if w % 65536 == 0 { BLOCKED } else { w % 65536 }
+    if w % games::LOW_VALUES == 0 {
+        BLOCKED
+    } else {
+        w % games::LOW_VALUES
+    }
 }
 
-// What every set of the row's states leads to; the row has at most six move words.
+// What every set of the row's states leads to; the row has at most `HALF_STATES` move words.
 fn fill_half(half: &mut [u32], moves: &[u32])
     requires { ⌜ (length (now half) ≡ halfSets) × (length (now moves) ≤ halfStates) ⌝ }
     ensures { λ _. ⌜ Halved (now (moves .entry)) (now (half .exit)) ⌝ }
@@ -47,9 +62,9 @@ fn fill_half(half: &mut [u32], moves: &[u32])
     }
 }
 
-// One side of each action's moves: `count` move words of its row, from `first` on; 64 words for each action.
+// One side of each action's moves: `count` move words of its row, from `first` on; `HALF_WORDS` for each action.
 fn fill_side(table: &[u32], side: &mut [u32], first: usize, count: usize)
-    requires { ⌜ (checked (now table) ≡ Fine) × (length (now side) ≡ 8 * halfSets) × (first + count ≤ game (now table) .states) × (count ≤ halfStates) ⌝ }
+    requires { ⌜ (checked (now table) ≡ Fine) × (length (now side) ≡ sideWords) × (first + count ≤ game (now table) .states) × (count ≤ halfStates) ⌝ }
     ensures { λ _. ⌜ Sided (game (now (table .entry))) first count (game (now (table .entry)) .actions) (now (side .exit)) ⌝ }
 {
     let actions = tables::actions(table);
@@ -57,8 +72,8 @@ fn fill_side(table: &[u32], side: &mut [u32], first: usize, count: usize)
     while a < actions {
         let from = tables::row(table[0], a) + first;
         let to = from + count;
-        let at = a as usize * 64;
-        let end = at + 64;
+        let at = a as usize * HALF_WORDS;
+        let end = at + HALF_WORDS;
         fill_half(&mut side[at..end], &table[from..to]);
         a += 1;
     }
@@ -67,12 +82,12 @@ fn fill_side(table: &[u32], side: &mut [u32], first: usize, count: usize)
 fn low_states(n: usize) -> usize
     ensures { λ r. ⌜ r ≡ min n halfStates ⌝ }
 {
-    if n < 6 { n } else { 6 }
+    if n < HALF_STATES { n } else { HALF_STATES }
 }
 
 // Fills both tables.
 pub fn fill(table: &[u32], low: &mut [u32], high: &mut [u32])
-    requires { ⌜ (checked (now table) ≡ Fine) × (length (now low) ≡ 8 * halfSets) × (length (now high) ≡ 8 * halfSets) ⌝ }
+    requires { ⌜ (checked (now table) ≡ Fine) × (length (now low) ≡ sideWords) × (length (now high) ≡ sideWords) ⌝ }
     ensures { λ _. ⌜ Tabled (game (now (table .entry))) (now (low .exit)) (now (high .exit)) ⌝ }
 {
     let n = tables::states(table) as usize;
@@ -86,8 +101,8 @@ pub fn post(table: &[u32], low: &[u32], high: &[u32], s: u32, a: Action) -> Walk
     requires { ⌜ (checked (now table) ≡ Fine) × Tabled (game (now table)) (now low) (now high) × (s < 2 ^ game (now table) .states) × (a .0 < game (now table) .actions) ⌝ }
     ensures { λ r. ⌜ r ≡ walked (game (now (table .entry))) s (a .0) ⌝ }
 {
-    let at = (a.0 * 64) as usize;
-    let u = low[at + (s % 64) as usize] | high[at + (s / 64) as usize];
+    let at = (a.0 * HALF_SETS) as usize;
+    let u = low[at + (s % HALF_SETS) as usize] | high[at + (s / HALF_SETS) as usize];
     if u < BLOCKED {
         Walked::Post(u)
     } else {

@@ -5,9 +5,9 @@ use crate::stations;
 use crate::stations::A;
 use crate::stations::GUARD;
 use crate::stations::changed_a;
+use fields::Written;
 use tables::Checked;
 use tables::Fields;
-use tables::Written;
 
 fn print_fields(f: Fields) {
     let numbers = [f.states, f.actions, f.observations, f.start, f.bad];
@@ -24,7 +24,7 @@ fn print_fields(f: Fields) {
 fn read(name: &[u8], table: &[u32]) {
     say(b"read ");
     say(name);
-    let r = tables::read(table);
+    let r = fields::read(table);
     let answer = r.answer;
     match answer {
         Checked::Fine => say(b": fine"),
@@ -47,7 +47,7 @@ fn reads() {
 fn write(f: Fields, out: &mut [u32]) {
     say(b" into ");
     print::decimal(out.len() as u64);
-    match tables::write(f, out) {
+    match fields::write(f, out) {
         Written::Words(count) => print::wrote(count),
         Written::Refused(number, place) => print::refusal(number, place),
     }
@@ -55,7 +55,7 @@ fn write(f: Fields, out: &mut [u32]) {
 }
 
 fn fields_of(table: &[u32]) -> Fields {
-    let r = tables::read(table);
+    let r = fields::read(table);
     r.fields
 }
 
@@ -91,7 +91,7 @@ fn with_shown(f: Fields, slot: usize, mask: u32) -> Fields {
 fn with_move(f: Fields, slot: usize, mask: u32) -> Fields {
     let mut r = f;
     let mut moves = f.moves;
-    if slot < 96 {
+    if slot < tables::MOVE_SLOTS {
         moves[slot] = mask;
     }
     r.moves = moves;
@@ -141,8 +141,8 @@ fn widest(out: &mut [u32]) {
         observations: 8,
         start: 4095,
         bad: 0,
-        shown: [4095; 8],
-        moves: [4095; 96],
+        shown: [4095; tables::SHOWN_SLOTS],
+        moves: [4095; tables::MOVE_SLOTS],
     };
     write(f, out);
 }

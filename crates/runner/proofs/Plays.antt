@@ -41,6 +41,10 @@ unfolding standing
 standing-more w [] j l = absurd (not-suc-le-zero l)
 standing-more w (i ∷ h) j l = standing-from-more w (starts w i) h j
 
+-- a runner that stands after observations, moved by one more
+pub stands-more : (w h : List ℕ) (j : ℕ) {s t : Standing} → 0 < length h → s ≡ standing w h → t ≡ advances w (s .cell) j → t ≡ standing w (h ++ (j ∷ []))
+stands-more w h j l e f = f ∙ ap (λ (u : Standing). advances w (u .cell) j) e ∙ sym (standing-more w h j l)
+
 -- where a cell is entered, the runner is in it
 starts-entered : (w : List ℕ) (j c a : ℕ) → opened w j ≡ entered c a → starts w j ≡ stands c (entered c a)
 starts-entered w j c a e = rw e

@@ -34,6 +34,8 @@ rows =
     record { card = cardA; seen = 0 ∷ 0 ∷ 0 ∷ []; out = room; run = leaves (Done 3) (0 ∷ 1 ∷ 0 ∷ 9 ∷ []); runner = stands 0 (entered 0 0) }
     -- C in cell 0 cannot show 0
     ∷ record { card = cardC; seen = 1 ∷ 0 ∷ 0 ∷ []; out = room; run = leaves (Stopped 14 0 2) room; runner = stands 0 (Refused 14 0) }
+    -- nor at the second observation; the runner goes on from the cell it stayed in
+    ∷ record { card = cardC; seen = 0 ∷ 0 ∷ 1 ∷ []; out = room; run = leaves (Stopped 14 0 1) room; runner = stands 1 (entered 1 1) }
     -- there is no observation 2
     ∷ record { card = cardC; seen = 2 ∷ []; out = room; run = leaves (Stopped 12 2 0) room; runner = stands 65535 (Refused 12 2) }
     -- a refused opening: the step after it is refused too
@@ -45,4 +47,4 @@ rows =
 
 pub every-row : Rows rows
 unfolding rows ranInto ranUpTo standing standingFrom ran ranFrom moved opened stepped begun followed enters automaton checked wordsChecked wordFits headFits cellNamed cellFits partFits first gather
-every-row = row refl refl (row refl refl (row refl refl (row refl refl (row refl refl (row refl refl none)))))
+every-row = row refl refl (row refl refl (row refl refl (row refl refl (row refl refl (row refl refl (row refl refl none))))))

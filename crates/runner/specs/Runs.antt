@@ -10,6 +10,7 @@ use Rattle.tables.specs.Fields.{filledBy}
 use Rattle.cards.specs.Run.{opened, stepped, cellOr, ran}
 use Rattle.cards.specs.declared.Move.{Move}
 use Rattle.cards.specs.declared.Move.the-variants.{Entered, Refused}
+use Rattle.runner.specs.declared.Stood.{Stood}
 use Rattle.runner.specs.declared.Ran.{Ran}
 use Rattle.runner.specs.declared.Ran.the-variants.{Done, Refused as Stopped}
 
@@ -22,6 +23,9 @@ pub record Standing : Type 0 where
 
 abbrev pub stands : ℕ → Move → Standing
 stands c m = record { cell = c; answer = m }
+
+abbrev pub stood : Stood → Standing
+stood s = stands (s .cell .0) (s .answer)
 
 -- opened with the first observation; a refused opening gives cell 65,535
 abbrev pub starts : (card : List ℕ) (seen : ℕ) → Standing

@@ -383,6 +383,44 @@ ascending-same (x ∷ k) (y ∷ l) (more bk a) (more bl b) f g =
     let e : x ≡ y = same-heads x y k l bk bl (f x (List·Memᴰ·head refl)) (g y (List·Memᴰ·head refl)) in
     ap₂ _∷_ e (ascending-same k l a b (same-tails x y k l e bk f) (same-tails y x l k (sym e) bl g))
 
+-- ---- where no number passes
+
+-- where none from n on passes, as many are counted
+pub count-gap : (n m : ℕ) (p : ℕ → Bool) → n ≤ m → ((i : ℕ) → n ≤ i → i < m → p i ≡ false) → count m p ≡ count n p
+count-gap n zero p l h = ap (λ (k : ℕ). count k p) (le-antisymm zero-le l)
+count-gap n (suc m) p l h =
+    ⊎-elim (λ e. ap (λ (k : ℕ). count k p) (sym e))
+    (λ lt. let k : n ≤ m = le-of-suc-le-suc lt in count-skip-suc m p (h m k (le-refl (suc m))) ∙ count-gap n m p k (λ i a b. h i a (le-step b)))
+    (eq-or-lt-of-le l)
+
+-- and the same are selected
+pub select-gap : (n m : ℕ) (p : ℕ → Bool) → n ≤ m → ((i : ℕ) → n ≤ i → i < m → p i ≡ false) → select m p ≡ select n p
+select-gap n zero p l h = ap (λ (k : ℕ). select k p) (le-antisymm zero-le l)
+select-gap n (suc m) p l h =
+    ⊎-elim (λ e. ap (λ (k : ℕ). select k p) (sym e))
+    (λ lt. let k : n ≤ m = le-of-suc-le-suc lt in select-skip-suc m p (h m k (le-refl (suc m))) ∙ select-gap n m p k (λ i a b. h i a (le-step b)))
+    (eq-or-lt-of-le l)
+
+-- none passes: the empty list
+pub select-none : (n : ℕ) (p : ℕ → Bool) → ((i : ℕ) → i < n → p i ≡ false) → select n p ≡ []
+select-none n p h = select-gap 0 n p zero-le (λ i a b. h i b) ∙ select-zero p
+
+-- n is the lowest that passes p, and q passes the others: n stands in front of them
+pub select-lowest : (n m : ℕ) (p q : ℕ → Bool) → n < m → p n ≡ true → q n ≡ false → ((i : ℕ) → i < n → p i ≡ false) → ((i : ℕ) → (i ≡ n → ⊥) → q i ≡ p i) → select m p ≡ n ∷ select m q
+select-lowest n zero p q l t f low other = absurd (not-suc-le-zero l)
+select-lowest n (suc m) p q l t f low other =
+    ⊎-elim
+    (λ e. ap (λ (k : ℕ). select (suc k) p) (sym e)
+    ∙ select-hit-suc n p t ∙ ap (λ (k : List ℕ). k ++ (n ∷ [])) (select-none n p low)
+    ∙ ap (λ (k : List ℕ). n ∷ k) (sym (select-none n q (λ i h. other i (λ d. omega arith) ∙ low i h)) ∙ sym (select-skip-suc n q f) ∙ ap (λ (k : ℕ). select (suc k) q) e))
+    (λ lt. let r : select m p ≡ n ∷ select m q = select-lowest n m p q lt t f low other in
+    let d : q m ≡ p m = other m (λ e. omega arith) in
+    ⊎-elim
+    (λ a. select-hit-suc m p a ∙ ap (λ (k : List ℕ). k ++ (m ∷ [])) r ∙ ap (λ (k : List ℕ). n ∷ k) (sym (select-hit-suc m q (d ∙ a))))
+    (λ a. select-skip-suc m p a ∙ r ∙ ap (λ (k : List ℕ). n ∷ k) (sym (select-skip-suc m q (d ∙ a))))
+    (decided (p m)))
+    (eq-or-lt-of-le (le-of-suc-le-suc l))
+
 -- ---- a loop that stores the numbers that pass in the front of d
 
 store : (l d : List ℕ) (v : ℕ) → length l < length d → set (l ++ drop (length l) d) (length l) v ≡ l ++ (v ∷ []) ++ drop (suc (length l)) d

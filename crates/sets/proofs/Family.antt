@@ -4,8 +4,8 @@ use mathlib.Core.Path.{_≡_, refl, sym, ap, _∙_, subst}
 use mathlib.Core.Logic.{⊎-elim}
 use mathlib.Core.Bool.{true, false, not, _&&_, _||_, Bool·beq, false≢true, or-false, or-assoc, Bool}
 use mathlib.Core.List.{List, [], _∷_, _++_, List·Memᴰ, List·Memᴰ·head, List·Memᴰ·tail, Memᴰ·cast, List·Memᴰ·not-nil, List·Memᴰ·cases-cons}
-use Prim.Native.Nat.{ℕ, zero, suc, _+_, _^_, _≤_, _<_}
-use native.Mathlib.Nat.{le-of-eq, le-trans}
+use Prim.Native.Nat.{ℕ, zero, suc, _+_, _^_, _≤_, _<_, suc-le-suc}
+use native.Mathlib.Nat.{le-of-eq, le-trans, le-of-suc-le-suc, not-suc-le-zero, zero-lt-suc}
 use native.Mathlib.Omega.{arith}
 use lib.Dec.{eqb}
 use native.Mathlib.Numerals.{add-one}
@@ -164,6 +164,22 @@ climb (suc k) n F s b l f =
 -- every set of the family lies in a maximal one
 pub above : (n : ℕ) (F : Family) (s : ℕ) → s < 2 ^ n → F s ≡ true → (t : ℕ) × (t < 2 ^ n) × (isMaximal n F t ≡ true) × (subset s t ≡ true)
 above n F s l f = climb (2 ^ n) n F s (omega arith) l f
+
+-- ---- members by index
+
+-- what stands at an index is a member
+pub at-mem : (l : List ℕ) (i : ℕ) → i < length l → List·Memᴰ (getD l i 0) l
+at-mem [] i h = absurd (not-suc-le-zero h)
+at-mem (u ∷ l) zero h = List·Memᴰ·head refl
+at-mem (u ∷ l) (suc i) h = List·Memᴰ·tail (at-mem l i (le-of-suc-le-suc h))
+
+-- a member stands at some index
+pub mem-at : (l : List ℕ) (t : ℕ) → List·Memᴰ t l → (i : ℕ) × (i < length l) × (getD l i 0 ≡ t)
+mem-at [] t m = absurd (List·Memᴰ·not-nil m)
+mem-at (u ∷ l) t m =
+    ⊎-elim (λ (e : t ≡ u). (0, zero-lt-suc (length l), sym e))
+    (λ (k : List·Memᴰ t l). let w = mem-at l t k in (suc (w .0), suc-le-suc (w .1), w .2))
+    (List·Memᴰ·cases-cons m)
 
 -- ---- a list as a family
 

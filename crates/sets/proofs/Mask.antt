@@ -3,18 +3,19 @@
 use mathlib.Core.Path.{_≡_, refl, sym, ap, ap₂, _∙_, subst}
 use mathlib.Core.Logic.{⊎-elim}
 use mathlib.Core.Bool.{Bool, true, false, cond, not, _&&_, _||_, or-false, and-true}
-use Prim.Native.Nat.{ℕ, zero, suc, min, max, _+_, _-_, _/_, _%_, _^_, _≤_, _<_, suc-le-suc}
-use native.Mathlib.Nat.{le-refl, le-step, le-of-suc-le-suc, lt-of-lt-of-le, lt-of-le-of-lt, lt-of-not-le, zero-div, div-one, div-eq-of-lt, div-self, div-div-eq-div-mul, pow-succ', mod-lt, zero-lt-suc, zero-min, zero-max, le-add-right, add-comm, sub-add-cancel, div-eq-sub-div}
+use Prim.Native.Nat.{ℕ, zero, suc, min, max, _+_, _-_, _*_, _/_, _%_, _^_, _≤_, _<_, suc-le-suc}
+use native.Mathlib.Nat.{le-refl, le-step, le-of-suc-le-suc, not-suc-le-zero, lt-of-lt-of-le, lt-of-le-of-lt, lt-of-not-le, zero-div, div-one, div-eq-of-lt, div-self, div-div-eq-div-mul, pow-succ', mod-lt, zero-lt-suc, zero-min, zero-max, le-add-right, add-comm, sub-add-cancel, div-eq-sub-div}
 use native.Mathlib.Numerals.{add-one}
 use native.Mathlib.Omega.{arith}
 use lib.Dec.{eqb}
-use lib.Pow.{pow-pos, pow-mono, pow-lt}
-use lib.Bits.{bitAnd, bitOr, and-step, or-step, and-shr, or-shr, and-comm, and-self, and-le-l, and-le-r, or-lt, or-disjoint, or-zero-r}
+use lib.Count.{trailingZeros, under}
+use lib.Pow.{pow-pos, pow-mono, pow-lt, shr-shr, field, mod-mod-pow, split}
+use lib.Bits.{bitAnd, bitOr, and-step, or-step, and-shr, or-shr, and-mod, and-comm, and-self, and-le-l, and-le-r, or-lt, or-disjoint, or-zero-r}
 use borrow.Author.Tests.{eqb-true, eqb-false, eq-eqb, ne-eqb}
 use Rattle.sets.specs.Mask.{member, common, union, subset, without, unionOver}
 use Rattle.sets.specs.Bounded.{all, any}
 use Rattle.sets.proofs.Logic.{decided, clash, refuted, same-truth, and-left, and-right, and-intro, and-false-right, true-not, or-cases, or-left, or-right, implies-at, implies-fails}
-use Rattle.sets.proofs.Bounded.{all-at, all-fails, any-found, any-none, any-intro}
+use Rattle.sets.proofs.Bounded.{Lowest, all-at, all-fails, any-found, any-none, any-intro}
 
 -- ---- members
 
@@ -47,6 +48,30 @@ single-le s i m = le-of-suc-le-suc (lt-of-not-le (λ l. clash m (member-beyond i
 pub enough : (s : ℕ) → s < 2 ^ s
 enough zero = zero-lt-suc 0
 enough (suc s) = omega (arith, enough s, pow-succ' 2 s)
+
+-- ---- the lowest member
+
+lowest-odd : (k x : ℕ) → x % 2 ≡ 1 → Lowest (suc k) (member x) 0
+lowest-odd k x e = (zero-lt-suc k, member-first x ∙ eq-eqb (x % 2) 1 e, λ j l. absurd (omega arith))
+
+below-suc : (k x z : ℕ) → x % 2 ≡ 0 → Lowest k (member (x / 2)) z → (j : ℕ) → j < suc z → member x j ≡ false
+below-suc k x z e w zero l = member-first x ∙ ne-eqb (x % 2) 1 (λ f. omega arith)
+below-suc k x z e w (suc j) l = member-half x j ∙ w .2 j (omega arith)
+
+lowest-even : (k x z : ℕ) → x % 2 ≡ 0 → Lowest k (member (x / 2)) z → Lowest (suc k) (member x) (suc z)
+lowest-even k x z e w = (omega (arith, w .0), member-half x z ∙ w .1, below-suc k x z e w)
+
+-- a number that is not 0 has a member as its trailing zeros end, and none below
+pub lowest : (k x : ℕ) → x < 2 ^ k → (x ≡ 0 → ⊥) → Lowest k (member x) (trailingZeros k x)
+unfolding trailingZeros
+lowest zero x h z = absurd (z (omega arith))
+lowest (suc k) x h z =
+    ⊎-elim
+    (λ e. subst (λ (d : ℕ). Lowest (suc k) (member x) (under d (trailingZeros k (x / 2)))) (sym (eqb-true (x % 2) 1 e)) (lowest-odd k x (eqb-true (x % 2) 1 e)))
+    (λ e. let d : x % 2 ≡ 0 = omega (arith, eqb-false (x % 2) 1 e) in
+    subst (λ (d : ℕ). Lowest (suc k) (member x) (under d (trailingZeros k (x / 2)))) (sym d)
+    (lowest-even k x (trailingZeros k (x / 2)) d (lowest k (x / 2) (omega (arith, pow-succ' 2 k)) (λ q. z (omega arith)))))
+    (decided (eqb (x % 2) 1))
 
 -- ---- common part and union
 
@@ -123,6 +148,9 @@ odd-same x y h k e =
 
 half-lt : (n s : ℕ) → s < 2 ^ suc n → s / 2 < 2 ^ n
 half-lt n s h = omega (arith, pow-succ' 2 n)
+
+rest-half : (k s : ℕ) → s < 2 ^ suc k → ((2 ^ suc k - 1) - s) / 2 ≡ (2 ^ k - 1) - s / 2
+rest-half k s h = omega (arith, pow-succ' 2 k)
 
 -- sets below 2 ^ n with the same members below n are equal
 pub ext : (n s t : ℕ) → s < 2 ^ n → t < 2 ^ n → ((i : ℕ) → i < n → member s i ≡ member t i) → s ≡ t
@@ -233,6 +261,51 @@ pub union-least : (s t u : ℕ) → subset s u ≡ true → subset t u ≡ true 
 union-least s t u h k =
     subset-of (union s t) u
     (λ i m. ⊎-elim (λ a. subset-member s u h i a) (λ b. subset-member t u k i b) (or-cases (member s i) (member t i) (sym (member-or s t i) ∙ m)))
+
+-- ---- parts of a mask
+
+-- the states from k on, counted from 0
+pub member-shift : (s k i : ℕ) → member (s / 2 ^ k) i ≡ member s (k + i)
+member-shift s k i = ap (λ (x : ℕ). eqb (x % 2) 1) (shr-shr s k i)
+
+low-state : (s j i : ℕ) → member (s % 2 ^ (suc j + i)) i ≡ member s i
+low-state s j i =
+    ap (λ (x : ℕ). eqb (x % 2) 1) (field s (suc j) i ∙ ap (λ (k : ℕ). s / 2 ^ i % 2 ^ k) (sym (add-one j)))
+    ∙ ap (λ (x : ℕ). eqb x 1) (mod-mod-pow (s / 2 ^ i) j 1)
+
+-- the states below k
+pub member-low : (s k i : ℕ) → i < k → member (s % 2 ^ k) i ≡ member s i
+member-low s k i h =
+    let e : suc (k - suc i) + i ≡ k = omega arith in
+    subst (λ (x : ℕ). member (s % 2 ^ x) i ≡ member s i) e (low-state s (k - suc i) i)
+
+odd-other : (x y : ℕ) → x + y ≡ 1 → eqb y 1 ≡ not (eqb x 1)
+odd-other zero y e = eq-eqb y 1 (omega arith)
+odd-other (suc zero) y e = ne-eqb y 1 (λ f. omega arith)
+odd-other (suc (suc x)) y e = absurd (omega arith)
+
+-- the states below k that are not in s
+pub member-rest : (k s i : ℕ) → s < 2 ^ k → i < k → member ((2 ^ k - 1) - s) i ≡ not (member s i)
+member-rest zero s i h l = absurd (not-suc-le-zero l)
+member-rest (suc k) s zero h l =
+    member-first ((2 ^ suc k - 1) - s) ∙ odd-other (s % 2) (((2 ^ suc k - 1) - s) % 2) (omega (arith, pow-succ' 2 k)) ∙ ap not (sym (member-first s))
+member-rest (suc k) s (suc i) h l =
+    member-half ((2 ^ suc k - 1) - s) i ∙ ap (λ (x : ℕ). member x i) (rest-half k s h)
+    ∙ member-rest k (s / 2) i (half-lt k s h) (le-of-suc-le-suc l) ∙ ap not (sym (member-half s i))
+
+-- a subset, in the states below k and in the others
+pub subset-parts : (k s t : ℕ) → subset s t ≡ (subset (s / 2 ^ k) (t / 2 ^ k) && subset (s % 2 ^ k) (t % 2 ^ k))
+subset-parts k s t =
+    same-truth (subset s t) (subset (s / 2 ^ k) (t / 2 ^ k) && subset (s % 2 ^ k) (t % 2 ^ k))
+    (λ h. let e : common s t ≡ s = eqb-true (common s t) s h in
+    and-intro (eq-eqb (common (s / 2 ^ k) (t / 2 ^ k)) (s / 2 ^ k) (sym (and-shr s t k) ∙ ap (λ (x : ℕ). x / 2 ^ k) e))
+    (eq-eqb (common (s % 2 ^ k) (t % 2 ^ k)) (s % 2 ^ k) (sym (and-mod s t k) ∙ ap (λ (x : ℕ). x % 2 ^ k) e)))
+    (λ h. eq-eqb (common s t) s
+    (sym (split (common s t) k)
+    ∙ ap₂ (λ (x y : ℕ). x * 2 ^ k + y)
+    (and-shr s t k ∙ eqb-true (common (s / 2 ^ k) (t / 2 ^ k)) (s / 2 ^ k) (and-left (subset (s / 2 ^ k) (t / 2 ^ k)) (subset (s % 2 ^ k) (t % 2 ^ k)) h))
+    (and-mod s t k ∙ eqb-true (common (s % 2 ^ k) (t % 2 ^ k)) (s % 2 ^ k) (and-right (subset (s / 2 ^ k) (t / 2 ^ k)) (subset (s % 2 ^ k) (t % 2 ^ k)) h))
+    ∙ split s k))
 
 -- ---- sets with no state in common
 

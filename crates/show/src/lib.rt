@@ -19,18 +19,18 @@ fn locate(table: &[u32], card: &[u32], cell: Cell) -> Shown
     ensures { λ r. ⌜ r ≡ located (now (table .entry)) (now (card .entry)) (cell .0) ⌝ }
 {
     let head = card[0];
-    let o = cards::number_field(head);
-    if cards::action_field(head) != tables::actions(table) {
+    let o = games::number_field(head);
+    if games::action_field(head) != tables::actions(table) {
         return Shown::Refused(16, 0);
     }
     if o != tables::observations(table) {
         return Shown::Refused(16, 0);
     }
-    if cards::low_field(head) <= cell.0 {
+    if games::low_field(head) <= cell.0 {
         return Shown::Refused(12, cell.0 as usize);
     }
     let place = cards::cell_place(o, cell.0);
-    let action = cards::action_field(card[place]);
+    let action = games::action_field(card[place]);
     Shown::Part(
         tables::row(table[0], action),
         tables::states(table) as usize,

@@ -32,7 +32,7 @@ fn check_a(place: usize, word: u32) {
 }
 
 // The cell and the action, or the refusal; then the cell that the runner is in.
-fn print_move(answer: Move, after: Cell) {
+pub fn print_move(answer: Move, after: Cell) {
     match answer {
         Move::Entered(cell, action) => {
             say(b": cell ");

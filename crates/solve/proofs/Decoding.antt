@@ -2,7 +2,7 @@
 -- Assumes nothing.
 use mathlib.Core.Path.{_≡_, refl, sym, ap, ap₂, _∙_, subst}
 use mathlib.Core.List.{List, [], _∷_, _++_}
-use Prim.Native.Nat.{ℕ, suc, _+_, _*_, _/_, _%_, _≤_, _<_}
+use Prim.Native.Nat.{ℕ, suc, _+_, _*_, _≤_, _<_}
 use native.Mathlib.Nat.{suc-mul, mul-le-mul-right}
 use native.Mathlib.Numerals.{add-one}
 use native.Mathlib.Omega.{arith}
@@ -29,6 +29,6 @@ pub part-inside : (p c m n : ℕ) → c < m → p + m * p ≤ n → p + c * p + 
 part-inside p c m n h r = let k = mul-le-mul-right {m = suc c} {n = m} p h in omega (arith, suc-mul c p)
 
 -- the card of a yes lies in its room
-pub card-inside : (w : List ℕ) (m n k : ℕ) → k ≡ n → cardLength m (game w .observations) ≤ n → 1 + getD w 0 0 / 65536 % 256 + m * (1 + getD w 0 0 / 65536 % 256) ≤ k
+pub card-inside : (w : List ℕ) (m n k : ℕ) → k ≡ n → cardLength m (game w .observations) ≤ n → 1 + headObservations (getD w 0 0) + m * (1 + headObservations (getD w 0 0)) ≤ k
 unfolding game
 card-inside w m n k e h = subst (λ (x : ℕ). cardLength m (headObservations (getD w 0 0)) ≤ x) (sym e) h

@@ -2,6 +2,7 @@
 ghost use mathlib.Core.Path.{_≡_};
 ghost use Prim.Native.Nat.{_+_, _*_, _≤_, _<_};
 ghost use lib.ListN.{length};
+ghost use Rattle.games.specs.Format.{maxSets};
 ghost use Rattle.solve.specs.Bytes.{word, wordsOf};
 use libc::STDIN_FILENO;
 use libc::STDOUT_FILENO;
@@ -41,7 +42,7 @@ fn print_number(n: u64) {
 }
 
 fn print_cell_number(c: u32) {
-    if c == 65535 {
+    if c == games::NO_CELL {
         io::write_all(STDOUT_FILENO, b" -");
     } else {
         print_number(c as u64);
@@ -61,24 +62,24 @@ fn print_refusal(number: u32, place: usize) {
 
 fn print_first(w: u32) {
     io::write_all(STDOUT_FILENO, b"first");
-    print_number((w / 65536 % 16) as u64);
-    print_cell_number(w % 65536);
+    print_number(games::number_field(w) as u64);
+    print_cell_number(games::low_field(w));
     end_line();
 }
 
 fn print_next(c: usize, w: u32) {
     io::write_all(STDOUT_FILENO, b"next");
     print_number(c as u64);
-    print_number((w / 65536 % 16) as u64);
-    print_cell_number(w % 65536);
+    print_number(games::number_field(w) as u64);
+    print_cell_number(games::low_field(w));
     end_line();
 }
 
 fn print_cell(c: usize, w: u32) {
     io::write_all(STDOUT_FILENO, b"cell");
     print_number(c as u64);
-    print_number((w % 65536) as u64);
-    print_number((w / 1048576 % 16) as u64);
+    print_number(games::low_field(w) as u64);
+    print_number(games::action_field(w) as u64);
     end_line();
 }
 
@@ -144,7 +145,7 @@ fn report(table: &[u32], work: &mut [u32], card: &mut [u32]) {
         return;
     };
     print_yes(settled, cells);
-    let part = 1 + (table[0] / 65536 % 256) as usize;
+    let part = 1 + (table[0] / games::HEAD_OBSERVATIONS_AT % games::HEAD_VALUES) as usize;
     print_card(card, part, cells as usize);
 }
 
@@ -155,11 +156,13 @@ fn words_room() -> [u32; 1024]
     [0; 1024]
 }
 
-// Work for the most states, and as many words for the card.
-fn room() -> [u32; 16384]
-    ensures { λ r. ⌜ 16384 ≡ length r ⌝ }
+// Work for the most states; document 01 gives the card as many words.
+const ROOM: usize = 4 * games::MAX_SETS as usize;
+
+fn room() -> [u32; ROOM]
+    ensures { λ r. ⌜ 4 * maxSets ≡ length r ⌝ }
 {
-    [0; 16384]
+    [0; ROOM]
 }
 
 fn run(bytes: &[u8])

@@ -1,24 +1,22 @@
 -- Laws of the answers: each return of the solver is the outcome that the definition gives.
 -- Assumes nothing.
-use mathlib.Core.Path.{_≡_, refl, sym, ap, ap₂, _∙_, subst}
-use mathlib.Core.Bool.{Bool, true, false, cond}
+use mathlib.Core.Path.{_≡_, sym, ap, ap₂, _∙_, subst}
+use mathlib.Core.Bool.{Bool, true, cond}
 use mathlib.Core.List.{List, _++_}
-use Prim.Native.Nat.{ℕ, _+_, _*_, _^_, _≤_, _<_}
-use lib.Dec.{ltb}
+use Prim.Native.Nat.{ℕ, _+_, _≤_, _<_}
 use lib.ListN.{length, take, drop, replicate}
 use lib.Seq.{drop-at, length-take-le}
 use borrow.Author.Tests.{lt-ltb, le-ltb}
 use Rattle.sets.specs.Bounded.{fill}
 use Rattle.games.specs.Game.{Game}
 use Rattle.games.specs.Step.{settling}
-use Rattle.games.specs.Verdict.{Verdict, Yes, No, startsIn, settled, cells, verdict}
+use Rattle.games.specs.Verdict.{Yes, No, startsIn, settled, cells, verdict}
 use Rattle.games.specs.Words.{game, cardLength}
 use Rattle.games.proofs.Decided.{verdict-yes}
 use Rattle.tables.specs.Check.{checked}
 use Rattle.tables.specs.declared.Checked.{Checked}
 use Rattle.tables.specs.declared.Checked.the-variants.{Fine, Refused as Stopped}
-use Rattle.solver.specs.Search.{workWords}
-use Rattle.solver.specs.Solve.{Leaves, leaves, cardOf, byVerdict, Outcome, outcome, afterCheck, solved}
+use Rattle.solver.specs.Solve.{workWords, Leaves, leaves, cardOf, byVerdict, outcome, afterCheck, solved}
 use Rattle.solver.specs.declared.Answer.{Answer}
 use Rattle.solver.specs.declared.Answer.the-variants.{Yes as SaysYes, No as SaysNo, Refused}
 

@@ -6,17 +6,17 @@ use Prim.Native.Nat.{ℕ, suc, _+_, _*_, _-_, _≤_, _<_}
 use native.Mathlib.Nat.{suc-mul, mul-le-mul-right, mul-le-mul-left, le-trans, le-antisymm, add-sub-cancel-left}
 use native.Mathlib.Numerals.{add-one}
 use native.Mathlib.Omega.{arith}
-use lib.ListN.{length, getD, take, drop, length-append, length-take, length-drop, take-append-drop}
+use lib.ListN.{length, getD, take, drop, length-append, length-drop, take-append-drop}
 use lib.Seq.{take-at, drop-drop, drop-append-add, length-take-le}
-use borrow.Rule.Slice.PartMut.{putMid, postOf, take-put, drop-put, same-len-mid, mid-len, post-is}
+use borrow.Rule.Slice.PartMut.{putMid, postOf, drop-put, same-len-mid, mid-len}
 use Rattle.sets.specs.Bounded.{gather}
+use Rattle.games.specs.Format.{maxCells, maxObservations}
 use Rattle.games.specs.Game.{Game, Accepted}
 use Rattle.games.proofs.Winning.{cell-settled}
 use Rattle.tables.specs.Check.{checked}
 use Rattle.tables.specs.declared.Checked.the-variants.{Fine}
 use Rattle.tables.proofs.Checks.{sized}
-use Rattle.solver.proofs.Turns.{sets-few}
-use Rattle.solver.proofs.Cells.{cells-few}
+use Rattle.search.proofs.Turns.{sets-few}
 use Rattle.games.specs.Step.{after}
 use Rattle.games.specs.Verdict.{startSet, cells}
 use Rattle.games.specs.Automaton.{card, chosen, holding}
@@ -24,7 +24,7 @@ use Rattle.games.specs.Words.{game, cardLength, cellWords, cardWords, word}
 use Rattle.cards.proofs.Extra.{gather-length}
 use Rattle.solver.specs.Writing.{SettledSet, frontWords, setWords}
 use Rattle.solver.specs.Solve.{cardOf}
-use Rattle.solver.proofs.Choosing.{gather-ext}
+use Rattle.solver.proofs.Words.{cells-few}
 
 pub set-words-length : (g : Game) (s : ℕ) → length (setWords g s) ≡ 1 + g .observations
 unfolding setWords
@@ -143,18 +143,18 @@ module _ (g : Game) (l : List ℕ) (listed : l ≡ cells g) (p : ℕ) (part-is :
 
 -- ---- bounds while the card is written
 
-pub observations-at-most : (w : List ℕ) → checked w ≡ Fine → game w .observations ≤ 8
+pub observations-at-most : (w : List ℕ) → checked w ≡ Fine → game w .observations ≤ maxObservations
 unfolding game
 observations-at-most w h = sized w h .limits .most-observations
 
-pub cells-at-most : (w : List ℕ) → checked w ≡ Fine → (l : List ℕ) → l ≡ cells (game w) → length l ≤ 4096
+pub cells-at-most : (w : List ℕ) → checked w ≡ Fine → (l : List ℕ) → l ≡ cells (game w) → length l ≤ maxCells
 cells-at-most w h l e = omega (arith, ap length e, cells-few (game w), sets-few w (sized w h))
 
 pub prefix-room : (g : Game) (l d : List ℕ) (o : ℕ) → o ≡ g .observations → cardLength (length l) (g .observations) ≤ length d → 1 + o ≤ length d
 prefix-room g l d o e h = omega arith
 
 -- the products stay small
-pub parts-few : (o c m : ℕ) → 1 + o ≤ 9 → m ≤ 4096 → c ≤ m → c * (1 + o) ≤ 36864
+pub parts-few : (o c m : ℕ) → 1 + o ≤ 9 → m ≤ maxCells → c ≤ m → c * (1 + o) ≤ 36864
 parts-few o c m b few within = le-trans (mul-le-mul-right (1 + o) (le-trans within few)) (mul-le-mul-left 4096 b)
 
 pub cell-of : (g : Game) → Accepted g → (l : List ℕ) → l ≡ cells g → (c : ℕ) → c < length l → SettledSet g (getD l c 0)

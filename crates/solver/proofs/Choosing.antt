@@ -1,43 +1,43 @@
 -- Laws of a cell's words: trying the actions, the cell for each observation.
 -- Assumes nothing.
-use mathlib.Core.Path.{_≡_, refl, sym, ap, ap₂, _∙_, subst, fun-ext}
-use mathlib.Core.Bool.{Bool, true, false}
-use mathlib.Core.List.{List, [], _∷_, _++_}
+use mathlib.Core.Path.{_≡_, sym, ap, ap₂, _∙_, subst, fun-ext}
+use mathlib.Core.Bool.{true, false}
+use mathlib.Core.List.{List, [], _∷_}
 use Prim.Native.Nat.{ℕ, _+_, _^_, _≤_, _<_}
 use native.Mathlib.Omega.{arith}
 use lib.ListN.{length, getD}
 use Rattle.sets.specs.Mask.{common, subset}
 use Rattle.sets.specs.Bounded.{Found, nothing, found, first, orElse, gather, all}
 use Rattle.sets.specs.Family.{holds}
-use Rattle.sets.proofs.Logic.{refuted, clash, and-intro}
-use Rattle.sets.proofs.Bounded.{first-nothing, first-skip, first-stop, all-more, all-refuted}
-use Rattle.sets.proofs.Family.{holds-found, holds-intro}
+use Rattle.sets.proofs.Logic.{refuted, clash}
+use Rattle.sets.proofs.Bounded.{first-none, first-nothing, first-skip, first-stop, all-refuted}
+use Rattle.sets.proofs.Family.{at-mem, mem-at, holds-found, holds-intro}
+use Rattle.games.specs.Format.{maxActions, maxCells, maxObservations}
 use Rattle.games.specs.Game.{Game, Accepted}
-use Rattle.games.specs.Step.{after, post, meets, lowest, step, settling, good}
+use Rattle.games.specs.Step.{after, meets, lowest, step, settling, good}
 use Rattle.games.specs.Verdict.{settled, cells}
 use Rattle.games.specs.Words.{word}
 use Rattle.games.specs.Automaton.{noCell, holding, chosen}
 use Rattle.games.proofs.Steps.{good-empty, step-action}
 use Rattle.games.proofs.Settling.{cells-hold, settled-step}
-use Rattle.games.proofs.Winning.{at-mem, mem-at}
 use Rattle.tables.specs.Walk.{walked}
 use Rattle.tables.specs.declared.Walked.{Walked}
 use Rattle.tables.specs.declared.Walked.the-variants.{Blocked, Post}
-use Rattle.solver.specs.Ranks.{shownGood}
+use Rattle.search.specs.Stages.{shownIn}
 use Rattle.solver.specs.Writing.{SettledSet, setWords}
-use Rattle.solver.proofs.Turns.{meets-blocked, meets-shown, walked-post}
-use Rattle.solver.proofs.Words.{holdsAt, holding-empty, holding-at, Filled}
+use Rattle.search.proofs.Turns.{meets-blocked, meets-shown, walked-post}
+use Rattle.solver.proofs.Words.{holdsAt, holding-empty, holding-at}
 
 pub gather-ext : (n : ℕ) (p q : ℕ → List ℕ) → ((j : ℕ) → p j ≡ q j) → gather n p ≡ gather n q
 gather-ext n p q h = ap (gather n) (fun-ext h)
 
 -- no action below a meets the step
 pub record Trying (g : Game) (l : List ℕ) (s o last a : ℕ) (out : List ℕ) : Type 0 where
-  pub few : length l ≤ 4096
+  pub few : length l ≤ maxCells
   pub observations-are : o ≡ g .observations
-  pub observations-few : o ≤ 8
+  pub observations-few : o ≤ maxObservations
   pub actions-are : last ≡ g .actions
-  pub actions-few : last ≤ 8
+  pub actions-few : last ≤ maxActions
   pub within : a ≤ last
   pub size : length out ≡ 1 + o
   pub none : first a (meets g (settled g) s) ≡ nothing
@@ -88,22 +88,21 @@ module _ (g : Game) (l : List ℕ) (s o last a : ℕ) (out : List ℕ) (w : Tryi
 
 module _ (g : Game) (s a : ℕ) (r : Walked) (is : r ≡ walked g s a) where
   pub blocked-fails : r ≡ Blocked → meets g (settled g) s a ≡ false
-  unfolding settled
-  blocked-fails e = sym (meets-blocked g (settling g) s a r is e)
+  blocked-fails e = sym (meets-blocked g (settled g) s a r is e)
 
   module _ (u : ℕ) (e : r ≡ Post u) where
     pub uncovered-fails : (j : ℕ) → j < g .observations → settled g (common u (g .shown j)) ≡ false → meets g (settled g) s a ≡ false
-    unfolding settled shownGood
+    unfolding shownIn
     uncovered-fails j l f =
-        sym (meets-shown g (settling g) s a r is u e) ∙ all-refuted (g .observations) (λ o. good g (settling g) (common u (g .shown o))) j l f
+        sym (meets-shown g (settled g) s a r is u e) ∙ all-refuted (g .observations) (λ o. settled g (common u (g .shown o))) j l f
 
     pub covered-meets : all (g .observations) (λ o. settled g (common u (g .shown o))) ≡ true → meets g (settled g) s a ≡ true
-    unfolding settled shownGood
-    covered-meets h = sym (meets-shown g (settling g) s a r is u e) ∙ h
+    unfolding shownIn
+    covered-meets h = sym (meets-shown g (settled g) s a r is u e) ∙ h
 
     pub after-is : (j : ℕ) → common u (g .shown j) ≡ after g s a j
     unfolding after
-    after-is j = ap (λ (v : ℕ). common v (g .shown j)) (sym (walked-post g (settling g) s a r is u e .1))
+    after-is j = ap (λ (v : ℕ). common v (g .shown j)) (sym (walked-post g (settled g) s a r is u e .1))
 
 module _ (g : Game) (A : Accepted g) (l : List ℕ) (listed : l ≡ cells g) (t : ℕ) (below : t < 2 ^ g .states) where
   -- no cell holds t
@@ -117,6 +116,12 @@ module _ (g : Game) (A : Accepted g) (l : List ℕ) (listed : l ≡ cells g) (t 
       clash
       (subst (λ (k : List ℕ). holdsAt k t (c .0) ≡ true) (sym listed) (subst (λ (x : ℕ). subset t x ≡ true) (sym (c .2)) (w .2)))
       (first-nothing (length l) (holdsAt l t) h (c .0) (subst (λ (k : List ℕ). c .0 < length k) (sym listed) (c .1))))
+
+  -- where t is not settled, none does
+  pub unsettled-none : settled g t ≡ false → first (length l) (holdsAt l t) ≡ nothing
+  unsettled-none h =
+      first-none (length l) (holdsAt l t)
+      (λ c b. refuted (holdsAt l t c) (λ e. clash (holds-intro l t (getD l c 0) (at-mem l c b) e) (subst (λ (k : List ℕ). holds k t ≡ false) (sym listed) (cells-hold g A t below ∙ h))))
 
   -- the cell that is named: none for no state, else the lowest that holds t
   pub named-empty : t ≡ 0 → (noCell ≡ holding l t) × (settled g t ≡ true)

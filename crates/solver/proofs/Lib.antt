@@ -1,9 +1,6 @@
-pub mod Ranks
-pub mod Turns
-pub mod Searching
-pub mod Cells
 pub mod Words
 pub mod Choosing
 pub mod Carding
 pub mod Answers
 pub mod Promises
+pub mod Collecting

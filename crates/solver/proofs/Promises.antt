@@ -1,52 +1,48 @@
 -- What solve promises follows from its outcome: the demands on the entry.
 -- Assumes nothing.
-use mathlib.Core.Path.{_≡_, refl, sym, ap, ap₂, _∙_, subst, subst₂}
-use mathlib.Core.Logic.{_⊎_, inl, inr, ⊎-elim, _↔_}
+use mathlib.Core.Path.{_≡_, refl, sym, ap, _∙_, subst, subst₂}
+use mathlib.Core.Logic.{_⊎_, inl, inr, ⊎-elim}
 use mathlib.Core.Bool.{Bool, true, false, cond}
 use mathlib.Core.List.{List, _++_}
-use Prim.Native.Nat.{ℕ, _+_, _*_, _^_, _≤_, _<_}
+use Prim.Native.Nat.{ℕ, _+_, _≤_, _<_}
 use native.Mathlib.Omega.{arith}
 use lib.Dec.{eqb, ltb}
 use lib.Pow.{pow-pos}
 use lib.ListN.{length, getD, take, drop}
 use lib.Seq.{take-at}
-use borrow.Author.Tests.{ltb-true, ltb-false, eqb-true}
+use borrow.Author.Tests.{ltb-true, ltb-false}
 use Rattle.sets.specs.Mask.{member}
 use Rattle.sets.specs.Bounded.{Found, first, orElse, fill}
-use Rattle.sets.specs.Family.{holds}
 use Rattle.sets.proofs.Logic.{decided}
 use Rattle.sets.proofs.Bounded.{first-cases}
-use Rattle.sets.proofs.Family.{holds-found}
-use Rattle.games.specs.Game.{Game, Accepted, Shows, enabled}
-use Rattle.games.specs.Play.{Strategy, Play, PlayOf, Under, Clear, seen}
-use Rattle.games.specs.Step.{after, good, settling}
+use Rattle.sets.proofs.Family.{mem-at, holds-found}
+use Rattle.games.specs.Game.{Game, Accepted, enabled}
+use Rattle.games.specs.Play.{Strategy, Play, PlayOf, Under, seen}
+use Rattle.games.specs.Step.{after, settling}
 use Rattle.games.specs.Verdict.{Verdict, Yes, No, startSet, startsIn, settled, cells, verdict}
 use Rattle.games.specs.Automaton.{Automaton, noCell, holding, chosen, card, cellAfter, actionAfter}
-use Rattle.games.specs.Words.{game, cardLength, cardWords}
-use Rattle.games.specs.Demands.{Follows, Second, Third, Decides}
+use Rattle.games.specs.Words.{game, cardLength}
+use Rattle.games.specs.Demands.{Follows, Second, Third}
 use Rattle.games.proofs.Steps.{good-empty}
 use Rattle.games.proofs.Lasting.{lowest-below}
 use Rattle.games.proofs.Settling.{cells-hold}
-use Rattle.games.proofs.Winning.{Covers, covering-wins, card-covers, cell-settled, mem-at}
+use Rattle.games.proofs.Winning.{Covers, covering-wins, card-covers, cell-settled}
 use Rattle.games.proofs.Decided.{verdict-yes, yes-starts, decides}
 use Rattle.tables.specs.Check.{checked}
 use Rattle.tables.specs.declared.Checked.{Checked}
 use Rattle.tables.specs.declared.Checked.the-variants.{Fine, Refused as Stopped}
-use Rattle.tables.specs.Layout.{Limited}
 use Rattle.tables.proofs.Checks.{sized, accepted}
 use Rattle.tables.proofs.Bounds.{game-limited}
-use Rattle.cards.specs.Card.{automaton, cardObservations, Named, Fitting}
+use Rattle.cards.specs.Card.{automaton, Fitting}
 use Rattle.cards.specs.Run.{ran, entered}
 use Rattle.cards.proofs.Written.{Agree, card-long, written-checked, written-agrees, written-observations, written-actions}
 use Rattle.cards.proofs.Checked.{fitting}
 use Rattle.cards.proofs.Runs.{Way, ran-way, play-way}
-use Rattle.solver.specs.Search.{workWords}
-use Rattle.solver.specs.Solve.{Leaves, leaves, cardOf, byVerdict, Outcome, outcome, afterCheck, solved, Room, written, Promise}
+use Rattle.solver.specs.Solve.{workWords, Leaves, leaves, cardOf, byVerdict, Outcome, outcome, afterCheck, solved, Room, written, Promise}
 use Rattle.solver.specs.declared.Answer.{Answer}
 use Rattle.solver.specs.declared.Answer.the-variants.{Yes as SaysYes, No as SaysNo, Refused}
-use Rattle.solver.proofs.Turns.{sets-few}
-use Rattle.solver.proofs.Words.{holdsAt}
-use Rattle.solver.proofs.Cells.{cells-few}
+use Rattle.search.proofs.Turns.{sets-few}
+use Rattle.solver.proofs.Words.{cells-few, holdsAt}
 
 -- the cell that holds a set is one of the list, or none
 holding-named : (l : List ℕ) (s : ℕ) → (holding l s < length l) ⊎ (holding l s ≡ noCell)

@@ -1,4 +1,2 @@
-pub mod Ranks
-pub mod Search
 pub mod Writing
 pub mod Solve

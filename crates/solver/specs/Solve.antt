@@ -4,7 +4,7 @@ use mathlib.Core.Path.{_≡_}
 use mathlib.Core.Bool.{Bool, cond}
 use mathlib.Core.Logic.{_↔_}
 use mathlib.Core.List.{List, _++_}
-use Prim.Native.Nat.{ℕ, _≤_}
+use Prim.Native.Nat.{ℕ, _*_, _^_, _≤_}
 use lib.Dec.{ltb}
 use lib.ListN.{length, take, drop}
 use Rattle.sets.specs.Bounded.{fill}
@@ -19,9 +19,12 @@ use Rattle.tables.specs.declared.Checked.{Checked}
 use Rattle.tables.specs.declared.Checked.the-variants.{Fine, Refused as Stopped}
 use Rattle.cards.specs.Card.{automaton}
 use Rattle.cards.specs.Run.{ran, entered}
-use Rattle.solver.specs.Search.{workWords}
 use Rattle.solver.specs.declared.Answer.{Answer}
 use Rattle.solver.specs.declared.Answer.the-variants.{Yes as SaysYes, No as SaysNo, Refused}
+
+-- the words of the work that document 01 asks for
+abbrev pub workWords : ℕ → ℕ
+workWords n = 4 * 2 ^ n
 
 -- an answer and the words of the card room after it
 pub record Leaves : Type 0 where

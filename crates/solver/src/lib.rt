@@ -3,199 +3,37 @@ ghost use mathlib.Core.Path.{_≡_};
 ghost use Prim.Native.Nat.{_+_, _<_, _≤_, _^_};
 ghost use mathlib.Core.List.{_++_};
 ghost use lib.ListN.{length, drop};
-ghost use Rattle.sets.specs.Bounded.{count};
+ghost use Rattle.games.specs.Format.{maxStates, maxCells};
 ghost use Rattle.games.specs.Words.{game, cardLength};
-ghost use Rattle.games.specs.Step.{meets, step, good};
 ghost use Rattle.tables.specs.Check.{checked};
 ghost use Rattle.tables.specs.declared.Checked.the-variants.{Fine};
-ghost use Rattle.moves.specs.Halves.{Tabled};
-ghost use Rattle.solver.specs.Ranks.{Ranked, Tells, shownGood};
-ghost use Rattle.sets.specs.Family.{isMaximal};
-ghost use Rattle.games.specs.Verdict.{settled as isSettled, cells as cellsOf, verdict, Yes};
-ghost use Rattle.solver.specs.Solve.{leaves, byVerdict, cardOf, outcome, solved, Promise};
-ghost use Rattle.solver.specs.Search.{Searched, Kept, Collected, workWords};
+ghost use Rattle.families.specs.Bits.{maxLanes, lanes as lanesOf};
+ghost use Rattle.moves.specs.Halves.{sideWords, Tabled};
 ghost use Rattle.games.specs.Automaton.{holding as holdingCell};
-ghost use Rattle.solver.specs.Writing.{Writing, SettledSet, frontWords, setWords};
+ghost use Rattle.games.specs.Verdict.{cells as cellsOf, verdict, Yes};
+ghost use Rattle.solver.specs.Solve.{workWords, leaves, byVerdict, cardOf, outcome, solved, Promise};
+ghost use Rattle.solver.specs.Writing.{Writing, AtHand, Passed, Starts, Scanning, NoneBefore, SettledSet, frontWords, setWords};
+use families::LANE_SETS;
+use families::MAX_LANES;
 use games::Action;
 use games::Cell;
+use games::NO_CELL;
 use games::Observation;
+use search::Outcome;
 use tables::Checked;
 use tables::Walked;
 
-// The cell number that says: the observation cannot occur here.
-const NO_CELL: u32 = 65535;
-
 // The number of sets of n states.
 fn set_count(n: u32) -> usize
-    requires { ⌜ n ≤ 12 ⌝ }
+    requires { ⌜ n ≤ maxStates ⌝ }
     ensures { λ r. ⌜ r ≡ 2 ^ n ⌝ }
 {
     1usize << n
 }
 
-// For every observation, the states of u that show it form a set good for k.
-fn shown_good(table: &[u32], ranks: &[u32], u: u32, k: u32) -> bool
-    requires { ⌜ (checked (now table) ≡ Fine) × Tells (game (now table)) k (now ranks) ⌝ }
-    ensures { λ r. ⌜ r ≡ shownGood (game (now (table .entry))) k u ⌝ }
-{
-    let o = tables::observations(table);
-    let mut j: u32 = 0;
-    while j < o {
-        let t = (u & tables::shown(table, Observation(j))) as usize;
-        if ranks[t] < k {
-            return false;
-        }
-        j += 1;
-    }
-    true
-}
-
-// The action is enabled at all members of s, and leads to sets that are good for k.
-fn action_meets(
-    table: &[u32],
-    low: &[u32],
-    high: &[u32],
-    ranks: &[u32],
-    s: u32,
-    a: Action,
-    k: u32,
-) -> bool
-    requires { ⌜ (checked (now table) ≡ Fine) × Tells (game (now table)) k (now ranks) × (a .0 < game (now table) .actions) × Tabled (game (now table)) (now low) (now high) × (s < 2 ^ game (now table) .states) ⌝ }
-    ensures { λ r. ⌜ r ≡ meets (game (now (table .entry))) (good (game (now (table .entry))) k) s (a .0) ⌝ }
-{
-    let walked = moves::post(table, low, high, s, a);
-    let Walked::Post(u) = walked else {
-        return false;
-    };
-    shown_good(table, ranks, u, k)
-}
-
-// The step: a set with no bad state for which one action meets it.
-fn stays_good(table: &[u32], low: &[u32], high: &[u32], ranks: &[u32], s: u32, k: u32) -> bool
-    requires { ⌜ (checked (now table) ≡ Fine) × Tells (game (now table)) k (now ranks) × Tabled (game (now table)) (now low) (now high) × (s < 2 ^ game (now table) .states) ⌝ }
-    ensures { λ r. ⌜ r ≡ step (game (now (table .entry))) (good (game (now (table .entry))) k) s ⌝ }
-{
-    if s & tables::bad(table) != 0 {
-        return false;
-    }
-    let actions = tables::actions(table);
-    let mut a: u32 = 0;
-    while a < actions {
-        if action_meets(table, low, high, ranks, s, Action(a), k) {
-            return true;
-        }
-        a += 1;
-    }
-    false
-}
-
-// One application of the step, in place: the sets that are good for k + 1 get that rank. How many they are.
-fn pass(table: &[u32], low: &[u32], high: &[u32], ranks: &mut [u32], k: u32) -> usize
-    requires { ⌜ (checked (now table) ≡ Fine) × Ranked (game (now table)) k (now ranks) × (k < 4096) × Tabled (game (now table)) (now low) (now high) ⌝ }
-    ensures { λ r. ⌜ Ranked (game (now (table .entry))) (k + 1) (now (ranks .exit)) × (r ≡ count (2 ^ game (now (table .entry)) .states) (good (game (now (table .entry))) (k + 1))) ⌝ }
-{
-    let mut left: usize = 0;
-    let mut s: usize = 0;
-    while s < ranks.len() {
-        if ranks[s] == k {
-            if stays_good(table, low, high, ranks, s as u32, k) {
-                ranks[s] = k + 1;
-                left += 1;
-            }
-        }
-        s += 1;
-    }
-    left
-}
-
-// What the search finds: the families settled at k with the start sets in them, or a start set that is not good for k.
-enum Outcome {
-    Settled(u32),
-    Lost(u32),
-}
-
-// Applies the step until a start set is lost or nothing changes.
-fn search(table: &[u32], low: &[u32], high: &[u32], ranks: &mut [u32]) -> Outcome
-    requires { ⌜ (checked (now table) ≡ Fine) × (length (now ranks) ≡ 2 ^ game (now table) .states) × Tabled (game (now table)) (now low) (now high) ⌝ }
-    ensures { λ r. ⌜ Searched (game (now (table .entry))) r (now (ranks .exit)) ⌝ }
-{
-    let start = tables::start(table);
-    let mut left = ranks.len();
-    sets::fill(ranks, left, 0);
-    let mut k: u32 = 0;
-    loop {
-        let now = pass(table, low, high, ranks, k);
-        if !shown_good(table, ranks, start, k + 1) {
-            return Outcome::Lost(k + 1);
-        }
-        if now == left {
-            return Outcome::Settled(k);
-        }
-        left = now;
-        k += 1;
-    }
-}
-
-// Room for one side of every action's moves.
-fn side() -> [u32; 512]
-    ensures { λ r. ⌜ length r ≡ 512 ⌝ }
-{
-    [0; 512]
-}
-
-// The search, with the successors of every set at hand.
-fn search_with(table: &[u32], ranks: &mut [u32]) -> Outcome
-    requires { ⌜ (checked (now table) ≡ Fine) × (length (now ranks) ≡ 2 ^ game (now table) .states) ⌝ }
-    ensures { λ r. ⌜ Searched (game (now (table .entry))) r (now (ranks .exit)) ⌝ }
-{
-    let mut low = side();
-    let mut high = side();
-    moves::fill(table, &mut low, &mut high);
-    search(table, &low, &high, ranks)
-}
-
-// The set is settled, and with any state more it is not: it is one of the cells.
-fn is_cell(table: &[u32], work: &[u32], k: u32, s: u32) -> bool
-    requires { ⌜ (checked (now table) ≡ Fine) × Kept (game (now table)) k (now work) × (s < 2 ^ game (now table) .states) ⌝ }
-    ensures { λ r. ⌜ r ≡ isMaximal (game (now (table .entry)) .states) (isSettled (game (now (table .entry)))) s ⌝ }
-{
-    if work[s as usize] <= k {
-        return false;
-    }
-    let n = tables::states(table);
-    let mut i: u32 = 0;
-    while i < n {
-        if !sets::member(s, i) {
-            if k < work[(s + sets::single(i)) as usize] {
-                return false;
-            }
-        }
-        i += 1;
-    }
-    true
-}
-
-// Puts the cells, ascending, behind the ranks. How many they are.
-fn collect(table: &[u32], work: &mut [u32], k: u32) -> usize
-    requires { ⌜ (checked (now table) ≡ Fine) × Kept (game (now table)) k (now work) ⌝ }
-    ensures { λ r. ⌜ Collected (game (now (table .entry))) r (now (work .exit)) ⌝ }
-{
-    let size = set_count(tables::states(table));
-    let mut m: usize = 0;
-    let mut s: usize = 0;
-    while s < size {
-        if is_cell(table, work, k, s as u32) {
-            work[size + m] = s as u32;
-            m += 1;
-        }
-        s += 1;
-    }
-    m
-}
-
 // The lowest-numbered cell whose set holds s, or NO_CELL if s has no state.
 fn holding(cells: &[u32], s: u32) -> u32
-    requires { ⌜ length (now cells) ≤ 4096 ⌝ }
+    requires { ⌜ length (now cells) ≤ maxCells ⌝ }
     ensures { λ r. ⌜ r ≡ holdingCell (now (cells .entry)) s ⌝ }
 {
     if s == 0 {
@@ -221,26 +59,80 @@ fn write_front(table: &[u32], cells: &[u32], out: &mut [u32])
     let mut j: u32 = 0;
     while j < o {
         let first = holding(cells, start & tables::shown(table, Observation(j)));
-        out[1 + j as usize] = cards::naming(9, Cell(first), Observation(j));
+        out[1 + j as usize] = cards::naming(games::KIND_FIRST, Cell(first), Observation(j));
         j += 1;
     }
-    out[0] = cards::word(8, cells.len() as u32, o, tables::actions(table));
+    out[0] = games::word(
+        games::KIND_CARD,
+        cells.len() as u32,
+        o,
+        tables::actions(table),
+    );
+}
+
+// The first cell from `from` on whose mask is `bound` or more.
+fn first_from(cells: &[u32], from: usize, bound: u32) -> usize
+    requires { ⌜ Passed (now cells) bound from ⌝ }
+    ensures { λ r. ⌜ Passed (now (cells .entry)) bound r ⌝ }
+{
+    let mut i = from;
+    while i < cells.len() {
+        if bound <= cells[i] {
+            return i;
+        }
+        i += 1;
+    }
+    i
+}
+
+// For each lane of sets, the first cell that is not below it.
+fn mark_starts(cells: &[u32], starts: &mut [usize])
+    requires { ⌜ length (now starts) ≡ maxLanes ⌝ }
+    ensures { λ _. ⌜ Starts (now (cells .entry)) (now (starts .exit)) ⌝ }
+{
+    let mut at: usize = 0;
+    let mut lane: usize = 0;
+    while lane < starts.len() {
+        at = first_from(cells, at, LANE_SETS * lane as u32);
+        starts[lane] = at;
+        lane += 1;
+    }
+}
+
+// Where to begin looking for the cell that holds t: no cell before it does. A set that is not settled is in none, and a cell below t does not hold it.
+fn scan_from(table: &[u32], family: &[u64], starts: &[usize], cells: &[u32], t: u32) -> usize
+    requires { ⌜ Scanning (game (now table)) (now family) (now starts) (now cells) t ⌝ }
+    ensures { λ r. ⌜ NoneBefore (now (cells .entry)) t r ⌝ }
+{
+    if families::has(family, t) {
+        return starts[(t / LANE_SETS) as usize];
+    }
+    cells.len()
 }
 
 // The words of the cell with the set s. Its action is the lowest that leads, for every observation, into a cell.
-fn write_cell(table: &[u32], cells: &[u32], s: u32, out: &mut [u32])
-    requires { ⌜ Writing (now table) (now cells) (now out) × SettledSet (game (now table)) s ⌝ }
+fn write_cell(
+    table: &[u32],
+    low: &[u32],
+    high: &[u32],
+    family: &[u64],
+    starts: &[usize],
+    cells: &[u32],
+    s: u32,
+    out: &mut [u32],
+)
+    requires { ⌜ Writing (now table) (now cells) (now out) × SettledSet (game (now table)) s × AtHand (game (now table)) (now low) (now high) (now family) × Starts (now cells) (now starts) ⌝ }
     ensures { λ _. ⌜ now (out .exit) ≡ setWords (game (now (table .entry))) s ⌝ }
 {
     let o = tables::observations(table);
     'actions: for a in 0..tables::actions(table) {
-        let walked = tables::walk(table, s, Action(a));
+        let walked = moves::post(table, low, high, s, Action(a));
         let Walked::Post(u) = walked else {
             continue 'actions;
         };
         for j in 0..o {
             let t = u & tables::shown(table, Observation(j));
-            let mut i: usize = 0;
+            let mut i = scan_from(table, family, starts, cells, t);
             let cell = loop {
                 if t == 0 {
                     break NO_CELL;
@@ -253,7 +145,7 @@ fn write_cell(table: &[u32], cells: &[u32], s: u32, out: &mut [u32])
                 }
                 i += 1;
             };
-            out[1 + j as usize] = cards::naming(11, Cell(cell), Observation(j));
+            out[1 + j as usize] = cards::naming(games::KIND_NEXT, Cell(cell), Observation(j));
         }
         out[0] = cards::picking(s, Action(a));
         return;
@@ -261,8 +153,16 @@ fn write_cell(table: &[u32], cells: &[u32], s: u32, out: &mut [u32])
 }
 
 // The card's words at the front of its room.
-fn write_card(table: &[u32], cells: &[u32], card: &mut [u32])
-    requires { ⌜ (checked (now table) ≡ Fine) × (now cells ≡ cellsOf (game (now table))) × (cardLength (length (now cells)) (game (now table) .observations) ≤ length (now card)) ⌝ }
+fn write_card(
+    table: &[u32],
+    low: &[u32],
+    high: &[u32],
+    family: &[u64],
+    starts: &[usize],
+    cells: &[u32],
+    card: &mut [u32],
+)
+    requires { ⌜ (checked (now table) ≡ Fine) × (now cells ≡ cellsOf (game (now table))) × (cardLength (length (now cells)) (game (now table) .observations) ≤ length (now card)) × AtHand (game (now table)) (now low) (now high) (now family) × Starts (now cells) (now starts) ⌝ }
     ensures { λ _. ⌜ now (card .exit) ≡ cardOf (game (now (table .entry))) ++ drop (cardLength (length (now (cells .entry))) (game (now (table .entry)) .observations)) (now (card .entry)) ⌝ }
 {
     let part = 1 + tables::observations(table) as usize;
@@ -270,7 +170,16 @@ fn write_card(table: &[u32], cells: &[u32], card: &mut [u32])
     let mut c: usize = 0;
     while c < cells.len() {
         let at = part + c * part;
-        write_cell(table, cells, cells[c], &mut card[at..at + part]);
+        write_cell(
+            table,
+            low,
+            high,
+            family,
+            starts,
+            cells,
+            cells[c],
+            &mut card[at..at + part],
+        );
         c += 1;
     }
 }
@@ -283,8 +192,17 @@ pub enum Answer {
 }
 
 // A yes: the card is written if there is room for it.
-fn grant(table: &[u32], cells: &[u32], card: &mut [u32], settled: u32) -> Answer
-    requires { ⌜ (checked (now table) ≡ Fine) × (now cells ≡ cellsOf (game (now table))) ⌝ }
+fn grant(
+    table: &[u32],
+    low: &[u32],
+    high: &[u32],
+    family: &[u64],
+    starts: &[usize],
+    cells: &[u32],
+    card: &mut [u32],
+    settled: u32,
+) -> Answer
+    requires { ⌜ (checked (now table) ≡ Fine) × (now cells ≡ cellsOf (game (now table))) × AtHand (game (now table)) (now low) (now high) (now family) × Starts (now cells) (now starts) ⌝ }
     ensures { λ r. ⌜ leaves r (now (card .exit)) ≡ byVerdict (game (now (table .entry))) (now (card .entry)) (Yes settled (length (now (cells .entry)))) ⌝ }
 {
     let part = 1 + tables::observations(table) as usize;
@@ -293,24 +211,83 @@ fn grant(table: &[u32], cells: &[u32], card: &mut [u32], settled: u32) -> Answer
     if card.len() < need {
         return Answer::Refused(9, need);
     }
-    write_card(table, cells, card);
+    write_card(table, low, high, family, starts, cells, card);
     Answer::Yes(settled, m as u32)
 }
 
-// The search, and the card where it ends in a yes.
+// The cells of a yes in front of the work, and the card from them.
+fn accept(
+    table: &[u32],
+    low: &[u32],
+    high: &[u32],
+    family: &[u64],
+    work: &mut [u32],
+    card: &mut [u32],
+    settled: u32,
+) -> Answer
+    requires { ⌜ (checked (now table) ≡ Fine) × AtHand (game (now table)) (now low) (now high) (now family) × (length (now work) ≡ workWords (game (now table) .states)) ⌝ }
+    ensures { λ r. ⌜ leaves r (now (card .exit)) ≡ byVerdict (game (now (table .entry))) (now (card .entry)) (Yes settled (length (cellsOf (game (now (table .entry)))))) ⌝ }
+{
+    let m = families::collect(family, tables::states(table), work);
+    let mut starts = [0usize; MAX_LANES];
+    mark_starts(&work[..m], &mut starts);
+    grant(table, low, high, family, &starts, &work[..m], card, settled)
+}
+
+// The search on the families' words, and the card where it ends in a yes.
+fn answer_with(
+    table: &[u32],
+    low: &[u32],
+    high: &[u32],
+    family: &mut [u64],
+    next: &mut [u64],
+    work: &mut [u32],
+    card: &mut [u32],
+) -> Answer
+    requires { ⌜ (checked (now table) ≡ Fine) × (length (now family) ≡ lanesOf (game (now table) .states)) × (length (now next) ≡ length (now family)) × Tabled (game (now table)) (now low) (now high) × (length (now work) ≡ workWords (game (now table) .states)) ⌝ }
+    ensures { λ r. ⌜ leaves r (now (card .exit)) ≡ byVerdict (game (now (table .entry))) (now (card .entry)) (verdict (game (now (table .entry)))) ⌝ }
+{
+    let found = search::search(table, low, high, family, next);
+    match found {
+        Outcome::Lost(k) => Answer::No(k),
+        Outcome::Settled(k) => accept(table, low, high, family, work, card, k),
+    }
+}
+
+// Room for one side of every action's moves.
+fn side() -> [u32; moves::SIDE_WORDS]
+    ensures { λ r. ⌜ length r ≡ sideWords ⌝ }
+{
+    [0; moves::SIDE_WORDS]
+}
+
+// Room for a family of sets.
+fn room() -> [u64; MAX_LANES]
+    ensures { λ r. ⌜ length r ≡ maxLanes ⌝ }
+{
+    [0; MAX_LANES]
+}
+
+// The successors of every set at hand, then the search.
 fn decide(table: &[u32], work: &mut [u32], card: &mut [u32]) -> Answer
     requires { ⌜ (checked (now table) ≡ Fine) × (length (now work) ≡ workWords (game (now table) .states)) ⌝ }
     ensures { λ r. ⌜ leaves r (now (card .exit)) ≡ byVerdict (game (now (table .entry))) (now (card .entry)) (verdict (game (now (table .entry)))) ⌝ }
 {
-    let size = set_count(tables::states(table));
-    let found = search_with(table, &mut work[..size]);
-    match found {
-        Outcome::Lost(k) => Answer::No(k),
-        Outcome::Settled(k) => {
-            let m = collect(table, work, k);
-            grant(table, &work[size..size + m], card, k)
-        }
-    }
+    let lanes = families::lane_count(tables::states(table));
+    let mut low = side();
+    let mut high = side();
+    moves::fill(table, &mut low, &mut high);
+    let mut family = room();
+    let mut next = room();
+    answer_with(
+        table,
+        &low,
+        &high,
+        &mut family[..lanes],
+        &mut next[..lanes],
+        work,
+        card,
+    )
 }
 
 // Solve: the verdict on a table and the card of a yes.

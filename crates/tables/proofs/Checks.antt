@@ -5,17 +5,19 @@ use mathlib.Core.Bool.{Bool, true, false, cond, not, _&&_, _||_}
 use mathlib.Core.List.{List}
 use Prim.Native.Nat.{ℕ, zero, suc, _+_, _/_, _^_, _≤_, _<_}
 use native.Mathlib.Omega.{arith}
-use borrow.Author.Tests.{eq-eqb, ne-eqb, eqb-true, eqb-false, leb-true, leb-false, lt-ltb, not-false}
-use lib.Dec.{eqb, leb}
+use borrow.Author.Tests.{eq-eqb, ne-eqb, eqb-true, eqb-false, leb-false, lt-ltb, not-false}
+use lib.Dec.{eqb}
 use lib.ListN.{length, getD}
 use Rattle.sets.specs.Bounded.{first, any, Found, nothing, found}
 use Rattle.sets.proofs.Logic.{and-left, and-right, or-false-left, or-false-right, false-not, true-not}
 use Rattle.sets.proofs.Bounded.{first-zero, first-skip, first-stop, first-nothing, any-intro, any-found}
 use Rattle.sets.specs.Mask.{member}
+use Rattle.games.specs.Format.{within, maxStates, maxActions, maxObservations, headSpareAt}
 use Rattle.games.specs.Game.{Game, Shows, Accepted}
 use Rattle.games.specs.Words.{lowField, headStates, headActions, headObservations, tableLength, startPlace, movePlace, game}
-use Rattle.tables.specs.Layout.{maxStates, maxActions, maxObservations, bareWord, Limited, Sized}
-use Rattle.tables.specs.Check.{andThen, atFound, within, tooWide, limitsHold, headRight, sizeChecked, placed, faulty, wordsChecked, unseen, setsChecked, checked}
+use Rattle.games.proofs.Limits.{within-low, within-high}
+use Rattle.tables.specs.Layout.{headTop, bareWord, Limited, Sized}
+use Rattle.tables.specs.Check.{andThen, atFound, tooWide, limitsHold, headRight, sizeChecked, placed, faulty, wordsChecked, unseen, setsChecked, checked}
 use Rattle.tables.specs.declared.Checked.{Checked}
 use Rattle.tables.specs.declared.Checked.the-variants.{Fine, Refused}
 use Rattle.tables.proofs.Bounds.{slot-below}
@@ -126,12 +128,6 @@ pub found-none : (f : Found) (r : ℕ → Checked) → ((i : ℕ) → r i ≡ Fi
 found-none nothing r h e = refl
 found-none (found i) r h e = absurd (h i e)
 
-within-low : (x most : ℕ) → within x most ≡ true → 1 ≤ x
-within-low x most e = leb-true 1 x (and-left (leb 1 x) (leb x most) e)
-
-within-high : (x most : ℕ) → within x most ≡ true → x ≤ most
-within-high x most e = leb-true x most (and-right (leb 1 x) (leb x most) e)
-
 limits-at : (n a o : ℕ) → limitsHold n a o ≡ true → (within n maxStates ≡ true) × (within a maxActions ≡ true) × (within o maxObservations ≡ true)
 unfolding limitsHold
 limits-at n a o e =
@@ -147,13 +143,13 @@ size-passed w e =
     (b .0, eqb-true (length w) l (cond-fine (eqb (length w) l) Fine 3 (length w) (b .1) .0))
 
 -- the head that is right
-pub head-top : (w : ℕ) → headRight w ≡ true → w / 2 ^ 24 ≡ 16
+pub head-top : (w : ℕ) → headRight w ≡ true → w / headSpareAt ≡ headTop
 unfolding headRight
-head-top w e = eqb-true (w / 2 ^ 24) 16 (and-left (eqb (w / 2 ^ 24) 16) (limitsHold (headStates w) (headActions w) (headObservations w)) e)
+head-top w e = eqb-true (w / headSpareAt) headTop (and-left (eqb (w / headSpareAt) headTop) (limitsHold (headStates w) (headActions w) (headObservations w)) e)
 
 pub head-limits : (w : ℕ) → headRight w ≡ true → limitsHold (headStates w) (headActions w) (headObservations w) ≡ true
 unfolding headRight
-head-limits w e = and-right (eqb (w / 2 ^ 24) 16) (limitsHold (headStates w) (headActions w) (headObservations w)) e
+head-limits w e = and-right (eqb (w / headSpareAt) headTop) (limitsHold (headStates w) (headActions w) (headObservations w)) e
 
 pub limits-hold : (n a o : ℕ) → limitsHold n a o ≡ true → Limited n a o
 limits-hold n a o e =

@@ -5,22 +5,23 @@ use Prim.Native.Nat.{ℕ, _+_, _-_, _*_, _/_, _%_, _≤_, _<_}
 use native.Mathlib.Nat.{div-add-mod'}
 use native.Mathlib.Omega.{arith}
 use borrow.Author.Tests.{eq-eqb, ne-eqb, lt-ltb, le-ltb}
+use Rattle.games.specs.Format.{numberAt, actionAt, kindAt, kindStart, kindBad, kindShown, kindMove}
 use Rattle.tables.specs.Layout.{bareWord}
 
 module _ (n o p : ℕ) where
-  pub bare-start : p ≡ 1 → bareWord n o p ≡ 2 * 268435456
+  pub bare-start : p ≡ 1 → bareWord n o p ≡ kindStart * kindAt
   unfolding bareWord
   bare-start e = rw (eq-eqb p 1 e)
 
-  pub bare-bad : (p ≡ 1 → ⊥) → p ≡ 2 → bareWord n o p ≡ 3 * 268435456
+  pub bare-bad : (p ≡ 1 → ⊥) → p ≡ 2 → bareWord n o p ≡ kindBad * kindAt
   unfolding bareWord
   bare-bad d e = rw (ne-eqb p 1 d, eq-eqb p 2 e)
 
-  pub bare-shown : (p ≡ 1 → ⊥) → (p ≡ 2 → ⊥) → p < 3 + o → bareWord n o p ≡ 4 * 268435456 + (p - 3) * 65536
+  pub bare-shown : (p ≡ 1 → ⊥) → (p ≡ 2 → ⊥) → p < 3 + o → bareWord n o p ≡ kindShown * kindAt + (p - 3) * numberAt
   unfolding bareWord
   bare-shown d e l = rw (ne-eqb p 1 d, ne-eqb p 2 e, lt-ltb p (3 + o) l) (omega arith)
 
-  pub bare-move : (p ≡ 1 → ⊥) → (p ≡ 2 → ⊥) → 3 + o ≤ p → bareWord n o p ≡ 5 * 268435456 + (p - (3 + o)) / n * 1048576 + (p - (3 + o)) % n * 65536
+  pub bare-move : (p ≡ 1 → ⊥) → (p ≡ 2 → ⊥) → 3 + o ≤ p → bareWord n o p ≡ kindMove * kindAt + (p - (3 + o)) / n * actionAt + (p - (3 + o)) % n * numberAt
   unfolding bareWord
   bare-move d e l = rw (ne-eqb p 1 d, ne-eqb p 2 e, le-ltb p (3 + o) l) (omega arith)
 

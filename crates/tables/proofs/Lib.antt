@@ -5,5 +5,4 @@ pub mod Layouts
 pub mod Fills
 pub mod Fieldwise
 pub mod Same
-pub mod RoundTrip
 pub mod Rows

@@ -1,24 +1,17 @@
--- The small inputs of document 01's "Numbered refusals", as far as they are tables or fields: each gives its number and place.
+-- The small inputs of document 01's "Numbered refusals", as far as they are tables: each gives its number and place.
 -- Beside them: 13 states, and a word that 4 and 5 would both refuse.
 -- Assumes nothing.
 use mathlib.Core.Path.{_≡_, refl}
-use mathlib.Core.List.{List, [], _∷_, _++_}
+use mathlib.Core.List.{List, [], _∷_}
 use Prim.Native.Nat.{ℕ}
-use lib.ListN.{replicate, drop, set}
-use Rattle.sets.specs.Bounded.{all, any, first, gather}
+use lib.ListN.{set}
+use Rattle.sets.specs.Bounded.{any, first}
 use Rattle.games.specs.Words.{game}
+use Rattle.games.specs.Stations.{tableA}
 use Rattle.tables.specs.Layout.{bareWord}
 use Rattle.tables.specs.Check.{limitsHold, headRight, sizeChecked, placed, faulty, wordsChecked, unseen, setsChecked, checked}
-use Rattle.tables.specs.Fields.{fieldsOf, gameOf, maskAt, wordAt, unusedZero, wideAt, slotsChecked, masksChecked, fieldsChecked, leaves, writtenTo, writeOf}
 use Rattle.tables.specs.declared.Checked.{Checked}
 use Rattle.tables.specs.declared.Checked.the-variants.{Fine, Refused}
-use Rattle.tables.specs.declared.Written.the-variants.{Words}
-use Rattle.tables.specs.declared.Written.the-variants as written
-use Rattle.tables.specs.declared.Fields.{Fields}
-
--- station A
-abbrev tableA : List ℕ
-tableA = 0x1001_0203 ∷ 0x2000_0001 ∷ 0x3000_0004 ∷ 0x4000_0007 ∷ 0x5000_0002 ∷ 0x5001_0000 ∷ 0x5002_0004 ∷ 0x5010_0004 ∷ 0x5011_0001 ∷ 0x5012_0004 ∷ []
 
 pub data Rows : List (record { input : List ℕ; answer : Checked }) → Type 0 where
   none : Rows []
@@ -41,25 +34,3 @@ rows =
 pub every-row : Rows rows
 unfolding rows checked sizeChecked wordsChecked setsChecked headRight limitsHold placed faulty unseen bareWord game first any
 every-row = row refl (row refl (row refl (row refl (row refl (row refl (row refl (row refl (row refl (row refl none)))))))))
-
--- station A's fields
-abbrev fieldsA : Fields
-fieldsA = record { states = 3; actions = 2; observations = 1; start = 1; bad = 4; shown = 7 ∷ replicate 7 0; moves = 2 ∷ 0 ∷ 4 ∷ 4 ∷ 1 ∷ 4 ∷ replicate 90 0 }
-
-pub reads-a : fieldsOf (game tableA) ≡ fieldsA
-unfolding fieldsOf game gather
-reads-a = refl
-
-pub writes-a : writeOf fieldsA (replicate 11 9) ≡ leaves (Words 10) (tableA ++ (9 ∷ []))
-unfolding writeOf fieldsChecked slotsChecked masksChecked setsChecked limitsHold unusedZero wideAt maskAt wordAt bareWord gameOf unseen writtenTo first any all gather
-writes-a = refl
-
--- 10
-pub writes-short : writeOf fieldsA (replicate 9 9) ≡ leaves (written.Refused 10 10) (replicate 9 9)
-unfolding writeOf fieldsChecked slotsChecked masksChecked setsChecked limitsHold unusedZero wideAt maskAt wordAt bareWord gameOf unseen writtenTo first any all gather
-writes-short = refl
-
--- 11: reading slot 1 is 1
-pub writes-unused : writeOf (record { states = 3; actions = 2; observations = 1; start = 1; bad = 4; shown = 7 ∷ 1 ∷ replicate 6 0; moves = 2 ∷ 0 ∷ 4 ∷ 4 ∷ 1 ∷ 4 ∷ replicate 90 0 }) (replicate 10 9) ≡ leaves (written.Refused 11 0) (replicate 10 9)
-unfolding writeOf fieldsChecked slotsChecked masksChecked setsChecked limitsHold unusedZero wideAt maskAt wordAt bareWord gameOf unseen writtenTo first any all gather
-writes-unused = refl

@@ -9,6 +9,7 @@ use lib.ListN.{replicate}
 use Rattle.sets.specs.Mask.{member}
 use Rattle.sets.specs.Bounded.{any, first, Found}
 use Rattle.sets.proofs.Bounded.{any-ext, first-ext}
+use Rattle.games.specs.Format.{maxObservations}
 use Rattle.games.specs.Game.{Game}
 use Rattle.games.specs.Words.{game}
 use Rattle.tables.specs.Layout.{Limited, Sized}
@@ -36,7 +37,7 @@ module _ (g h : Game) (counted : g .states ≡ h .states) (seen : g .observation
 
 pub sets-same : (g : Game) → setsChecked (gameOf (fieldsOf g)) ≡ setsChecked g
 unfolding gameOf fieldsOf
-sets-same g = sets-ext (gameOf (fieldsOf g)) g refl refl refl (λ j l. getD-filled (g .shown) (g .observations) (replicate 8 0) j l)
+sets-same g = sets-ext (gameOf (fieldsOf g)) g refl refl refl (λ j l. getD-filled (g .shown) (g .observations) (replicate maxObservations 0) j l)
 
 module _ (w : List ℕ) (f : Fields) (read : f ≡ fieldsOf (game w)) where
   pub fields-limited : Sized w → Limited (f .states) (f .actions) (f .observations)

@@ -7,9 +7,10 @@ use lib.Dec.{eqb, leb, ltb}
 use lib.ListN.{length, getD}
 use Rattle.sets.specs.Mask.{member}
 use Rattle.sets.specs.Bounded.{any, first, Found, nothing, found}
+use Rattle.games.specs.Format.{within, maxStates, maxActions, maxObservations, headSpareAt}
 use Rattle.games.specs.Game.{Game}
-use Rattle.games.specs.Words.{kind, lowField, headStates, headActions, headObservations, startPlace, tableLength, game}
-use Rattle.tables.specs.Layout.{maxStates, maxActions, maxObservations, bareWord}
+use Rattle.games.specs.Words.{lowField, headStates, headActions, headObservations, startPlace, tableLength, game}
+use Rattle.tables.specs.Layout.{headTop, bareWord}
 use Rattle.tables.specs.declared.Checked.{Checked}
 use Rattle.tables.specs.declared.Checked.the-variants.{Fine, Refused}
 
@@ -23,16 +24,13 @@ abbrev pub atFound : Found → (ℕ → Checked) → Checked → Checked
 atFound nothing refusal next = next
 atFound (found i) refusal next = refusal i
 
-abbrev pub within : (number most : ℕ) → Bool
-within x most = leb 1 x && leb x most
-
 -- n, a and o are within the limits
 unfoldable pub limitsHold : (states actions observations : ℕ) → Bool
 limitsHold n a o = within n maxStates && (within a maxActions && within o maxObservations)
 
--- the head's kind is 1, its bits 24 to 27 are 0, and its numbers are within the limits
+-- the head's kind is a table's, its spare bits are 0, and its numbers are within the limits
 unfoldable pub headRight : ℕ → Bool
-headRight w = eqb (w / 2 ^ 24) (2 ^ 4) && limitsHold (headStates w) (headActions w) (headObservations w)
+headRight w = eqb (w / headSpareAt) headTop && limitsHold (headStates w) (headActions w) (headObservations w)
 
 -- 1, 2 and 3: no word, the head, the length
 unfoldable pub sizeChecked : List ℕ → Checked

@@ -1,22 +1,13 @@
--- A table's fields, and the words of a table (document 01, "Entries": read and write).
+-- A table's fields: what they hold, and what they mean.
 -- Assumes nothing.
-use mathlib.Core.Bool.{Bool, cond, _&&_, _||_}
 use mathlib.Core.List.{List, [], _∷_, _++_}
-use Prim.Native.Nat.{ℕ, _+_, _-_, _*_, _/_, _%_, _^_}
-use lib.Dec.{eqb, ltb}
-use lib.ListN.{length, getD, drop, replicate}
-use Rattle.sets.specs.Bounded.{all, first, gather}
+use Prim.Native.Nat.{ℕ, _+_, _*_, _/_, _%_}
+use lib.ListN.{getD, drop, replicate}
+use Rattle.sets.specs.Bounded.{gather}
+use Rattle.games.specs.Format.{maxObservations, maxMoves}
 use Rattle.games.specs.Game.{Game}
-use Rattle.games.specs.Words.{lowField, startPlace, badPlace, shownPlace, tableLength, game}
-use Rattle.tables.specs.Layout.{maxStates, maxActions, maxObservations, bareWord}
-use Rattle.tables.specs.Check.{andThen, atFound, limitsHold, tooWide, setsChecked, checked}
-use Rattle.tables.specs.declared.Checked.{Checked}
-use Rattle.tables.specs.declared.Checked.the-variants.{Fine, Refused}
+use Rattle.games.specs.Words.{lowField}
 use Rattle.tables.specs.declared.Fields.{Fields}
-use Rattle.tables.specs.declared.ReadFields.{ReadFields}
-use Rattle.tables.specs.declared.Written.{Written}
-use Rattle.tables.specs.declared.Written.the-variants.{Words}
-use Rattle.tables.specs.declared.Written.the-variants as written
 
 -- d, its first k places set to f 0, f 1, and so on
 abbrev pub filledBy : ℕ → (ℕ → ℕ) → List ℕ → List ℕ
@@ -25,8 +16,6 @@ filledBy k f d = gather k (λ i. f i ∷ []) ++ drop k d
 -- the masks from a place on
 abbrev pub masksFrom : List ℕ → ℕ → ℕ → ℕ
 masksFrom w base i = lowField (getD w (base + i) 0)
-
--- ---- read
 
 -- a game's fields: observation j in slot j, action a and state i in slot a · n + i, unused slots 0
 unfoldable pub fieldsOf : Game → Fields
@@ -38,22 +27,8 @@ fieldsOf g =
       start = g .start;
       bad = g .bad;
       shown = filledBy (g .observations) (g .shown) (replicate maxObservations 0);
-      moves = filledBy (g .actions * g .states) (λ j. g .successors (j / g .states) (j % g .states)) (replicate (maxActions * maxStates) 0);
+      moves = filledBy (g .actions * g .states) (λ j. g .successors (j / g .states) (j % g .states)) (replicate maxMoves 0);
     }
-
-abbrev pub noFields : Fields
-noFields =
-    record { states = 0; actions = 0; observations = 0; start = 0; bad = 0; shown = replicate maxObservations 0; moves = replicate (maxActions * maxStates) 0 }
-
--- the fields of an accepted table, fields of 0 beside a refusal
-abbrev pub fieldsBeside : Checked → Game → Fields
-fieldsBeside Fine g = fieldsOf g
-fieldsBeside (Refused number place) g = noFields
-
-unfoldable pub readOf : List ℕ → ReadFields
-readOf w = record { answer = checked w; fields = fieldsBeside (checked w) (game w) }
-
--- ---- write
 
 -- what the fields mean
 unfoldable pub gameOf : Fields → Game
@@ -67,65 +42,3 @@ gameOf f =
       shown = λ j. getD (f .shown) j 0;
       successors = λ a i. getD (f .moves) (a * f .states + i) 0;
     }
-
--- the mask of the word at a place from 1 up
-unfoldable pub maskAt : Game → ℕ → ℕ
-maskAt g p =
-    let slot = p - shownPlace (g .observations) in
-    cond (eqb p startPlace) (g .start)
-    (cond (eqb p badPlace) (g .bad)
-    (cond (ltb p (shownPlace (g .observations))) (g .shown (p - 3)) (g .successors (slot / g .states) (slot % g .states))))
-
--- the words of a table: the head, then kind, index and mask of each place
-unfoldable pub wordAt : Game → ℕ → ℕ
-wordAt g p =
-    cond (eqb p 0) (1 * 2 ^ 28 + g .observations * 2 ^ 16 + g .actions * 2 ^ 8 + g .states)
-    (bareWord (g .states) (g .observations) p + maskAt g p)
-
-abbrev pub wordsLength : Game → ℕ
-wordsLength g = tableLength (g .states) (g .actions) (g .observations)
-
--- the slots from `used` up are 0
-unfoldable pub unusedZero : (used : ℕ) → List ℕ → Bool
-unusedZero used l = all (length l) (λ j. ltb j used || eqb (getD l j 0) 0)
-
--- the mask of the word to be written names a state from n up
-unfoldable pub wideAt : Game → ℕ → Bool
-wideAt g p = ltb 0 p && tooWide (g .states) (maskAt g p)
-
--- 2 and 11
-unfoldable pub slotsChecked : Fields → Checked
-slotsChecked f =
-    cond (limitsHold (f .states) (f .actions) (f .observations))
-    (cond (unusedZero (f .observations) (f .shown) && unusedZero (f .actions * f .states) (f .moves)) Fine (Refused 11 0))
-    (Refused 2 0)
-
--- 5
-unfoldable pub masksChecked : Game → Checked
-masksChecked g = atFound (first (wordsLength g) (wideAt g)) (λ p. Refused 5 p) Fine
-
--- 2, 11, 5, 6 and 7
-unfoldable pub fieldsChecked : Fields → Checked
-fieldsChecked f = andThen (slotsChecked f) (andThen (masksChecked (gameOf f)) (setsChecked (gameOf f)))
-
--- an answer and the buffer that goes with it
-pub record Outcome : Type 0 where
-  pub answer : Written
-  pub out : List ℕ
-
-abbrev pub leaves : Written → List ℕ → Outcome
-leaves r d = record { answer = r; out = d }
-
--- 10, or the table's words in front
-unfoldable pub writtenTo : Game → List ℕ → Outcome
-writtenTo g d =
-    cond (ltb (length d) (wordsLength g)) (leaves (written.Refused 10 (wordsLength g)) d)
-    (leaves (Words (wordsLength g)) (filledBy (wordsLength g) (wordAt g) d))
-
-abbrev pub unlessRefused : Checked → List ℕ → Outcome → Outcome
-unlessRefused Fine d next = next
-unlessRefused (Refused number place) d next = leaves (written.Refused number place) d
-
--- document 01's write: 2, 11, 5, 6, 7, 10; a refusal leaves the buffer as it was
-unfoldable pub writeOf : Fields → List ℕ → Outcome
-writeOf f d = unlessRefused (fieldsChecked f) d (writtenTo (gameOf f) d)

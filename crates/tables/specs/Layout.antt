@@ -1,30 +1,29 @@
--- What stands at each place of a table (document 01, "Words"), and its limits.
+-- What stands at each place of a table (document 01, "Words"), and how many words it can have.
 -- Assumes nothing.
 use mathlib.Core.Path.{_≡_}
 use mathlib.Core.Bool.{cond}
 use mathlib.Core.List.{List}
-use Prim.Native.Nat.{ℕ, _-_, _/_, _%_, _≤_}
+use Prim.Native.Nat.{ℕ, _*_, _-_, _/_, _%_, _≤_}
 use lib.Dec.{eqb, ltb}
 use lib.ListN.{length, getD}
+use Rattle.games.specs.Format.{maxStates, maxActions, maxObservations, kindAt, headSpareAt, kindTable, kindStart, kindBad, kindShown, kindMove}
 use Rattle.games.specs.Words.{word, headStates, headActions, headObservations, startPlace, badPlace, shownPlace, tableLength}
 
--- document 01: n from 1 to 12, a from 1 to 8, o from 1 to 8 readings
-abbrev pub maxStates : ℕ
-maxStates = 12
+-- the words of the longest table
+abbrev pub maxWords : ℕ
+maxWords = tableLength maxStates maxActions maxObservations
 
-abbrev pub maxActions : ℕ
-maxActions = 8
-
-abbrev pub maxObservations : ℕ
-maxObservations = 8
+-- a head from its spare bits up: its kind, and they are 0
+abbrev pub headTop : ℕ
+headTop = kindTable * kindAt / headSpareAt
 
 -- the word at a place from 1 up, with no state in its mask: its kind, and the reading, or the state and the action, that it is for
 unfoldable pub bareWord : (states observations place : ℕ) → ℕ
 bareWord n o p =
-    cond (eqb p startPlace) (word 2 0 0 0)
-    (cond (eqb p badPlace) (word 3 0 0 0)
-    (cond (ltb p (shownPlace o)) (word 4 0 (p - 3) 0)
-    (word 5 0 ((p - shownPlace o) % n) ((p - shownPlace o) / n))))
+    cond (eqb p startPlace) (word kindStart 0 0 0)
+    (cond (eqb p badPlace) (word kindBad 0 0 0)
+    (cond (ltb p (shownPlace o)) (word kindShown 0 (p - 3) 0)
+    (word kindMove 0 ((p - shownPlace o) % n) ((p - shownPlace o) / n))))
 
 -- the numbers of states, actions and observations are within the limits
 pub record Limited (states actions observations : ℕ) : Type 0 where

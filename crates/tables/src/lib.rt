@@ -1,22 +1,26 @@
-// The words of a station table: checks, what the words say, reading into fields and writing.
+// The words of a station table: checks, what the words say, and its fields.
 ghost use mathlib.Core.Path.{_≡_};
 ghost use Prim.Native.Nat.{_<_, _+_, _≤_, _^_};
 ghost use lib.ListN.{length, getD};
 ghost use Rattle.games.specs.Words.{game, tableLength, headStates, headActions, headObservations};
-ghost use Rattle.tables.specs.Layout.{maxObservations, Limited, Sized, bareWord};
+ghost use Rattle.games.specs.Format.{maxObservations, headValues};
+ghost use Rattle.tables.specs.Layout.{maxWords, Limited, Sized, bareWord};
 ghost use Rattle.tables.specs.Walk.{walked};
-ghost use Rattle.tables.specs.declared.Checked.the-variants.{Fine};
-ghost use Rattle.tables.specs.Fields.{masksFrom, filledBy, fieldsOf, noFields, readOf, gameOf, maskAt, wordAt, unusedZero, wideAt, slotsChecked, masksChecked, fieldsChecked, wordsLength, leaves, writtenTo, writeOf};
-ghost use Rattle.tables.specs.Check.{within as isWithin, limitsHold, headRight, sizeChecked, placed, tooWide, faulty, wordsChecked, unseen, setsChecked, checked};
+ghost use Rattle.tables.specs.Fields.{masksFrom, filledBy, fieldsOf, gameOf};
+ghost use Rattle.tables.specs.Check.{limitsHold, headRight, sizeChecked, placed, tooWide, faulty, wordsChecked, unseen, setsChecked, checked};
 use games::Action;
 use games::Observation;
 use games::State;
 
-const MAX_STATES: u32 = 12;
+// The head's kind in its place, and as it stands above the head's numbers, where the spare bits are 0.
+pub const HEAD: u32 = games::KIND_TABLE * games::KIND_AT;
 
-const MAX_ACTIONS: u32 = 8;
+const HEAD_TOP: u32 = HEAD / games::HEAD_SPARE_AT;
 
-const MAX_OBSERVATIONS: u32 = 8;
+// The slots for observations and for moves.
+pub const SHOWN_SLOTS: usize = games::MAX_OBSERVATIONS as usize;
+
+pub const MOVE_SLOTS: usize = (games::MAX_ACTIONS * games::MAX_STATES) as usize;
 
 // An accepted table, or a refusal: number and place.
 pub enum Checked {
@@ -24,30 +28,33 @@ pub enum Checked {
     Refused(u32, usize),
 }
 
-fn within(x: u32, most: u32) -> bool
-    ensures { λ r. ⌜ r ≡ isWithin x most ⌝ }
-{
-    (1 <= x) & (x <= most)
-}
-
-fn limits_hold(n: u32, a: u32, o: u32) -> bool
+// The numbers of states, actions and observations are within the limits.
+pub fn limits_hold(n: u32, a: u32, o: u32) -> bool
     ensures { λ r. ⌜ r ≡ limitsHold n a o ⌝ }
 {
-    within(n, MAX_STATES) & (within(a, MAX_ACTIONS) & within(o, MAX_OBSERVATIONS))
+    games::within(n, games::MAX_STATES)
+        & (games::within(a, games::MAX_ACTIONS) & games::within(o, games::MAX_OBSERVATIONS))
 }
 
 fn head_right(w: u32) -> bool
     ensures { λ r. ⌜ r ≡ headRight w ⌝ }
 {
-    (w / 16777216 == 16) & limits_hold(w % 256, w / 256 % 256, w / 65536 % 256)
+    (w / games::HEAD_SPARE_AT == HEAD_TOP)
+        & limits_hold(
+            w % games::HEAD_VALUES,
+            w / games::HEAD_ACTIONS_AT % games::HEAD_VALUES,
+            w / games::HEAD_OBSERVATIONS_AT % games::HEAD_VALUES,
+        )
 }
 
 // Where the action's move words begin; for the number of actions, the words of the table.
 pub fn row(head: u32, a: u32) -> usize
-    requires { ⌜ a < 256 ⌝ }
+    requires { ⌜ a < headValues ⌝ }
     ensures { λ r. ⌜ r ≡ tableLength (headStates head) a (headObservations head) ⌝ }
 {
-    (3 + head / 65536 % 256 + a * (head % 256)) as usize
+    (3
+        + head / games::HEAD_OBSERVATIONS_AT % games::HEAD_VALUES
+        + a * (head % games::HEAD_VALUES)) as usize
 }
 
 // Refusals 1, 2 and 3.
@@ -60,7 +67,7 @@ fn check_size(table: &[u32]) -> Checked
     }
     let head = table[0];
     if head_right(head) {
-        if words == row(head, head / 256 % 256) {
+        if words == row(head, head / games::HEAD_ACTIONS_AT % games::HEAD_VALUES) {
             Checked::Fine
         } else {
             Checked::Refused(3, words)
@@ -74,35 +81,35 @@ pub fn states(table: &[u32]) -> u32
     requires { ⌜ Sized (now table) ⌝ }
     ensures { λ r. ⌜ r ≡ game (now (table .entry)) .states ⌝ }
 {
-    table[0] % 256
+    table[0] % games::HEAD_VALUES
 }
 
 pub fn actions(table: &[u32]) -> u32
     requires { ⌜ Sized (now table) ⌝ }
     ensures { λ r. ⌜ r ≡ game (now (table .entry)) .actions ⌝ }
 {
-    table[0] / 256 % 256
+    table[0] / games::HEAD_ACTIONS_AT % games::HEAD_VALUES
 }
 
 pub fn observations(table: &[u32]) -> u32
     requires { ⌜ Sized (now table) ⌝ }
     ensures { λ r. ⌜ r ≡ game (now (table .entry)) .observations ⌝ }
 {
-    table[0] / 65536 % 256
+    table[0] / games::HEAD_OBSERVATIONS_AT % games::HEAD_VALUES
 }
 
 pub fn start(table: &[u32]) -> u32
     requires { ⌜ Sized (now table) ⌝ }
     ensures { λ r. ⌜ r ≡ game (now (table .entry)) .start ⌝ }
 {
-    table[1] % 65536
+    table[1] % games::LOW_VALUES
 }
 
 pub fn bad(table: &[u32]) -> u32
     requires { ⌜ Sized (now table) ⌝ }
     ensures { λ r. ⌜ r ≡ game (now (table .entry)) .bad ⌝ }
 {
-    table[2] % 65536
+    table[2] % games::LOW_VALUES
 }
 
 // The states that show the observation.
@@ -111,7 +118,7 @@ pub fn shown(table: &[u32], seen: Observation) -> u32
     ensures { λ r. ⌜ r ≡ game (now (table .entry)) .shown (seen .0) ⌝ }
 {
     let at = (3 + seen.0) as usize;
-    table[at] % 65536
+    table[at] % games::LOW_VALUES
 }
 
 // The successors that the action gives the state.
@@ -120,7 +127,7 @@ pub fn successors(table: &[u32], a: Action, i: State) -> u32
     ensures { λ r. ⌜ r ≡ game (now (table .entry)) .successors (a .0) (i .0) ⌝ }
 {
     let at = row(table[0], a.0) + i.0 as usize;
-    table[at] % 65536
+    table[at] % games::LOW_VALUES
 }
 
 // What a set comes to under an action.
@@ -136,40 +143,38 @@ pub fn walk(table: &[u32], s: u32, a: Action) -> Walked
     requires { ⌜ Sized (now table) × (a .0 < game (now table) .actions) ⌝ }
     ensures { λ r. ⌜ r ≡ walked (game (now (table .entry))) s (a .0) ⌝ }
 {
-    let n = table[0] % 256;
     let base = row(table[0], a.0);
+    let mut rest = s % sets::single(states(table));
     let mut u: u32 = 0;
-    let mut i: u32 = 0;
-    while i < n {
-        if (s >> i) % 2 == 1 {
-            let t = table[base + i as usize] % 65536;
-            if t == 0 {
-                return Walked::Blocked;
-            }
-            u = u | t;
+    while rest != 0 {
+        let i = u32::trailing_zeros(rest);
+        let t = table[base + i as usize] % games::LOW_VALUES;
+        if t == 0 {
+            return Walked::Blocked;
         }
-        i += 1;
+        u = u | t;
+        rest = rest - sets::single(i);
     }
     Walked::Post(u)
 }
 
 // The word at a place from 1 up, with no state in its mask.
-fn bare_word(n: u32, o: u32, place: usize) -> u32
-    requires { ⌜ (1 ≤ n) × (o ≤ maxObservations) × (1 ≤ place) × (place < 128) ⌝ }
+pub fn bare_word(n: u32, o: u32, place: usize) -> u32
+    requires { ⌜ (1 ≤ n) × (o ≤ maxObservations) × (1 ≤ place) × (place < maxWords) ⌝ }
     ensures { λ r. ⌜ (r ≡ bareWord n o place) × (r < 2 ^ 31) ⌝ }
 {
     let p = place as u32;
     if p == 1 {
-        return 2 * 268435456;
+        return games::KIND_START * games::KIND_AT;
     }
     if p == 2 {
-        return 3 * 268435456;
+        return games::KIND_BAD * games::KIND_AT;
     }
     if p < 3 + o {
-        return 4 * 268435456 + (p - 3) * 65536;
+        return games::KIND_SHOWN * games::KIND_AT + (p - 3) * games::NUMBER_AT;
     }
     let slot = p - (3 + o);
-    5 * 268435456 + slot / n * 1048576 + slot % n * 65536
+    games::KIND_MOVE * games::KIND_AT + slot / n * games::ACTION_AT + slot % n * games::NUMBER_AT
 }
 
 // The word's kind, spare bits and index are those of its place.
@@ -178,9 +183,9 @@ fn is_placed(table: &[u32], p: usize) -> bool
     ensures { λ r. ⌜ r ≡ placed (now (table .entry)) p ⌝ }
 {
     let w = table[p];
-    let n = table[0] % 256;
-    let o = table[0] / 65536 % 256;
-    w == bare_word(n, o, p) + w % 65536
+    let n = table[0] % games::HEAD_VALUES;
+    let o = table[0] / games::HEAD_OBSERVATIONS_AT % games::HEAD_VALUES;
+    w == bare_word(n, o, p) + w % games::LOW_VALUES
 }
 
 // The word is refused, by 4 or 5.
@@ -188,8 +193,8 @@ fn is_faulty(table: &[u32], p: usize) -> bool
     requires { ⌜ Sized (now table) × (1 ≤ p) × (p < length (now table)) ⌝ }
     ensures { λ r. ⌜ r ≡ faulty (now (table .entry)) p ⌝ }
 {
-    let n = table[0] % 256;
-    let wide = sets::single(n) <= table[p] % 65536;
+    let n = table[0] % games::HEAD_VALUES;
+    let wide = sets::single(n) <= table[p] % games::LOW_VALUES;
     !is_placed(table, p) | wide
 }
 
@@ -233,21 +238,9 @@ pub struct Fields {
     pub observations: u32,
     pub start: u32,
     pub bad: u32,
-    pub shown: [u32; 8],
+    pub shown: [u32; SHOWN_SLOTS],
     // at action · states + state
-    pub moves: [u32; 96],
-}
-
-// The answer of reading, with the fields beside it.
-pub struct ReadFields {
-    pub answer: Checked,
-    pub fields: Fields,
-}
-
-// How many words were written, or a refusal: number and place.
-pub enum Written {
-    Words(usize),
-    Refused(u32, usize),
+    pub moves: [u32; MOVE_SLOTS],
 }
 
 // The masks from a place on, into the front of `out`.
@@ -257,22 +250,22 @@ fn copy_masks(table: &[u32], base: usize, count: usize, out: &mut [u32])
 {
     let mut i: usize = 0;
     while i < count {
-        out[i] = table[base + i] % 65536;
+        out[i] = table[base + i] % games::LOW_VALUES;
         i += 1;
     }
 }
 
 // The fields of a table that was accepted.
-fn fields_of(table: &[u32]) -> Fields
+pub fn fields_of(table: &[u32]) -> Fields
     requires { ⌜ Sized (now table) ⌝ }
     ensures { λ r. ⌜ r ≡ fieldsOf (game (now (table .entry))) ⌝ }
 {
     let n = states(table);
     let a = actions(table);
     let o = observations(table);
-    let mut shown = [0u32; 8];
+    let mut shown = [0u32; SHOWN_SLOTS];
     copy_masks(table, 3, o as usize, &mut shown);
-    let mut moves = [0u32; 96];
+    let mut moves = [0u32; MOVE_SLOTS];
     copy_masks(table, 3 + o as usize, (a * n) as usize, &mut moves);
     Fields {
         states: n,
@@ -283,88 +276,6 @@ fn fields_of(table: &[u32]) -> Fields
         shown,
         moves,
     }
-}
-
-fn no_fields() -> Fields
-    ensures { λ r. ⌜ r ≡ noFields ⌝ }
-{
-    Fields {
-        states: 0,
-        actions: 0,
-        observations: 0,
-        start: 0,
-        bad: 0,
-        shown: [0u32; 8],
-        moves: [0u32; 96],
-    }
-}
-
-// Checks a table and reads it into fields.
-pub fn read(table: &[u32]) -> ReadFields
-    ensures { λ r. ⌜ r ≡ readOf (now (table .entry)) ⌝ }
-{
-    match check(table) {
-        Checked::Refused(number, place) => ReadFields {
-            answer: Checked::Refused(number, place),
-            fields: no_fields(),
-        },
-        Checked::Fine => ReadFields {
-            answer: Checked::Fine,
-            fields: fields_of(table),
-        },
-    }
-}
-
-// The slots from `used` up are 0.
-fn unused_zero(slots: &[u32], used: usize) -> bool
-    ensures { λ r. ⌜ r ≡ unusedZero used (now (slots .entry)) ⌝ }
-{
-    let mut j: usize = 0;
-    while j < slots.len() {
-        let clean = (j < used) | (slots[j] == 0);
-        if !clean {
-            return false;
-        }
-        j += 1;
-    }
-    true
-}
-
-// The mask of the word at a place from 1 up.
-fn mask_at(f: Fields, p: usize) -> u32
-    requires { ⌜ (1 ≤ p) × (f .observations ≤ maxObservations) × (p < 3 + f .observations + 96) ⌝ }
-    ensures { λ r. ⌜ r ≡ maskAt (gameOf f) p ⌝ }
-{
-    if p == 1 {
-        return f.start;
-    }
-    if p == 2 {
-        return f.bad;
-    }
-    let o = f.observations as usize;
-    if p < 3 + o {
-        let shown = f.shown;
-        return shown[p - 3];
-    }
-    let moves = f.moves;
-    moves[p - (3 + o)]
-}
-
-// Every used mask names states below n only, or the lowest place of a word whose mask doesn't.
-fn check_masks(f: Fields) -> Checked
-    requires { ⌜ Limited (f .states) (f .actions) (f .observations) ⌝ }
-    ensures { λ r. ⌜ r ≡ masksChecked (gameOf f) ⌝ }
-{
-    let full = sets::single(f.states);
-    let words = words_of(f.states, f.actions, f.observations);
-    let mut p: usize = 1;
-    while p < words {
-        if full <= mask_at(f, p) {
-            return Checked::Refused(5, p);
-        }
-        p += 1;
-    }
-    Checked::Fine
 }
 
 // State i shows no observation.
@@ -385,7 +296,7 @@ fn is_unseen(f: Fields, i: u32) -> bool
 }
 
 // Refusals 6 and 7.
-fn check_sets(f: Fields) -> Checked
+pub fn check_sets(f: Fields) -> Checked
     requires { ⌜ Limited (f .states) (f .actions) (f .observations) ⌝ }
     ensures { λ r. ⌜ r ≡ setsChecked (gameOf f) ⌝ }
 {
@@ -401,84 +312,4 @@ fn check_sets(f: Fields) -> Checked
         i += 1;
     }
     Checked::Fine
-}
-
-// The words of a table.
-fn words_of(n: u32, a: u32, o: u32) -> usize
-    requires { ⌜ Limited n a o ⌝ }
-    ensures { λ r. ⌜ r ≡ tableLength n a o ⌝ }
-{
-    (3 + o + a * n) as usize
-}
-
-// Refusals 2 and 11.
-fn check_slots(f: Fields) -> Checked
-    ensures { λ r. ⌜ r ≡ slotsChecked f ⌝ }
-{
-    let n = f.states;
-    let a = f.actions;
-    let o = f.observations;
-    if limits_hold(n, a, o) {
-        let shown = f.shown;
-        let moves = f.moves;
-        let clean = unused_zero(&shown, o as usize) & unused_zero(&moves, (a * n) as usize);
-        if clean {
-            Checked::Fine
-        } else {
-            Checked::Refused(11, 0)
-        }
-    } else {
-        Checked::Refused(2, 0)
-    }
-}
-
-// Refusals 2, 11, 5, 6 and 7.
-fn check_fields(f: Fields) -> Checked
-    ensures { λ r. ⌜ r ≡ fieldsChecked f ⌝ }
-{
-    match check_slots(f) {
-        Checked::Refused(number, place) => Checked::Refused(number, place),
-        Checked::Fine => match check_masks(f) {
-            Checked::Refused(number, place) => Checked::Refused(number, place),
-            Checked::Fine => check_sets(f),
-        },
-    }
-}
-
-// The word at a place, for fields whose masks are in order.
-fn word_at(f: Fields, p: usize) -> u32
-    requires { ⌜ Limited (f .states) (f .actions) (f .observations) × (masksChecked (gameOf f) ≡ Fine) × (p < wordsLength (gameOf f)) ⌝ }
-    ensures { λ r. ⌜ r ≡ wordAt (gameOf f) p ⌝ }
-{
-    if p == 0 {
-        return 268435456 + f.observations * 65536 + f.actions * 256 + f.states;
-    }
-    bare_word(f.states, f.observations, p) + mask_at(f, p)
-}
-
-// Refusal 10, or the words in front of `out`.
-fn write_words(f: Fields, out: &mut [u32]) -> Written
-    requires { ⌜ Limited (f .states) (f .actions) (f .observations) × (masksChecked (gameOf f) ≡ Fine) ⌝ }
-    ensures { λ r. ⌜ leaves r (now (out .exit)) ≡ writtenTo (gameOf f) (now (out .entry)) ⌝ }
-{
-    let words = words_of(f.states, f.actions, f.observations);
-    if out.len() < words {
-        return Written::Refused(10, words);
-    }
-    let mut p: usize = 0;
-    while p < words {
-        out[p] = word_at(f, p);
-        p += 1;
-    }
-    Written::Words(words)
-}
-
-// Writes the fields as a table's words into the front of `out`; a refusal leaves `out` as it was.
-pub fn write(f: Fields, out: &mut [u32]) -> Written
-    ensures { λ r. ⌜ leaves r (now (out .exit)) ≡ writeOf f (now (out .entry)) ⌝ }
-{
-    match check_fields(f) {
-        Checked::Refused(number, place) => Written::Refused(number, place),
-        Checked::Fine => write_words(f, out),
-    }
 }

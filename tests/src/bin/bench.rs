@@ -1,11 +1,11 @@
 //! The proved solver and the independent one, both built for release, in one run on the same tables.
-//! The ratio is that of the proved solver to the independent one with the same flat search; what the
-//! independent boundary search takes stands beside them.
+//! The ratio is that of the proved solver to the better of the two independent searches (boundary);
+//! what the other (flat) takes stands beside them.
 //!
 //! `cargo run --release --bin bench [PLOT.svg]` prints a table of medians and ratios and writes a
-//! plot of time against n (docs/benchmark.svg unless named). Both sides read the table's words and
-//! write the card; the proved side also zeroes its work buffer, as its contract says. Buffers are not
-//! cleared before a call. Answers are compared before anything is timed. What is measured is the
+//! plot of time against n (docs/benchmark.svg unless named). Both sides read the table's words, write
+//! the card and zero the lent work words, as document 01 says. Buffers are not cleared before a call.
+//! Answers are compared before anything is timed. What is measured is the
 //! processor time of the thread, the two sides in turn, so that a busy machine does little harm.
 
 use kirdanzug_tests::archive;
@@ -123,9 +123,10 @@ fn rows_at_twelve() -> Vec<Tables> {
 /// The words that both sides answer and write must be the same.
 fn compare_answers(table: &[u32], work: &mut [u32], solver: &mut fast::Solver) -> [u64; 3] {
     let (mut theirs, mut ours) = (vec![0; CARD_ROOM], vec![0; CARD_ROOM]);
+    let mut other_work = vec![0; work.len()];
     let mut answer = [9; 3];
     archive::solve(table, work, &mut theirs, &mut answer);
-    let expected = match solver.solve(table, &mut ours) {
+    let expected = match solver.solve(table, &mut other_work, &mut ours) {
         fast::Verdict::Yes { index, cells } => [0, index.into(), cells as u64],
         fast::Verdict::No { round } => [1, round.into(), 0],
         fast::Verdict::Refused { number, place } => [2, number.into(), place as u64],
@@ -151,6 +152,7 @@ fn measure_solve(tables: &[Vec<u32>]) -> (Medians, String) {
     });
     let answers: Vec<[u64; 3]> = tables.iter().map(|table| compare_answers(table, &mut work, &mut flat)).collect();
     let [mut card, mut flat_card, mut boundary_card] = [(); 3].map(|_| vec![0u32; CARD_ROOM]);
+    let [mut flat_work, mut boundary_work] = [(); 2].map(|_| work.clone());
     let mut rattle = || {
         for table in tables {
             let mut answer = [0; 3];
@@ -158,14 +160,14 @@ fn measure_solve(tables: &[Vec<u32>]) -> (Medians, String) {
             black_box(answer);
         }
     };
-    let mut rust = || solve_all(&mut flat, tables, &mut flat_card);
-    let mut other = || solve_all(&mut boundary, tables, &mut boundary_card);
+    let mut rust = || solve_all(&mut boundary, tables, &mut boundary_work, &mut boundary_card);
+    let mut other = || solve_all(&mut flat, tables, &mut flat_work, &mut flat_card);
     (measure(tables.len(), &mut [&mut rattle, &mut rust, &mut other]), describe(&answers))
 }
 
-fn solve_all(solver: &mut fast::Solver, tables: &[Vec<u32>], card: &mut [u32]) {
+fn solve_all(solver: &mut fast::Solver, tables: &[Vec<u32>], work: &mut [u32], card: &mut [u32]) {
     for table in tables {
-        black_box(solver.solve(black_box(table), card));
+        black_box(solver.solve(black_box(table), work, card));
     }
 }
 
@@ -228,7 +230,7 @@ fn random_antichain(rng: &mut Rng, length: usize) -> Vec<u32> {
 // ---- What is printed ---------------------------------------------------------------------------
 
 fn print_head() {
-    println!("| input | what | Rattle µs | Rust µs | ratio | Rust, boundary search µs |");
+    println!("| input | what | Rattle µs | Rust µs | ratio | Rust, flat search µs |");
     println!("|---|---|--:|--:|--:|--:|");
 }
 
@@ -243,7 +245,7 @@ fn main() {
         || PathBuf::from(env!("CARGO_MANIFEST_DIR")).join("../docs/benchmark.svg"),
         PathBuf::from,
     );
-    println!("Median of {SAMPLES} measurements, per call; ratio is Rattle over Rust (flat search). Seed {}.\n", seed());
+    println!("Median of {SAMPLES} measurements, per call; ratio is Rattle over Rust. Seed {}.\n", seed());
     print_head();
     let mut ratios = Vec::new();
     for row in rows_at_twelve() {

@@ -13,7 +13,7 @@ use Rattle.games.specs.Words.{game}
 use Rattle.tables.proofs.Checks.{sized, accepted}
 use borrow.Fn.Kinds.{In}
 use borrow.Fn.PlainCycle.{Measures, is, falls, and}
-use Rattle.judge.proofs.Turns.{no-round, empty-good, bad-member, action-meets, action-fails, no-action, goodIn, action-blocked, asked, observation-good, observation-fails, all-observations}
+use Rattle.judge.proofs.Turns.{no-round, empty-good, bad-member, action-meets, action-fails, no-action, goodIn, action-blocked, last-round, asked, observation-good, observation-fails, all-observations}
 use Rattle.judge.proofs.action_turn.Reads as action-turn
 use Rattle.judge.proofs.action_turn.Kinds as action-turn-kinds
 use Rattle.judge.proofs.+action_turn+observation_turn.Lts-action_turn as action-turn-lts
@@ -149,30 +149,35 @@ pub +action-turn+observation-turn-spec : {M : Type 1} → statement M
     let walked = c .before .before in
     let x = walked .before .before .args in
     action-blocked (game (x .table .now)) (good (game (x .table .now)) (x .k)) (x .s) (x .a .0) (cc))
-    (λ c κs. let begun = c .before .before .before .before .before in sized (begun .args .table .now) (begun .pre .1 .0))
     (λ c.
     let u = c .before .before in
-    let x = u .before .before .before .before .args in
-    (search needs, all-zero (goodIn (game (x .table .now)) (x .k) (u .u .given .0 .0))))
-    (λ c κs. let begun = c .before .before .before .before .before .before .before .before in (sized (begun .args .table .now) (begun .pre .1 .0), search needs))
-    (λ c κs. search needs)
-    (λ c κs. search needs)
-    (λ c.
-    let at = c .before .before .before .before .before in
-    let u = at .before .before .before in
     let walked = u .before .before in
     let x = walked .before .before .args in
-    observation-fails (game (x .table .now)) (x .k) (x .s) (x .a .0) (u .u .given .0 .0) (at .loop .o) (sym (walked .walk .ensures) ∙ u .u .given .1) (search needs) (asked (game (x .table .now)) (x .k) (u .u .given .0 .0) (at .loop .o) _ _ (c .before .before .before .shown .ensures) (c .before .before .common .ensures) (c .before .action-turn .ensures) (not-true (c .before .action-turn .result) (c .if1 .taken))))
+    last-round (game (x .table .now)) (x .k) (x .s) (x .a .0) (u .u .given .0 .0) (sym (walked .walk .ensures) ∙ u .u .given .1) (c .if1 .taken))
+    (λ c κs. let begun = c .before .before .before .before .before .before in sized (begun .args .table .now) (begun .pre .1 .0))
+    (λ c.
+    let u = c .before .before .before in
+    let x = u .before .before .before .before .args in
+    (search needs, all-zero (goodIn (game (x .table .now)) (x .k) (u .u .given .0 .0))))
+    (λ c κs. let begun = c .before .before .before .before .before .before .before .before .before in (sized (begun .args .table .now) (begun .pre .1 .0), search needs))
+    (λ c κs. search needs)
+    (λ c κs. search needs)
+    (λ c.
+    let at = c .before .before .before .before .before in
+    let u = at .before .before .before .before in
+    let walked = u .before .before in
+    let x = walked .before .before .args in
+    observation-fails (game (x .table .now)) (x .k) (x .s) (x .a .0) (u .u .given .0 .0) (at .loop .o) (sym (walked .walk .ensures) ∙ u .u .given .1) (search needs) (asked (game (x .table .now)) (x .k) (u .u .given .0 .0) (at .loop .o) _ _ (c .before .before .before .shown .ensures) (c .before .before .common .ensures) (c .before .action-turn .ensures) (not-true (c .before .action-turn .result) (c .if2 .taken))))
     (λ c. search needs)
     (λ c. search needs)
     (λ c.
     let at = c .before .before .before .before .before in
-    let u = at .before .before .before in
+    let u = at .before .before .before .before in
     let x = u .before .before .before .before .args in
-    (search needs, observation-good (game (x .table .now)) (x .k) (u .u .given .0 .0) (at .loop .o) (at .loop .inv .1) (asked (game (x .table .now)) (x .k) (u .u .given .0 .0) (at .loop .o) _ _ (c .before .before .before .shown .ensures) (c .before .before .common .ensures) (c .before .action-turn .ensures) (not-false (c .before .action-turn .result) (c .if1 .left)))))
+    (search needs, observation-good (game (x .table .now)) (x .k) (u .u .given .0 .0) (at .loop .o) (at .loop .inv .1) (asked (game (x .table .now)) (x .k) (u .u .given .0 .0) (at .loop .o) _ _ (c .before .before .before .shown .ensures) (c .before .before .common .ensures) (c .before .action-turn .ensures) (not-false (c .before .action-turn .result) (c .if2 .left)))))
     (λ c.
     let at = c .before in
-    let u = at .before .before .before in
+    let u = at .before .before .before .before in
     let walked = u .before .before in
     let x = walked .before .before .args in
     let e : at .loop .o ≡ game (x .table .now) .observations = omega arith in

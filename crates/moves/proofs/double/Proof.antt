@@ -1,13 +1,9 @@
 use borrow.Author.Needs.{needs}
-use mathlib.Core.Path.{_≡_, refl, sym, _∙_}
-use Prim.Native.Nat.{ℕ, _+_, _≤_, _-_}
-use native.Mathlib.Omega.{arith}
-use lib.ListN.{length}
+use mathlib.Core.Path.{refl}
+use Prim.Native.Nat.{_-_}
 use Rattle.moves.proofs.Halving.{Doubling, doubling-none, doubling-more, doubling-end}
 use Rattle.moves.proofs.double.Statement.{statement}
 use Rattle.moves.proofs.double.Tie as tie
-use Rattle.moves.proofs.double.Reads as reads
-use Rattle.moves.proofs.double.Lts as lts
 
 abbrev Inv-loop : tie.InvT-loop
 Inv-loop half₀ size w x₀ half x = Doubling size w x half₀ half

@@ -1,6 +1,5 @@
-use mathlib.Core.Path.{_≡_, sym, ap, ap₂, _∙_, subst}
+use mathlib.Core.Path.{ap, _∙_, subst}
 use Prim.Native.Nat.{ℕ, _-_, min}
-use mathlib.Core.List.{List}
 use native.Mathlib.Omega.{arith}
 use Rattle.games.specs.Words.{game}
 use Rattle.tables.proofs.Checks.{sized}
@@ -9,11 +8,6 @@ use Rattle.moves.proofs.Halving.{few-states, sides-tabled}
 use borrow.Author.Needs.{needs}
 use Rattle.moves.proofs.fill.Statement.{statement}
 use Rattle.moves.proofs.fill.Tie as tie
-use Rattle.moves.proofs.fill.Reads as reads
-use Rattle.moves.proofs.fill.Lts as lts
-use Rattle.moves.proofs.fill_side.Reads as fill-side-reads
-use Rattle.moves.proofs.low_states.Reads as low-states-reads
-use Rattle.tables.proofs.states.Reads as states-reads
 
 states-requires : tie.Need-states-requires
 states-requires c κs = sized (c .before .before .before .args .table .now) (c .before .before .before .pre .0)

@@ -1,15 +1,11 @@
 use borrow.Author.Needs.{needs}
-use mathlib.Core.Path.{_≡_, refl, sym, _∙_}
-use Prim.Native.Nat.{ℕ, _+_, _≤_, _-_}
+use mathlib.Core.Path.{sym, _∙_}
+use Prim.Native.Nat.{_-_}
 use native.Mathlib.Omega.{arith}
 use lib.ListN.{length}
 use Rattle.moves.proofs.Halving.{Halving, halving-none, halving-more, halving-end, halving-room}
 use Rattle.moves.proofs.fill_half.Statement.{statement}
 use Rattle.moves.proofs.fill_half.Tie as tie
-use Rattle.moves.proofs.fill_half.Reads as reads
-use Rattle.moves.proofs.fill_half.Lts as lts
-use Rattle.moves.proofs.double.Reads as double-reads
-use Rattle.moves.proofs.mark_word.Reads as mark-word-reads
 
 abbrev Inv-loop : tie.InvT-loop
 Inv-loop half₀ moves size₀ i₀ half size i = Halving moves i size half

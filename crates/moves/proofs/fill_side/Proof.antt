@@ -1,23 +1,18 @@
 use borrow.Author.Needs.{needs}
-use mathlib.Core.Path.{_≡_, refl, sym, ap, _∙_, subst}
-use Prim.Native.Nat.{ℕ, _+_, _*_, _≤_, _<_, _-_}
+use mathlib.Core.Path.{_≡_, sym, _∙_, subst}
+use Prim.Native.Nat.{ℕ, _+_, _≤_, _<_, _-_}
 use native.Mathlib.Omega.{arith}
-use lib.ListN.{length, take, drop}
+use Rattle.games.specs.Format.{maxActions}
 use Rattle.games.specs.Words.{game}
 use Rattle.tables.proofs.Checks.{sized}
 use Rattle.tables.proofs.Bounds.{table-short}
-use Rattle.moves.specs.Halves.{Sided}
+use Rattle.moves.specs.Halves.{halfStates, Sided}
 use Rattle.moves.proofs.Halving.{few-actions, sided-none, sided-more, row-inside, part-length, side-length, part-marks}
 use Rattle.moves.proofs.fill_side.Statement.{statement}
 use Rattle.moves.proofs.fill_side.Tie as tie
-use Rattle.moves.proofs.fill_side.Reads as reads
-use Rattle.moves.proofs.fill_side.Lts as lts
-use Rattle.moves.proofs.fill_half.Reads as fill-half-reads
-use Rattle.tables.proofs.actions.Reads as actions-reads
-use Rattle.tables.proofs.row.Reads as row-reads
 
 abbrev Inv-loop : tie.InvT-loop
-Inv-loop table side₀ first count actions a₀ side a = (a ≤ actions) × (actions ≤ 8) × Sided (game table) first count a side
+Inv-loop table side₀ first count actions a₀ side a = (a ≤ actions) × (actions ≤ maxActions) × Sided (game table) first count a side
 
 abbrev μ-loop : tie.MeasureT-loop
 μ-loop table side₀ first count actions a₀ side a = actions - a
@@ -77,7 +72,7 @@ fill-half-requires : tie.Need-fill-half-requires Inv-loop μ-loop
 fill-half-requires c κs =
     let at = c .before .before .before .before .before in (
       side-length (at .loop .side) (at .loop .a) (at .loop .inv .2 .size) (omega (arith, at .loop .inv .1, c .before .before .before .before .loop-test .taken)),
-      subst (λ (n : ℕ). n ≤ 6) (sym (part-length (at .before .before .before .before .args .table .now) (c .before .before .row .result + at .before .before .before .before .args .first) (at .before .before .before .before .args .count) (omega (arith, c .before .before .row .ensures, row-inside (at .before .before .before .before .args .table .now) (sized (at .before .before .before .before .args .table .now) (at .before .before .before .before .pre .0)) (at .loop .a) (at .before .before .before .before .args .first) (at .before .before .before .before .args .count) (subst (λ (n : ℕ). at .loop .a < n) (at .before .actions .ensures) (c .before .before .before .before .loop-test .taken)) (at .before .before .before .before .pre .2), table-short (at .before .before .before .before .args .table .now) (sized (at .before .before .before .before .args .table .now) (at .before .before .before .before .pre .0)))))) (at .before .before .before .before .pre .3),
+      subst (λ (n : ℕ). n ≤ halfStates) (sym (part-length (at .before .before .before .before .args .table .now) (c .before .before .row .result + at .before .before .before .before .args .first) (at .before .before .before .before .args .count) (omega (arith, c .before .before .row .ensures, row-inside (at .before .before .before .before .args .table .now) (sized (at .before .before .before .before .args .table .now) (at .before .before .before .before .pre .0)) (at .loop .a) (at .before .before .before .before .args .first) (at .before .before .before .before .args .count) (subst (λ (n : ℕ). at .loop .a < n) (at .before .actions .ensures) (c .before .before .before .before .loop-test .taken)) (at .before .before .before .before .pre .2), table-short (at .before .before .before .before .args .table .now) (sized (at .before .before .before .before .args .table .now) (at .before .before .before .before .pre .0)))))) (at .before .before .before .before .pre .3),
     )
 
 add-a : tie.Need-add-a Inv-loop μ-loop

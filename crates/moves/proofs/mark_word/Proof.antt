@@ -1,10 +1,6 @@
-use mathlib.Core.Path.{_≡_, sym, ap}
-use mathlib.Core.Bool.{Bool, cond}
 use borrow.Author.Tests.{eq-eqb, ne-eqb}
 use Rattle.moves.proofs.mark_word.Statement.{statement}
 use Rattle.moves.proofs.mark_word.Tie as tie
-use Rattle.moves.proofs.mark_word.Reads as reads
-use Rattle.moves.proofs.mark_word.Lts as lts
 
 returns : tie.Need-returns
 returns c = simp (eq-eqb _ _ (c .if1 .taken))

@@ -5,8 +5,6 @@ use Rattle.moves.proofs.Halving.{few-actions, few-states, high-small, w
 use borrow.Author.Needs.{needs}
 use Rattle.moves.proofs.post.Statement.{statement}
 use Rattle.moves.proofs.post.Tie as tie
-use Rattle.moves.proofs.post.Reads as reads
-use Rattle.moves.proofs.post.Lts as lts
 
 mul-at : tie.Need-mul-at
 mul-at c = omega (arith, few-actions (c .before .args .table .now) (c .before .pre .0), c .before .pre .3)

@@ -1,7 +1,6 @@
 -- `runner::move_on` meets its contract.
 -- Assumes nothing.
 use borrow.Author.Needs.{needs}
-use denote.Ref.{now}
 use Rattle.runner.proofs.Laws.{opens, steps}
 use Rattle.runner.proofs.move_on.Statement.{statement}
 use Rattle.runner.proofs.move_on.Tie as tie

@@ -1,6 +1,6 @@
 use borrow.Author.Needs.{needs}
 use mathlib.Core.Path.{_≡_, sym, ap, _∙_}
-use Prim.Native.Nat.{ℕ, _+_, _≤_, _-_}
+use Prim.Native.Nat.{ℕ, _≤_, _-_}
 use native.Mathlib.Omega.{arith}
 use lib.ListN.{length, take, length-set}
 use lib.Seq.{take-all}
@@ -8,9 +8,6 @@ use Rattle.solve.specs.Bytes.{wordsOf}
 use Rattle.solve.proofs.Decoding.{words-none, words-more}
 use Rattle.solve.proofs.decode.Statement.{statement}
 use Rattle.solve.proofs.decode.Tie as tie
-use Rattle.solve.proofs.decode.Reads as reads
-use Rattle.solve.proofs.decode.Lts as lts
-use Rattle.solve.proofs.word_at.Reads as word-at-reads
 
 abbrev Inv-loop : tie.InvT-loop
 Inv-loop bytes words₀ i₀ words i = (i ≤ length words₀) × (length words ≡ length words₀) × (take i words ≡ wordsOf i bytes)

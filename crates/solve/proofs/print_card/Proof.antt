@@ -1,16 +1,12 @@
 use borrow.Author.Needs.{needs}
-use mathlib.Core.Path.{_≡_, sym}
-use Prim.Native.Nat.{ℕ, _+_, _*_, _≤_, _-_}
+use mathlib.Core.Path.{sym}
+use Prim.Native.Nat.{_≤_, _-_}
 use native.Mathlib.Omega.{arith}
 use lib.ListN.{length}
 use lib.Seq.{length-take-le}
 use Rattle.solve.proofs.Decoding.{part-inside}
 use Rattle.solve.proofs.print_card.Statement.{statement}
 use Rattle.solve.proofs.print_card.Tie as tie
-use Rattle.solve.proofs.print_card.Reads as reads
-use Rattle.solve.proofs.print_card.Lts as lts
-use Rattle.solve.proofs.print_front.Reads as print-front-reads
-use Rattle.solve.proofs.print_part.Reads as print-part-reads
 
 abbrev Inv-loop : tie.InvT-loop
 Inv-loop card part m c₀ c = c ≤ m

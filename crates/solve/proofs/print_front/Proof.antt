@@ -3,9 +3,6 @@ use Prim.Native.Nat.{_-_}
 use lib.ListN.{length}
 use Rattle.solve.proofs.print_front.Statement.{statement}
 use Rattle.solve.proofs.print_front.Tie as tie
-use Rattle.solve.proofs.print_front.Reads as reads
-use Rattle.solve.proofs.print_front.Lts as lts
-use Rattle.solve.proofs.print_first.Reads as print-first-reads
 
 abbrev Inv-loop : tie.InvT-loop
 Inv-loop front j₀ j = Unit {0}

@@ -3,10 +3,6 @@ use Prim.Native.Nat.{_-_}
 use lib.ListN.{length}
 use Rattle.solve.proofs.print_part.Statement.{statement}
 use Rattle.solve.proofs.print_part.Tie as tie
-use Rattle.solve.proofs.print_part.Reads as reads
-use Rattle.solve.proofs.print_part.Lts as lts
-use Rattle.solve.proofs.print_cell.Reads as print-cell-reads
-use Rattle.solve.proofs.print_next.Reads as print-next-reads
 
 abbrev Inv-loop : tie.InvT-loop
 Inv-loop c part j₀ j = Unit {0}

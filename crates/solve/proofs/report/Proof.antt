@@ -6,13 +6,6 @@ use Rattle.solve.proofs.Decoding.{card-inside}
 use borrow.Author.Needs.{needs}
 use Rattle.solve.proofs.report.Statement.{statement}
 use Rattle.solve.proofs.report.Tie as tie
-use Rattle.solve.proofs.report.Reads as reads
-use Rattle.solve.proofs.report.Lts as lts
-use Rattle.solve.proofs.print_card.Reads as print-card-reads
-use Rattle.solve.proofs.print_no.Reads as print-no-reads
-use Rattle.solve.proofs.print_refusal.Reads as print-refusal-reads
-use Rattle.solve.proofs.print_yes.Reads as print-yes-reads
-use Rattle.solver.proofs.solve.Reads as solve-reads
 
 solve-requires : tie.Need-solve-requires
 solve-requires c κs = search needs

@@ -1,4 +1,4 @@
-use mathlib.Core.Path.{_≡_, sym, ap, _∙_}
+use mathlib.Core.Path.{sym, ap, _∙_}
 use Prim.Native.Nat.{ℕ, _*_, _/_}
 use native.Mathlib.Omega.{arith}
 use lib.ListN.{length, drop, length-append}
@@ -6,12 +6,6 @@ use lib.Seq.{length-take-le}
 use borrow.Author.Needs.{needs}
 use Rattle.solve.proofs.run.Statement.{statement}
 use Rattle.solve.proofs.run.Tie as tie
-use Rattle.solve.proofs.run.Reads as reads
-use Rattle.solve.proofs.run.Lts as lts
-use Rattle.solve.proofs.decode.Reads as decode-reads
-use Rattle.solve.proofs.report.Reads as report-reads
-use Rattle.solve.proofs.room.Reads as room-reads
-use Rattle.solve.proofs.words_room.Reads as words-room-reads
 
 words-room-requires : tie.Need-words-room-requires
 words-room-requires c κs = search needs

@@ -1,5 +1,5 @@
-use mathlib.Core.Path.{_≡_, sym, _∙_, subst}
-use Prim.Native.Nat.{ℕ, _+_, _*_, _≤_}
+use mathlib.Core.Path.{subst}
+use Prim.Native.Nat.{ℕ, _≤_}
 use native.Mathlib.Nat.{le-refl}
 use native.Mathlib.Omega.{arith}
 use lib.ListN.{length}
@@ -10,13 +10,9 @@ use Rattle.solver.proofs.Answers.{granted-short, granted-written}
 use borrow.Author.Needs.{needs}
 use Rattle.solver.proofs.grant.Statement.{statement}
 use Rattle.solver.proofs.grant.Tie as tie
-use Rattle.solver.proofs.grant.Reads as reads
-use Rattle.solver.proofs.grant.Lts as lts
-use Rattle.solver.proofs.write_card.Reads as write-card-reads
-use Rattle.tables.proofs.observations.Reads as observations-reads
 
 observations-requires : tie.Need-observations-requires
-observations-requires c κs = sized (c .before .before .before .args .table .now) (c .before .before .before .pre .0)
+observations-requires c κs = sized (c .before .before .before .before .before .before .before .args .table .now) (c .before .before .before .before .before .before .before .pre .0)
 
 cast-part : tie.Need-cast-part
 cast-part c = search needs
@@ -25,31 +21,31 @@ add-part : tie.Need-add-part
 add-part c = search needs
 
 mul-need : tie.Need-mul-need
-mul-need c = omega (arith, parts-few (c .observations .result) (length (c .before .before .before .before .args .cells .now)) (length (c .before .before .before .before .args .cells .now)) (omega (arith, c .observations .ensures, observations-at-most (c .before .before .before .before .args .table .now) (c .before .before .before .before .pre .0))) (cells-at-most (c .before .before .before .before .args .table .now) (c .before .before .before .before .pre .0) (c .before .before .before .before .args .cells .now) (c .before .before .before .before .pre .1)) (le-refl (length (c .before .before .before .before .args .cells .now))))
+mul-need c = omega (arith, parts-few (c .observations .result) (length (c .before .before .before .before .before .before .before .before .args .cells .now)) (length (c .before .before .before .before .before .before .before .before .args .cells .now)) (omega (arith, c .observations .ensures, observations-at-most (c .before .before .before .before .before .before .before .before .args .table .now) (c .before .before .before .before .before .before .before .before .pre .0))) (cells-at-most (c .before .before .before .before .before .before .before .before .args .table .now) (c .before .before .before .before .before .before .before .before .pre .0) (c .before .before .before .before .before .before .before .before .args .cells .now) (c .before .before .before .before .before .before .before .before .pre .1)) (le-refl (length (c .before .before .before .before .before .before .before .before .args .cells .now))))
 
 add-need : tie.Need-add-need
-add-need c = omega (arith, c .observations .ensures, observations-at-most (c .before .before .before .before .args .table .now) (c .before .before .before .before .pre .0), parts-few (c .observations .result) (length (c .before .before .before .before .args .cells .now)) (length (c .before .before .before .before .args .cells .now)) (omega (arith, c .observations .ensures, observations-at-most (c .before .before .before .before .args .table .now) (c .before .before .before .before .pre .0))) (cells-at-most (c .before .before .before .before .args .table .now) (c .before .before .before .before .pre .0) (c .before .before .before .before .args .cells .now) (c .before .before .before .before .pre .1)) (le-refl (length (c .before .before .before .before .args .cells .now))))
+add-need c = omega (arith, c .observations .ensures, observations-at-most (c .before .before .before .before .before .before .before .before .args .table .now) (c .before .before .before .before .before .before .before .before .pre .0), parts-few (c .observations .result) (length (c .before .before .before .before .before .before .before .before .args .cells .now)) (length (c .before .before .before .before .before .before .before .before .args .cells .now)) (omega (arith, c .observations .ensures, observations-at-most (c .before .before .before .before .before .before .before .before .args .table .now) (c .before .before .before .before .before .before .before .before .pre .0))) (cells-at-most (c .before .before .before .before .before .before .before .before .args .table .now) (c .before .before .before .before .before .before .before .before .pre .0) (c .before .before .before .before .before .before .before .before .args .cells .now) (c .before .before .before .before .before .before .before .before .pre .1)) (le-refl (length (c .before .before .before .before .before .before .before .before .args .cells .now))))
 
 returns : tie.Need-returns
 returns c =
-    let start = c .before .before .before .before .before in
+    let start = c .before .before .before .before .before .before .before .before .before in
     granted-short (game (start .args .table .now)) (start .args .card .now) (start .args .settled) (length (start .args .cells .now)) _ (needed (game (start .args .table .now)) (length (start .args .cells .now)) (c .before .observations .result) (c .before .observations .ensures)) (c .if1 .taken)
 
 write-card-requires : tie.Need-write-card-requires
 write-card-requires c κs =
-    let start = c .before .before .before .before .before .before in
-    (start .pre .0, start .pre .1, subst (λ (n : ℕ). n ≤ length (start .args .card .now)) (needed (game (start .args .table .now)) (length (start .args .cells .now)) (c .before .before .observations .result) (c .before .before .observations .ensures)) (c .before .if1 .left))
+    let start = c .before .before .before .before .before .before .before .before .before .before in
+    (start .pre .0, start .pre .1, subst (λ (n : ℕ). n ≤ length (start .args .card .now)) (needed (game (start .args .table .now)) (length (start .args .cells .now)) (c .before .before .observations .result) (c .before .before .observations .ensures)) (c .before .if1 .left), start .pre .2, start .pre .3)
 
-cast-t8 : tie.Need-cast-t8
-cast-t8 c = omega (arith, cells-at-most (c .before .before .before .before .before .before .before .before .before .args .table .now) (c .before .before .before .before .before .before .before .before .before .pre .0) (c .before .before .before .before .before .before .before .before .before .args .cells .now) (c .before .before .before .before .before .before .before .before .before .pre .1))
+cast-t12 : tie.Need-cast-t12
+cast-t12 c = omega (arith, cells-at-most (c .before .before .before .before .before .before .before .before .before .before .before .before .before .args .table .now) (c .before .before .before .before .before .before .before .before .before .before .before .before .before .pre .0) (c .before .before .before .before .before .before .before .before .before .before .before .before .before .args .cells .now) (c .before .before .before .before .before .before .before .before .before .before .before .before .before .pre .1))
 
 same-length : tie.Need-same-length
 same-length c = search needs
 
 returns-2 : tie.Need-returns-2
 returns-2 c =
-    let start = c .before .before .before .before .before .before .before .before .before in
-    granted-written (game (start .args .table .now)) (start .args .card .now) (start .args .settled) (length (start .args .cells .now)) _ (needed (game (start .args .table .now)) (length (start .args .cells .now)) (c .before .before .before .before .before .observations .result) (c .before .before .before .before .before .observations .ensures)) (c .before .before .before .before .if1 .left) (c .before .before .write-card .last .1 .1 .0) (c .before .before .write-card .ensures)
+    let start = c .before .before .before .before .before .before .before .before .before .before .before .before .before in
+    granted-written (game (start .args .table .now)) (start .args .card .now) (start .args .settled) (length (start .args .cells .now)) _ (needed (game (start .args .table .now)) (length (start .args .cells .now)) (c .before .before .before .before .before .observations .result) (c .before .before .before .before .before .observations .ensures)) (c .before .before .before .before .if1 .left) (c .before .before .write-card .last .1 .1 .1 .1 .1 .1 .0) (c .before .before .write-card .ensures)
 
 pub grant-spec : {M : Type 1} → statement M
 grant-spec =
@@ -62,6 +58,6 @@ grant-spec =
     add-need
     returns
     write-card-requires
-    cast-t8
+    cast-t12
     same-length
     returns-2)

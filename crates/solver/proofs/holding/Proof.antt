@@ -1,7 +1,7 @@
 use borrow.Author.Needs.{needs}
 use borrow.Author.Tests.{eq-eqb, ne-eqb}
-use mathlib.Core.Path.{_≡_, sym, _∙_}
-use Prim.Native.Nat.{_≤_, _<_, _-_}
+use mathlib.Core.Path.{_≡_}
+use Prim.Native.Nat.{_≤_, _-_}
 use native.Mathlib.Omega.{arith}
 use lib.ListN.{length}
 use Rattle.sets.specs.Bounded.{first, nothing}
@@ -9,8 +9,6 @@ use Rattle.sets.proofs.Bounded.{first-zero, first-skip}
 use Rattle.solver.proofs.Words.{holdsAt, holding-empty, holding-first, holding-at}
 use Rattle.solver.proofs.holding.Statement.{statement}
 use Rattle.solver.proofs.holding.Tie as tie
-use Rattle.solver.proofs.holding.Reads as reads
-use Rattle.solver.proofs.holding.Lts as lts
 
 abbrev Inv-loop : tie.InvT-loop
 Inv-loop cells s i₀ i = (i ≤ length cells) × (first i (holdsAt cells s) ≡ nothing)

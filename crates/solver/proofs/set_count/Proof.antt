@@ -1,5 +1,5 @@
 use borrow.Author.Needs.{needs}
-use mathlib.Core.Path.{_≡_, _∙_}
+use mathlib.Core.Path.{_∙_}
 use native.Mathlib.Nat.{mod-eq-of-lt, one-mul}
 use native.Mathlib.Omega.{arith}
 use Prim.Native.Nat.{_^_}

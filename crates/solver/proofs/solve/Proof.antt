@@ -1,23 +1,17 @@
-use mathlib.Core.Path.{_≡_, sym, ap, _∙_, subst}
+use mathlib.Core.Path.{sym, ap, _∙_, subst}
 use Prim.Native.Nat.{ℕ, _*_, _≤_}
 use native.Mathlib.Omega.{arith}
-use lib.ListN.{length, take}
 use lib.Seq.{length-take-le}
+use Rattle.games.specs.Format.{maxStates}
 use Rattle.games.specs.Words.{game}
 use Rattle.tables.proofs.Checks.{sized}
-use Rattle.solver.proofs.Turns.{few-states, sets-few, size-is}
+use Rattle.search.proofs.Turns.{few-states, sets-few}
+use Rattle.solver.proofs.Words.{size-is}
 use Rattle.solver.proofs.Answers.{solved-stopped, solved-short, solved-done, cleared}
 use Rattle.solver.proofs.Promises.{promised}
 use borrow.Author.Needs.{needs}
 use Rattle.solver.proofs.solve.Statement.{statement}
 use Rattle.solver.proofs.solve.Tie as tie
-use Rattle.solver.proofs.solve.Reads as reads
-use Rattle.solver.proofs.solve.Lts as lts
-use Rattle.sets.proofs.fill.Reads as fill-reads
-use Rattle.solver.proofs.decide.Reads as decide-reads
-use Rattle.solver.proofs.set_count.Reads as set-count-reads
-use Rattle.tables.proofs.check.Reads as check-reads
-use Rattle.tables.proofs.states.Reads as states-reads
 
 check-requires : tie.Need-check-requires
 check-requires c κs = search needs
@@ -38,7 +32,7 @@ states-requires : tie.Need-states-requires
 states-requires c κs = let start = c .before .before .before .before .before .before in sized (start .args .table .now) (sym (c .before .before .check .ensures) ∙ c .enum-told .given .1)
 
 set-count-requires : tie.Need-set-count-requires
-set-count-requires c κs = let start = c .before .before .before .before .before .before .before in subst (λ (m : ℕ). m ≤ 12) (sym (c .states .ensures)) (few-states (start .args .table .now) (sized (start .args .table .now) (sym (c .before .before .before .check .ensures) ∙ c .before .enum-told .given .1)))
+set-count-requires c κs = let start = c .before .before .before .before .before .before .before in subst (λ (m : ℕ). m ≤ maxStates) (sym (c .states .ensures)) (few-states (start .args .table .now) (sized (start .args .table .now) (sym (c .before .before .before .check .ensures) ∙ c .before .enum-told .given .1)))
 
 mul-need : tie.Need-mul-need
 mul-need c =

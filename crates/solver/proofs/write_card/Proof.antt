@@ -1,45 +1,41 @@
 use borrow.Author.Needs.{needs}
-use mathlib.Core.Path.{_≡_, sym, ap, _∙_, subst}
+use mathlib.Core.Path.{sym, ap, _∙_}
 use mathlib.Core.List.{_++_}
-use Prim.Native.Nat.{ℕ, _+_, _*_, _≤_, _<_, _-_}
+use Prim.Native.Nat.{ℕ, _+_, _≤_, _-_}
 use lib.Seq.{length-take-le}
+use Rattle.games.specs.Format.{maxCells}
 use Rattle.solver.proofs.Carding.{Carded, carded-none, carded-room, carded-part, carded-more, carded-end, front-room, fronted-same, carded-whole, prefix-room, parts-few, observations-at-most, cells-at-most, cell-of}
 use native.Mathlib.Omega.{arith}
-use lib.ListN.{length, take, drop}
+use lib.ListN.{length, drop}
 use Rattle.games.specs.Words.{game}
 use Rattle.tables.proofs.Checks.{sized, accepted}
 use Rattle.solver.proofs.write_card.Statement.{statement}
 use Rattle.solver.proofs.write_card.Tie as tie
-use Rattle.solver.proofs.write_card.Reads as reads
-use Rattle.solver.proofs.write_card.Lts as lts
-use Rattle.solver.proofs.write_cell.Reads as write-cell-reads
-use Rattle.solver.proofs.write_front.Reads as write-front-reads
-use Rattle.tables.proofs.observations.Reads as observations-reads
 
 abbrev Inv-loop : tie.InvT-loop
-Inv-loop table cells card₀ part c₀ card c = (part ≤ 9) × (length cells ≤ 4096) × Carded (game table) cells part card₀ c card
+Inv-loop table low high family starts cells card₀ part c₀ card c = (part ≤ 9) × (length cells ≤ maxCells) × Carded (game table) cells part card₀ c card
 
 abbrev μ-loop : tie.MeasureT-loop
-μ-loop table cells card₀ part c₀ card c = length cells - c
+μ-loop table low high family starts cells card₀ part c₀ card c = length cells - c
 
 observations-requires : tie.Need-observations-requires Inv-loop μ-loop
-observations-requires c κs = sized (c .before .before .before .args .table .now) (c .before .before .before .pre .0)
+observations-requires c κs = sized (c .before .before .before .before .before .before .before .args .table .now) (c .before .before .before .before .before .before .before .pre .0)
 
 cast-part : tie.Need-cast-part Inv-loop μ-loop
-cast-part c = omega (arith, c .observations .ensures, observations-at-most (c .before .before .before .before .args .table .now) (c .before .before .before .before .pre .0))
+cast-part c = omega (arith, c .observations .ensures, observations-at-most (c .before .before .before .before .before .before .before .before .args .table .now) (c .before .before .before .before .before .before .before .before .pre .0))
 
 add-part : tie.Need-add-part Inv-loop μ-loop
-add-part c = omega (arith, c .observations .ensures, observations-at-most (c .before .before .before .before .args .table .now) (c .before .before .before .before .pre .0))
+add-part c = omega (arith, c .observations .ensures, observations-at-most (c .before .before .before .before .before .before .before .before .args .table .now) (c .before .before .before .before .before .before .before .before .pre .0))
 
 slice-relend-prefix-write-front : tie.Need-slice-relend-prefix-write-front Inv-loop μ-loop
-slice-relend-prefix-write-front c = prefix-room (game (c .before .before .before .before .args .table .now)) (c .before .before .before .before .args .cells .now) (c .before .before .before .before .args .card .now) (c .observations .result) (c .observations .ensures) (c .before .before .before .before .pre .2)
+slice-relend-prefix-write-front c = prefix-room (game (c .before .before .before .before .before .before .before .before .args .table .now)) (c .before .before .before .before .before .before .before .before .args .cells .now) (c .before .before .before .before .before .before .before .before .args .card .now) (c .observations .result) (c .observations .ensures) (c .before .before .before .before .before .before .before .before .pre .2)
 
 slice-aggregate-write-front : tie.Need-slice-aggregate-write-front Inv-loop μ-loop
-slice-aggregate-write-front c = sym (length-take-le _ _ (prefix-room (game (c .before .before .before .before .before .args .table .now)) (c .before .before .before .before .before .args .cells .now) (c .before .before .before .before .before .args .card .now) (c .before .observations .result) (c .before .observations .ensures) (c .before .before .before .before .before .pre .2)))
+slice-aggregate-write-front c = sym (length-take-le _ _ (prefix-room (game (c .before .before .before .before .before .before .before .before .before .args .table .now)) (c .before .before .before .before .before .before .before .before .before .args .cells .now) (c .before .before .before .before .before .before .before .before .before .args .card .now) (c .before .observations .result) (c .before .observations .ensures) (c .before .before .before .before .before .before .before .before .before .pre .2)))
 
 write-front-requires : tie.Need-write-front-requires Inv-loop μ-loop
 write-front-requires c κs =
-    let start = c .before .before .before .before .before in
+    let start = c .before .before .before .before .before .before .before .before .before in
     record {
       fine = start .pre .0;
       listed = start .pre .1;
@@ -48,7 +44,7 @@ write-front-requires c κs =
 
 loop-holds : tie.Need-loop-holds Inv-loop μ-loop
 loop-holds c =
-    let start = c .before .before .before .before .before .before .before .before in
+    let start = c .before .before .before .before .before .before .before .before .before .before .before .before in
     let obs = c .before .before .before .before in
     let wf = c .before .before in (
       omega (arith, obs .observations .ensures, observations-at-most (start .args .table .now) (start .pre .0)),
@@ -58,10 +54,10 @@ loop-holds c =
     )
 
 mul-at : tie.Need-mul-at Inv-loop μ-loop
-mul-at c = omega (arith, parts-few (c .before .before .before .before .before .before .observations .result) (c .before .loop .c) (length (c .before .before .before .before .before .before .before .before .before .before .args .cells .now)) (c .before .loop .inv .0) (c .before .loop .inv .1) (c .before .loop .inv .2 .within))
+mul-at c = omega (arith, parts-few (c .before .before .before .before .before .before .observations .result) (c .before .loop .c) (length (c .before .before .before .before .before .before .before .before .before .before .before .before .before .before .args .cells .now)) (c .before .loop .inv .0) (c .before .loop .inv .1) (c .before .loop .inv .2 .within))
 
 add-at : tie.Need-add-at Inv-loop μ-loop
-add-at c = omega (arith, c .before .loop .inv .0, parts-few (c .before .before .before .before .before .before .observations .result) (c .before .loop .c) (length (c .before .before .before .before .before .before .before .before .before .before .args .cells .now)) (c .before .loop .inv .0) (c .before .loop .inv .1) (c .before .loop .inv .2 .within))
+add-at c = omega (arith, c .before .loop .inv .0, parts-few (c .before .before .before .before .before .before .observations .result) (c .before .loop .c) (length (c .before .before .before .before .before .before .before .before .before .before .before .before .before .before .args .cells .now)) (c .before .loop .inv .0) (c .before .loop .inv .1) (c .before .loop .inv .2 .within))
 
 mul-write-cell : tie.Need-mul-write-cell Inv-loop μ-loop
 mul-write-cell c = omega (arith, c .before .loop .inv .1, c .before .loop .inv .2 .within)
@@ -70,10 +66,10 @@ shared-slice-read-write-cell : tie.Need-shared-slice-read-write-cell Inv-loop μ
 shared-slice-read-write-cell c = c .before .loop-test .taken
 
 add-write-cell : tie.Need-add-write-cell Inv-loop μ-loop
-add-write-cell c = omega (arith, c .before .before .loop .inv .0, parts-few (c .before .before .before .before .before .before .before .observations .result) (c .before .before .loop .c) (length (c .before .before .before .before .before .before .before .before .before .before .before .args .cells .now)) (c .before .before .loop .inv .0) (c .before .before .loop .inv .1) (c .before .before .loop .inv .2 .within))
+add-write-cell c = omega (arith, c .before .before .loop .inv .0, parts-few (c .before .before .before .before .before .before .before .observations .result) (c .before .before .loop .c) (length (c .before .before .before .before .before .before .before .before .before .before .before .before .before .before .before .args .cells .now)) (c .before .before .loop .inv .0) (c .before .before .loop .inv .1) (c .before .before .loop .inv .2 .within))
 
 mul-write-cell-2 : tie.Need-mul-write-cell-2 Inv-loop μ-loop
-mul-write-cell-2 c = omega (arith, c .before .before .loop .inv .0, parts-few (c .before .before .before .before .before .before .before .observations .result) (c .before .before .loop .c) (length (c .before .before .before .before .before .before .before .before .before .before .before .args .cells .now)) (c .before .before .loop .inv .0) (c .before .before .loop .inv .1) (c .before .before .loop .inv .2 .within))
+mul-write-cell-2 c = omega (arith, c .before .before .loop .inv .0, parts-few (c .before .before .before .before .before .before .before .observations .result) (c .before .before .loop .c) (length (c .before .before .before .before .before .before .before .before .before .before .before .before .before .before .before .args .cells .now)) (c .before .before .loop .inv .0) (c .before .before .loop .inv .1) (c .before .before .loop .inv .2 .within))
 
 sub-write-cell : tie.Need-sub-write-cell Inv-loop μ-loop
 sub-write-cell c = omega arith
@@ -82,15 +78,17 @@ part-write-cell-start : tie.Need-part-write-cell-start Inv-loop μ-loop
 part-write-cell-start c = omega arith
 
 part-write-cell-end : tie.Need-part-write-cell-end Inv-loop μ-loop
-part-write-cell-end c = carded-room (game (c .before .before .before .before .before .before .before .before .before .before .before .args .table .now)) (c .before .before .before .before .before .before .before .before .before .before .before .args .cells .now) (1 + c .before .before .before .before .before .before .before .observations .result) _ (c .before .before .loop .c) (c .before .before .loop .card) (c .before .before .loop .inv .2) (c .before .loop-test .taken)
+part-write-cell-end c = carded-room (game (c .before .before .before .before .before .before .before .before .before .before .before .before .before .before .before .args .table .now)) (c .before .before .before .before .before .before .before .before .before .before .before .before .before .before .before .args .cells .now) (1 + c .before .before .before .before .before .before .before .observations .result) _ (c .before .before .loop .c) (c .before .before .loop .card) (c .before .before .loop .inv .2) (c .before .loop-test .taken)
 
 write-cell-requires : tie.Need-write-cell-requires Inv-loop μ-loop
 write-cell-requires c κs =
     let lp = c .before .before .before in
-    let start = lp .before .before .before .before .before .before .before .before .before in
+    let start = lp .before .before .before .before .before .before .before .before .before .before .before .before .before in
     let w = start .args .table .now in (
-      record { fine = start .pre .0; listed = start .pre .1; room = carded-part (game (lp .before .before .before .before .before .before .before .before .before .args .table .now)) (lp .before .before .before .before .before .before .before .before .before .args .cells .now) (1 + lp .before .before .before .before .before .observations .result) _ (lp .loop .c) (lp .loop .card) (lp .loop .inv .2) (c .before .before .loop-test .taken) },
+      record { fine = start .pre .0; listed = start .pre .1; room = carded-part (game (lp .before .before .before .before .before .before .before .before .before .before .before .before .before .args .table .now)) (lp .before .before .before .before .before .before .before .before .before .before .before .before .before .args .cells .now) (1 + lp .before .before .before .before .before .observations .result) _ (lp .loop .c) (lp .loop .card) (lp .loop .inv .2) (c .before .before .loop-test .taken) },
       cell-of (game w) (accepted w (start .pre .0)) (start .args .cells .now) (start .pre .1) (lp .loop .c) (c .before .before .loop-test .taken),
+      start .pre .3,
+      start .pre .4,
     )
 
 add-c : tie.Need-add-c Inv-loop μ-loop
@@ -102,12 +100,12 @@ loop-less c = search needs
 loop-again : tie.Need-loop-again Inv-loop μ-loop
 loop-again c =
     let lp = c .before .before .before .before .before .before in
-    (lp .loop .inv .0, lp .loop .inv .1, carded-more (game (lp .before .before .before .before .before .before .before .before .before .args .table .now)) (lp .before .before .before .before .before .before .before .before .before .args .cells .now) (1 + lp .before .before .before .before .before .observations .result) _ (lp .loop .c) (lp .loop .card) (lp .loop .inv .2) (c .before .before .before .before .before .loop-test .taken) (c .before .before .write-cell .last .1 .1 .1 .0) (c .before .before .write-cell .ensures))
+    (lp .loop .inv .0, lp .loop .inv .1, carded-more (game (lp .before .before .before .before .before .before .before .before .before .before .before .before .before .args .table .now)) (lp .before .before .before .before .before .before .before .before .before .before .before .before .before .args .cells .now) (1 + lp .before .before .before .before .before .observations .result) _ (lp .loop .c) (lp .loop .card) (lp .loop .inv .2) (c .before .before .before .before .before .loop-test .taken) (c .before .before .write-cell .last .1 .1 .1 .1 .1 .1 .1 .0) (c .before .before .write-cell .ensures))
 
 same-length : tie.Need-same-length Inv-loop μ-loop
 same-length c =
     let lp = c .before in
-    let start = lp .before .before .before .before .before .before .before .before .before in
+    let start = lp .before .before .before .before .before .before .before .before .before .before .before .before .before in
     let obs = lp .before .before .before .before .before in
     let wf = lp .before .before .before in
     lp .loop .inv .2 .same
@@ -116,10 +114,10 @@ same-length c =
 returns : tie.Need-returns Inv-loop μ-loop
 returns c =
     let lp = c .before in
-    let start = lp .before .before .before .before .before .before .before .before .before in
+    let start = lp .before .before .before .before .before .before .before .before .before .before .before .before .before in
     let obs = lp .before .before .before .before .before in
     let wf = lp .before .before .before in
-    carded-whole (game (start .args .table .now)) (start .args .cells .now) (start .pre .1) (1 + obs .observations .result) (ap (λ (n : ℕ). 1 + n) (obs .observations .ensures)) (start .args .card .now) (wf .write-front .last .1 .1 .0) (wf .write-front .ensures) (lp .loop .card) (carded-end (game (lp .before .before .before .before .before .before .before .before .before .args .table .now)) (lp .before .before .before .before .before .before .before .before .before .args .cells .now) (1 + lp .before .before .before .before .before .observations .result) _ (lp .loop .c) (lp .loop .card) (lp .loop .inv .2) (c .loop-test .left))
+    carded-whole (game (start .args .table .now)) (start .args .cells .now) (start .pre .1) (1 + obs .observations .result) (ap (λ (n : ℕ). 1 + n) (obs .observations .ensures)) (start .args .card .now) (wf .write-front .last .1 .1 .0) (wf .write-front .ensures) (lp .loop .card) (carded-end (game (lp .before .before .before .before .before .before .before .before .before .before .before .before .before .args .table .now)) (lp .before .before .before .before .before .before .before .before .before .before .before .before .before .args .cells .now) (1 + lp .before .before .before .before .before .observations .result) _ (lp .loop .c) (lp .loop .card) (lp .loop .inv .2) (c .loop-test .left))
 
 pub write-card-spec : {M : Type 1} → statement M
 write-card-spec =

@@ -1,26 +1,17 @@
 use borrow.Author.Needs.{needs}
-use mathlib.Core.Path.{_≡_, sym, ap, _∙_, subst}
-use mathlib.Core.List.{List}
+use mathlib.Core.Path.{sym, ap, _∙_, subst}
 use Prim.Native.Nat.{ℕ, _+_, _≤_, _<_, _-_}
 use native.Mathlib.Omega.{arith}
 use lib.ListN.{length, length-set}
+use Rattle.games.specs.Format.{lowValues, maxCells, maxObservations}
 use Rattle.games.specs.Words.{game, word}
 use Rattle.tables.proofs.Checks.{sized}
 use Rattle.solver.proofs.Words.{Filled, filled-none, filled-more, filled-end, firstWord, first-word, front-is, holding-small, cells-small, observations-small, actions-small}
 use Rattle.solver.proofs.write_front.Statement.{statement}
 use Rattle.solver.proofs.write_front.Tie as tie
-use Rattle.solver.proofs.write_front.Reads as reads
-use Rattle.solver.proofs.write_front.Lts as lts
-use Rattle.cards.proofs.naming.Reads as naming-reads
-use Rattle.cards.proofs.word.Reads as word-reads
-use Rattle.solver.proofs.holding.Reads as holding-reads
-use Rattle.tables.proofs.actions.Reads as actions-reads
-use Rattle.tables.proofs.observations.Reads as observations-reads
-use Rattle.tables.proofs.shown.Reads as shown-reads
-use Rattle.tables.proofs.start.Reads as start-reads
 
 abbrev Inv-loop : tie.InvT-loop
-Inv-loop table cells out₀ start o j₀ out j = (length cells ≤ 4096) × (o ≤ 8) × (j ≤ o) × Filled o (firstWord (game table) cells) j out
+Inv-loop table cells out₀ start o j₀ out j = (length cells ≤ maxCells) × (o ≤ maxObservations) × (j ≤ o) × Filled o (firstWord (game table) cells) j out
 
 abbrev μ-loop : tie.MeasureT-loop
 μ-loop table cells out₀ start o j₀ out j = o - j
@@ -37,7 +28,7 @@ loop-holds c =
     let w = start .pre in
     let e = c .observations .ensures in (
       cells-small (start .args .table .now) (start .args .cells .now) (start .args .out .now) w,
-      subst (λ (n : ℕ). n ≤ 8) (sym e) (observations-small (start .args .table .now) (start .args .cells .now) (start .args .out .now) w),
+      subst (λ (n : ℕ). n ≤ maxObservations) (sym e) (observations-small (start .args .table .now) (start .args .cells .now) (start .args .out .now) w),
       search needs,
       filled-none (c .observations .result) (firstWord (game (start .args .table .now)) (start .args .cells .now)) (start .args .out .now) (w .room ∙ ap (λ (n : ℕ). 1 + n) (sym e)),
     )
@@ -51,7 +42,7 @@ holding-requires c κs = c .before .before .loop .inv .0
 naming-requires : tie.Need-naming-requires Inv-loop μ-loop
 naming-requires c κs =
     let at = c .before .before .before in
-    (search needs, subst (λ (x : ℕ). x < 65536) (sym (c .holding .ensures)) (holding-small _ _ (at .loop .inv .0)), omega arith)
+    (search needs, subst (λ (x : ℕ). x < lowValues) (sym (c .holding .ensures)) (holding-small _ _ (at .loop .inv .0)), omega arith)
 
 cast-out : tie.Need-cast-out Inv-loop μ-loop
 cast-out c = search needs

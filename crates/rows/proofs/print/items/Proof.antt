@@ -1,6 +1,5 @@
 -- `items` is safe and ends: the measure is the number of items left.
 use borrow.Author.Needs.{needs}
-use native.Mathlib.Omega.{arith}
 use Prim.Native.Nat.{_-_}
 use lib.ListN.{length}
 use Rattle.rows.proofs.print.items.Statement.{statement}

@@ -1,0 +1,44 @@
+-- `families::subsets` meets its contract: before each turn the sets lack what h lacks of the states below i.
+-- Assumes nothing.
+use mathlib.Core.Path.{_≡_, sym, ap, _∙_, subst}
+use mathlib.Core.Logic.{⊎-elim}
+use Prim.Native.Nat.{ℕ, _+_, _-_, _≤_, _<_}
+use borrow.Author.Needs.{needs}
+use borrow.Author.Tests.{not-true, not-false}
+use native.Mathlib.Omega.{arith}
+use Rattle.sets.specs.Mask.{member}
+use Rattle.families.specs.Bits.{laneStates, laneSets}
+use Rattle.families.proofs.Lanes.{lacks, lacks-none, lacks-more, lacks-skip, lacks-end}
+use Rattle.families.proofs.subsets.Statement.{statement}
+use Rattle.families.proofs.subsets.Tie as tie
+
+abbrev Inv-loop : tie.InvT-loop
+Inv-loop h all₀ i₀ word i = (i ≤ laneStates) × ((t : ℕ) → t < laneSets → member word t ≡ lacks h i t)
+
+abbrev μ-loop : tie.MeasureT-loop
+μ-loop h all₀ i₀ word i = laneStates - i
+
+loop-holds : tie.Need-loop-holds Inv-loop μ-loop
+loop-holds c = (search needs, lacks-none (c .args .h))
+
+loop-again : tie.Need-loop-again Inv-loop μ-loop
+loop-again c =
+    let h : ℕ = c .before .before .before .before .args .h in
+    let i : ℕ = c .before .before .before .loop .i in
+    let word : ℕ = c .before .before .before .loop .all in (
+      search needs,
+      ⊎-elim
+          (λ w. subst (λ (x : ℕ). (t : ℕ) → t < laneSets → member x t ≡ lacks h (i + 1) t) (sym (w .2))
+          (lacks-more h i word (w .1 .result) (sym (c .before .member .ensures) ∙ not-true (c .before .member .result) (w .0 .taken)) (c .before .before .before .loop .inv .1) (w .1 .ensures)))
+          (λ w. subst (λ (x : ℕ). (t : ℕ) → t < laneSets → member x t ≡ lacks h (i + 1) t) (sym (w .1))
+          (lacks-skip h i word (sym (c .before .member .ensures) ∙ not-false (c .before .member .result) (w .0 .left)) (c .before .before .before .loop .inv .1)))
+          (c .if1 .came),
+    )
+
+returns : tie.Need-returns Inv-loop μ-loop
+returns c t l =
+    let e : c .before .loop .i ≡ laneStates = omega arith in
+    c .before .loop .inv .1 t l ∙ ap (λ (x : ℕ). lacks (c .before .before .args .h) x t) e ∙ lacks-end (c .before .before .args .h) t l
+
+pub subsets-spec : {M : Type 1} → statement M
+subsets-spec = tie.close (tie.spec Inv-loop μ-loop loop-holds (λ c κs. search needs) (λ c κs. search needs) (λ c. search needs) (λ c. search needs) loop-again returns)

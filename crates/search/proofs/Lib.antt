@@ -1,0 +1,4 @@
+pub mod Turns
+pub mod First
+pub mod Passes
+pub mod Searching

@@ -1,0 +1,125 @@
+use borrow.Author.Needs.{needs}
+use mathlib.Core.Path.{_≡_, sym, _∙_, subst}
+use Prim.Native.Nat.{ℕ, _-_, _≤_}
+use native.Mathlib.Omega.{arith}
+use lib.ListN.{length, take, length-set, replicate}
+use lib.Seq.{length-take-le}
+use Rattle.games.specs.Format.{maxActions, maxStates}
+use Rattle.games.specs.Words.{game}
+use Rattle.tables.proofs.Checks.{sized}
+use Rattle.search.proofs.Turns.{few-states, few-actions}
+use Rattle.search.proofs.First.{Opens, opens-none, opens-more, opens-front, opens-below, first-bits}
+use Rattle.search.proofs.first_family.Statement.{statement}
+use Rattle.search.proofs.first_family.Tie as tie
+
+abbrev Inv-loop : tie.InvT-loop
+Inv-loop table family actions masks₀ a₀ masks a = (actions ≤ maxActions) × (a ≤ actions) × (length masks ≡ maxActions) × Opens (game table) a masks
+
+abbrev μ-loop : tie.MeasureT-loop
+μ-loop table family actions masks₀ a₀ masks a = actions - a
+
+-- what the loop leaves: the open states of all actions, in front
+front : (c : tie.After-loop Inv-loop μ-loop) → (length (take (c .before .before .actions .result) (c .before .loop .masks)) ≡ game (c .before .before .before .before .before .args .table .now) .actions) × Opens (game (c .before .before .before .before .before .args .table .now)) (game (c .before .before .before .before .before .args .table .now) .actions) (take (c .before .before .actions .result) (c .before .loop .masks))
+front c =
+    let at = c .before in
+    let g = game (at .before .before .before .before .args .table .now) in
+    let e : at .loop .a ≡ g .actions = omega arith in
+    let is = at .before .actions .ensures in (
+      length-take-le _ _ (omega (arith, at .loop .inv .2)) ∙ is,
+      rw is (opens-front g (at .loop .masks) (rw e at (at .loop .inv .3))),
+    )
+
+actions-requires : tie.Need-actions-requires Inv-loop μ-loop
+actions-requires c κs = sized (c .before .before .args .table .now) (c .before .before .pre .0)
+
+loop-holds : tie.Need-loop-holds Inv-loop μ-loop
+loop-holds c =
+    let start = c .before .before .before in
+    let w = start .args .table .now in
+    (subst (λ (m : ℕ). m ≤ maxActions) (sym (c .actions .ensures)) (few-actions w (sized w (start .pre .0))), search needs, search needs, opens-none (game w) (replicate maxActions 0))
+
+open-states-requires : tie.Need-open-states-requires Inv-loop μ-loop
+open-states-requires c κs = (c .before .before .before .before .before .pre .0, omega arith)
+
+cast-masks : tie.Need-cast-masks Inv-loop μ-loop
+cast-masks c = search needs
+
+mul-masks : tie.Need-mul-masks Inv-loop μ-loop
+mul-masks c = search needs
+
+array-write-masks : tie.Need-array-write-masks Inv-loop μ-loop
+array-write-masks c = search needs
+
+add-a : tie.Need-add-a Inv-loop μ-loop
+add-a c = search needs
+
+loop-less : tie.Need-loop-less Inv-loop μ-loop
+loop-less c = search needs
+
+loop-again : tie.Need-loop-again Inv-loop μ-loop
+loop-again c =
+    let at = c .before .before in
+    let start = at .before .before .before .before in
+    (at .loop .inv .0, search needs, length-set (at .loop .masks) (at .loop .a) (c .open-states .result) ∙ at .loop .inv .2, opens-more (game (start .args .table .now)) (at .loop .masks) (at .loop .a) (c .open-states .result) (omega (arith, at .loop .inv .2)) (c .open-states .ensures) (at .loop .inv .3))
+
+cast-masks-2 : tie.Need-cast-masks-2 Inv-loop μ-loop
+cast-masks-2 c = search needs
+
+array-share-prefix-masks : tie.Need-array-share-prefix-masks Inv-loop μ-loop
+array-share-prefix-masks c = omega (arith, c .before .loop .inv .2)
+
+slice-aggregate-below : tie.Need-slice-aggregate-below Inv-loop μ-loop
+slice-aggregate-below c = let at = c .before .before in sym (length-take-le _ _ (omega (arith, at .loop .inv .2)))
+
+states-requires : tie.Need-states-requires Inv-loop μ-loop
+states-requires c κs = let start = c .before .before .before .before .before .before in sized (start .args .table .now) (start .pre .0)
+
+below-requires : tie.Need-below-requires Inv-loop μ-loop
+below-requires c κs =
+    let left = c .before .before .before in
+    let f = front left in
+    let start = left .before .before .before .before .before in
+    let w = start .args .table .now in
+    let n = c .before .states .ensures in
+    record {
+      states = subst (λ (m : ℕ). m ≤ maxStates) (sym n) (few-states w (sized w (start .pre .0)));
+      masks = λ s m. rw n (opens-below (game w) _ (f .0) (f .1) s m);
+      size = rw n (start .pre .1);
+    }
+
+same-length : tie.Need-same-length Inv-loop μ-loop
+same-length c =
+    let b = c .before .before in
+    let start = b .before .before .before .before .before .before .before .before .before in
+    rw (b .before .before .states .ensures) at (b .below .ensures .size) ∙ sym (start .pre .1)
+
+returns : tie.Need-returns Inv-loop μ-loop
+returns c =
+    let b = c .before .before in
+    let left = b .before .before .before .before in
+    let f = front left in
+    let start = left .before .before .before .before .before in
+    first-bits (game (start .args .table .now)) _ (f .0) (f .1) _ (rw (b .before .before .states .ensures) at (b .below .ensures))
+
+pub first-family-spec : {M : Type 1} → statement M
+first-family-spec =
+    tie.close
+    (tie.spec
+    Inv-loop
+    μ-loop
+    actions-requires
+    loop-holds
+    open-states-requires
+    cast-masks
+    mul-masks
+    array-write-masks
+    add-a
+    loop-less
+    loop-again
+    cast-masks-2
+    array-share-prefix-masks
+    slice-aggregate-below
+    states-requires
+    below-requires
+    same-length
+    returns)

@@ -1,0 +1,77 @@
+use borrow.Author.Needs.{needs}
+use mathlib.Core.Logic.{⊎-elim}
+use mathlib.Core.Path.{_≡_, sym, subst}
+use Prim.Native.Nat.{ℕ, _-_, _≤_}
+use native.Mathlib.Omega.{arith}
+use Rattle.games.specs.Format.{maxStates}
+use Rattle.games.specs.Words.{game}
+use Rattle.tables.proofs.Checks.{sized}
+use Rattle.search.specs.Stages.{OpenStates}
+use Rattle.search.proofs.Turns.{few-states}
+use Rattle.search.proofs.First.{open-none, open-hit, open-skip}
+use Rattle.search.proofs.open_states.Statement.{statement}
+use Rattle.search.proofs.open_states.Tie as tie
+
+abbrev Inv-loop : tie.InvT-loop
+Inv-loop table a n mask₀ i₀ mask i = (n ≤ maxStates) × (i ≤ n) × OpenStates (game table) (a .0) i mask
+
+abbrev μ-loop : tie.MeasureT-loop
+μ-loop table a n mask₀ i₀ mask i = n - i
+
+states-requires : tie.Need-states-requires Inv-loop μ-loop
+states-requires c κs = sized (c .before .args .table .now) (c .before .pre .0)
+
+loop-holds : tie.Need-loop-holds Inv-loop μ-loop
+loop-holds c =
+    let start = c .before .before in
+    let w = start .args .table .now in
+    (subst (λ (m : ℕ). m ≤ maxStates) (sym (c .states .ensures)) (few-states w (sized w (start .pre .0))), search needs, open-none (game w) (start .args .a .0))
+
+is-open-requires : tie.Need-is-open-requires Inv-loop μ-loop
+is-open-requires c κs = let start = c .before .before .before .before in (start .pre .0, start .pre .1, omega arith)
+
+single-requires : tie.Need-single-requires Inv-loop μ-loop
+single-requires c κs = search needs
+
+add-i : tie.Need-add-i Inv-loop μ-loop
+add-i c = search needs
+
+loop-less : tie.Need-loop-less Inv-loop μ-loop
+loop-less c = search needs
+
+loop-again : tie.Need-loop-again Inv-loop μ-loop
+loop-again c =
+    let at = c .before .before .before in
+    let start = at .before .before .before in
+    let g = game (start .args .table .now) in
+    let a = start .args .a .0 in (
+      at .loop .inv .0,
+      search needs,
+      ⊎-elim
+          (λ w. rw (w .2, w .1 .ensures) (open-hit g a (at .loop .i) (at .loop .mask) (at .loop .inv .2) (cc)))
+          (λ w. rw (w .1) (open-skip g a (at .loop .i) (at .loop .mask) (at .loop .inv .2) (cc)))
+          (c .if1 .came),
+    )
+
+returns : tie.Need-returns Inv-loop μ-loop
+returns c =
+    let at = c .before in
+    let start = at .before .before .before in
+    let g = game (start .args .table .now) in
+    let e : at .loop .i ≡ g .states = omega arith in
+    rw e at (at .loop .inv .2)
+
+pub open-states-spec : {M : Type 1} → statement M
+open-states-spec =
+    tie.close
+    (tie.spec
+    Inv-loop
+    μ-loop
+    states-requires
+    loop-holds
+    is-open-requires
+    single-requires
+    add-i
+    loop-less
+    loop-again
+    returns)

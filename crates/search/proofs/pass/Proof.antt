@@ -1,0 +1,84 @@
+use borrow.Author.Needs.{needs}
+use mathlib.Core.Path.{_≡_, sym, _∙_}
+use Prim.Native.Nat.{_-_, _≤_}
+use native.Mathlib.Omega.{arith}
+use lib.ListN.{length}
+use Rattle.families.specs.Bits.{maxLanes}
+use Rattle.games.specs.Words.{game}
+use Rattle.tables.proofs.Checks.{sized}
+use Rattle.search.proofs.Turns.{table-lanes}
+use Rattle.search.proofs.Passes.{Passing, passing-none, covered-sound, passing-more, passing-end}
+use Rattle.search.proofs.pass.Statement.{statement}
+use Rattle.search.proofs.pass.Tie as tie
+
+abbrev Inv-loop : tie.InvT-loop
+Inv-loop table low high family next₀ lane₀ next lane = (length family ≤ maxLanes) × (lane ≤ length family) × Passing (game table) family lane next
+
+abbrev μ-loop : tie.MeasureT-loop
+μ-loop table low high family next₀ lane₀ next lane = lane
+
+loop-holds : tie.Need-loop-holds Inv-loop μ-loop
+loop-holds c =
+    let start = c .before .before .before .before .before in
+    let w = start .args .table .now in
+    (omega (arith, start .pre .1 .size, table-lanes w (sized w (start .pre .0))), search needs, passing-none (game w) (start .args .family .now) (start .pre .1) (start .args .next .now) (start .pre .3))
+
+sub-lane : tie.Need-sub-lane Inv-loop μ-loop
+sub-lane c = search needs
+
+larger-requires : tie.Need-larger-requires Inv-loop μ-loop
+larger-requires c κs =
+    let at = c .before .before in
+    record { here = omega (arith, at .loop .inv .2 .size); few = omega (arith, at .loop .inv .2 .size, at .loop .inv .0) }
+
+cast-pass-lane : tie.Need-cast-pass-lane Inv-loop μ-loop
+cast-pass-lane c = search needs
+
+pass-lane-requires : tie.Need-pass-lane-requires Inv-loop μ-loop
+pass-lane-requires c κs =
+    let at = c .before .before .before in
+    let start = at .before .before .before .before .before .before in
+    (start .pre .0, start .pre .1, start .pre .2, omega arith, covered-sound (game (start .args .table .now)) (start .args .family .now) (start .pre .1) (at .loop .next) (at .loop .lane) (at .loop .lane - 1) (omega arith) (at .loop .inv .2) (c .larger .result) (omega arith) (c .larger .ensures))
+
+mul-next : tie.Need-mul-next Inv-loop μ-loop
+mul-next c = search needs
+
+slice-write-next : tie.Need-slice-write-next Inv-loop μ-loop
+slice-write-next c = let at = c .before .before .before .before in omega (arith, at .loop .inv .2 .size)
+
+loop-less : tie.Need-loop-less Inv-loop μ-loop
+loop-less c = search needs
+
+loop-again : tie.Need-loop-again Inv-loop μ-loop
+loop-again c =
+    let at = c .before .before .before .before in
+    let start = at .before .before .before .before .before .before in
+    (at .loop .inv .0, omega arith, passing-more (game (start .args .table .now)) (start .args .family .now) (start .pre .1) (at .loop .next) (at .loop .lane) (at .loop .lane - 1) (omega arith) (at .loop .inv .2) (omega arith) (c .pass-lane .result) (c .pass-lane .ensures))
+
+same-length : tie.Need-same-length Inv-loop μ-loop
+same-length c = c .before .loop .inv .2 .size ∙ sym (c .before .before .before .before .before .before .before .pre .3)
+
+returns : tie.Need-returns Inv-loop μ-loop
+returns c =
+    let at = c .before in
+    let start = at .before .before .before .before .before .before in
+    let e : at .loop .lane ≡ 0 = omega arith in
+    passing-end (game (start .args .table .now)) (start .args .family .now) (start .pre .1) (at .loop .next) (rw e at (at .loop .inv .2))
+
+pub pass-spec : {M : Type 1} → statement M
+pass-spec =
+    tie.close
+    (tie.spec
+    Inv-loop
+    μ-loop
+    loop-holds
+    sub-lane
+    larger-requires
+    cast-pass-lane
+    pass-lane-requires
+    mul-next
+    slice-write-next
+    loop-less
+    loop-again
+    same-length
+    returns)

@@ -1,0 +1,98 @@
+use borrow.Author.Needs.{needs}
+use borrow.Author.Tests.{not-true, not-false}
+use mathlib.Core.Bool.{true}
+use mathlib.Core.Path.{_≡_, sym, _∙_}
+use Prim.Native.Nat.{_≤_, _-_}
+use native.Mathlib.Omega.{arith}
+use Rattle.sets.specs.Bounded.{all}
+use Rattle.sets.specs.Mask.{common}
+use Rattle.sets.proofs.Bounded.{all-zero, all-more}
+use Rattle.sets.proofs.Logic.{and-intro}
+use Rattle.families.specs.Bits.{has}
+use Rattle.families.proofs.Lanes.{lane-there}
+use Rattle.games.specs.Words.{game}
+use Rattle.tables.proofs.Checks.{sized, accepted}
+use Rattle.search.proofs.Turns.{shown-fails, shown-holds, shown-whole, shown-below}
+use Rattle.search.proofs.shown_in.Statement.{statement}
+use Rattle.search.proofs.shown_in.Tie as tie
+
+abbrev Inv-loop : tie.InvT-loop
+Inv-loop table family u o j₀ j = (j ≤ o) × (all j (λ i. has family (common u (game table .shown i))) ≡ true)
+
+abbrev μ-loop : tie.MeasureT-loop
+μ-loop table family u o j₀ j = o - j
+
+observations-requires : tie.Need-observations-requires Inv-loop μ-loop
+observations-requires c κs = sized (c .before .before .args .table .now) (c .before .before .pre .0)
+
+loop-holds : tie.Need-loop-holds Inv-loop μ-loop
+loop-holds c = (search needs, all-zero _)
+
+shown-requires : tie.Need-shown-requires Inv-loop μ-loop
+shown-requires c κs =
+    let start = c .before .before .before .before .before in
+    (sized (start .args .table .now) (start .pre .0), omega arith)
+
+has-requires : tie.Need-has-requires Inv-loop μ-loop
+has-requires c κs =
+    let start = c .before .before .before .before .before .before in
+    let w = start .args .table .now in
+    let b = shown-below (game w) (accepted w (start .pre .0)) (start .args .u) (c .before .before .loop .j) (omega arith) in
+    rw (start .pre .1, c .shown .ensures) (lane-there (game w .states) (common (start .args .u) (game w .shown (c .before .before .loop .j))) b)
+
+returns : tie.Need-returns Inv-loop μ-loop
+returns c =
+    let inl = c .before .before .before in
+    let start = inl .before .before .before .before .before in
+    let w = start .args .table .now in
+    shown-fails (game w) (has (start .args .family .now)) (start .args .u) (inl .before .loop .j) (omega arith)
+    (rw (c .before .before .shown .ensures) at (sym (c .before .has .ensures) ∙ not-true (c .before .has .result) (c .if1 .taken)))
+
+returns-2 : tie.Need-returns-2 Inv-loop μ-loop
+returns-2 c =
+    let h = c .before .before in
+    let inl = h .before .before in
+    let start = inl .before .before .before .before .before in
+    let w = start .args .table .now in
+    shown-whole (game w) (has (start .args .family .now)) (start .args .u) (start .pre .2) (rw (c .if2 .taken) at (sym (h .has .ensures) ∙ not-false (h .has .result) (c .before .if1 .left)))
+
+add-j : tie.Need-add-j Inv-loop μ-loop
+add-j c = search needs
+
+loop-less : tie.Need-loop-less Inv-loop μ-loop
+loop-less c = search needs
+
+loop-again : tie.Need-loop-again Inv-loop μ-loop
+loop-again c =
+    let inl = c .before .before .before .before in
+    let start = inl .before .before .before .before .before in
+    let w = start .args .table .now in (
+      search needs,
+      all-more (inl .before .loop .j) (λ i. has (start .args .family .now) (common (start .args .u) (game w .shown i)))
+          ∙ and-intro (inl .before .loop .inv .1) (rw (c .before .before .before .shown .ensures) at (sym (c .before .before .has .ensures) ∙ not-false (c .before .before .has .result) (c .before .if1 .left))),
+    )
+
+returns-3 : tie.Need-returns-3 Inv-loop μ-loop
+returns-3 c =
+    let at = c .before in
+    let start = at .before .before .before .before in
+    let g = game (start .args .table .now) in
+    let e : at .loop .j ≡ g .observations = omega arith in
+    shown-holds g (has (start .args .family .now)) (start .args .u) (rw e at (at .loop .inv .1))
+
+pub shown-in-spec : {M : Type 1} → statement M
+shown-in-spec =
+    tie.close
+    (tie.spec
+    Inv-loop
+    μ-loop
+    observations-requires
+    loop-holds
+    shown-requires
+    has-requires
+    returns
+    returns-2
+    add-j
+    loop-less
+    loop-again
+    returns-3)

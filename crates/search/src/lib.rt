@@ -1,0 +1,231 @@
+// The search on sets: the step, applied to families of sets as bits until a start set is lost or nothing changes.
+ghost use mathlib.Core.Path.{_≡_};
+ghost use Prim.Native.Nat.{ℕ, _+_, _*_, _^_, _<_, _≤_};
+ghost use lib.ListN.{length};
+ghost use Rattle.sets.specs.Mask.{member};
+ghost use Rattle.sets.specs.Family.{DownClosed};
+ghost use Rattle.families.specs.Bits.{lanes, has as isIn, Bits};
+ghost use Rattle.games.specs.Words.{game};
+ghost use Rattle.games.specs.Step.{meets, step, good};
+ghost use Rattle.tables.specs.Check.{checked};
+ghost use Rattle.tables.specs.declared.Checked.the-variants.{Fine};
+ghost use Rattle.moves.specs.Halves.{Tabled};
+ghost use Rattle.search.specs.Stages.{shownIn, Stage, Sound, Passed, isOpen, OpenStates, Same};
+ghost use Rattle.search.specs.Found.{Reached, Searched};
+use families::LANE_SETS;
+use games::Action;
+use games::MAX_ACTIONS;
+use games::Observation;
+use games::State;
+use tables::Walked;
+
+// The place of the last set of a lane.
+const LAST: u32 = LANE_SETS - 1;
+
+// For every observation, the states of u that show it form a set of the family. One that shows all of u decides: the others show subsets.
+fn shown_in(table: &[u32], family: &[u64], u: u32) -> bool
+    requires { ⌜ (checked (now table) ≡ Fine) × (length (now family) ≡ lanes (game (now table) .states)) × DownClosed (isIn (now family)) ⌝ }
+    ensures { λ r. ⌜ r ≡ shownIn (game (now (table .entry))) (isIn (now (family .entry))) u ⌝ }
+{
+    let o = tables::observations(table);
+    let mut j: u32 = 0;
+    while j < o {
+        let t = u & tables::shown(table, Observation(j));
+        if !families::has(family, t) {
+            return false;
+        }
+        if t == u {
+            return true;
+        }
+        j += 1;
+    }
+    true
+}
+
+// The action is enabled at all members of s, and leads to sets of the family.
+fn action_meets(table: &[u32], low: &[u32], high: &[u32], family: &[u64], s: u32, a: Action) -> bool
+    requires { ⌜ (checked (now table) ≡ Fine) × (length (now family) ≡ lanes (game (now table) .states)) × (a .0 < game (now table) .actions) × Tabled (game (now table)) (now low) (now high) × (s < 2 ^ game (now table) .states) × DownClosed (isIn (now family)) ⌝ }
+    ensures { λ r. ⌜ r ≡ meets (game (now (table .entry))) (isIn (now (family .entry))) s (a .0) ⌝ }
+{
+    let walked = moves::post(table, low, high, s, a);
+    let Walked::Post(u) = walked else {
+        return false;
+    };
+    shown_in(table, family, u)
+}
+
+// The step: a set with no bad state for which one action meets it.
+fn meets_step(table: &[u32], low: &[u32], high: &[u32], family: &[u64], s: u32) -> bool
+    requires { ⌜ (checked (now table) ≡ Fine) × (length (now family) ≡ lanes (game (now table) .states)) × Tabled (game (now table)) (now low) (now high) × (s < 2 ^ game (now table) .states) × DownClosed (isIn (now family)) ⌝ }
+    ensures { λ r. ⌜ r ≡ step (game (now (table .entry))) (isIn (now (family .entry))) s ⌝ }
+{
+    if s & tables::bad(table) != 0 {
+        return false;
+    }
+    let actions = tables::actions(table);
+    let mut a: u32 = 0;
+    while a < actions {
+        if action_meets(table, low, high, family, s, Action(a)) {
+            return true;
+        }
+        a += 1;
+    }
+    false
+}
+
+// The step on the sets of one lane, from the largest down: a set that meets it settles its subsets. `covered` are subsets of sets found in other lanes.
+fn pass_lane(
+    table: &[u32],
+    low: &[u32],
+    high: &[u32],
+    family: &[u64],
+    lane: u32,
+    covered: u64,
+) -> u64
+    requires { ⌜ (checked (now table) ≡ Fine) × Stage (game (now table)) (now family) × Tabled (game (now table)) (now low) (now high) × (lane < length (now family)) × Sound (game (now table)) (isIn (now family)) lane covered ⌝ }
+    ensures { λ r. ⌜ Passed (game (now (table .entry))) (isIn (now (family .entry))) lane r ⌝ }
+{
+    let mut found = covered;
+    let mut left = family[lane as usize] & !covered;
+    while left != 0 {
+        let h = LAST - u64::leading_zeros(left);
+        if meets_step(table, low, high, family, lane * LANE_SETS + h) {
+            let below = families::subsets(h);
+            found = found | below;
+            left = left & !below;
+        } else {
+            left = left - (1u64 << h);
+        }
+    }
+    found
+}
+
+// One application of the step: the sets that meet it, into `next`.
+fn pass(table: &[u32], low: &[u32], high: &[u32], family: &[u64], next: &mut [u64])
+    requires { ⌜ (checked (now table) ≡ Fine) × Stage (game (now table)) (now family) × Tabled (game (now table)) (now low) (now high) × (length (now next) ≡ length (now family)) ⌝ }
+    ensures { λ _. ⌜ Bits (game (now (table .entry)) .states) (step (game (now (table .entry))) (isIn (now (family .entry)))) (now (next .exit)) ⌝ }
+{
+    let mut lane = family.len();
+    while 0 < lane {
+        lane -= 1;
+        let covered = families::larger(next, lane);
+        next[lane] = pass_lane(table, low, high, family, lane as u32, covered);
+    }
+}
+
+// The state is not bad, and the action is enabled in it.
+fn is_open(table: &[u32], a: Action, i: State) -> bool
+    requires { ⌜ (checked (now table) ≡ Fine) × (a .0 < game (now table) .actions) × (i .0 < game (now table) .states) ⌝ }
+    ensures { λ r. ⌜ r ≡ isOpen (game (now (table .entry))) (a .0) (i .0) ⌝ }
+{
+    let bad = sets::member(tables::bad(table), i.0);
+    let blocked = tables::successors(table, a, i) == 0;
+    !blocked & !bad
+}
+
+// The states that are not bad and in which the action is enabled.
+fn open_states(table: &[u32], a: Action) -> u32
+    requires { ⌜ (checked (now table) ≡ Fine) × (a .0 < game (now table) .actions) ⌝ }
+    ensures { λ r. ⌜ OpenStates (game (now (table .entry))) (a .0) (game (now (table .entry)) .states) r ⌝ }
+{
+    let n = tables::states(table);
+    let mut mask: u32 = 0;
+    let mut i: u32 = 0;
+    while i < n {
+        if is_open(table, a, State(i)) {
+            mask = mask | sets::single(i);
+        }
+        i += 1;
+    }
+    mask
+}
+
+// The sets that are good for one round: the subsets of each action's open states.
+fn first_family(table: &[u32], family: &mut [u64])
+    requires { ⌜ (checked (now table) ≡ Fine) × (length (now family) ≡ lanes (game (now table) .states)) ⌝ }
+    ensures { λ _. ⌜ Bits (game (now (table .entry)) .states) (good (game (now (table .entry))) 1) (now (family .exit)) ⌝ }
+{
+    let actions = tables::actions(table);
+    let mut masks = [0u32; MAX_ACTIONS as usize];
+    let mut a: u32 = 0;
+    while a < actions {
+        masks[a as usize] = open_states(table, Action(a));
+        a += 1;
+    }
+    families::below(&masks[..actions as usize], tables::states(table), family);
+}
+
+// The two have the same words.
+fn same(first: &[u64], second: &[u64]) -> bool
+    requires { ⌜ length (now first) ≡ length (now second) ⌝ }
+    ensures { λ r. ⌜ Same r (now (first .entry)) (now (second .entry)) ⌝ }
+{
+    let mut i: usize = 0;
+    while i < first.len() {
+        if first[i] != second[i] {
+            return false;
+        }
+        i += 1;
+    }
+    true
+}
+
+fn copy(from: &[u64], out: &mut [u64])
+    requires { ⌜ length (now from) ≡ length (now out) ⌝ }
+    ensures { λ _. ⌜ now (out .exit) ≡ now (from .entry) ⌝ }
+{
+    let mut i: usize = 0;
+    while i < from.len() {
+        out[i] = from[i];
+        i += 1;
+    }
+}
+
+// What the search finds: the families settled at k with the start sets in them, or a start set that is not good for k.
+pub enum Outcome {
+    Settled(u32),
+    Lost(u32),
+}
+
+// Applies the step, from good for one round on, until a start set is lost or nothing changes.
+fn settle(table: &[u32], low: &[u32], high: &[u32], family: &mut [u64], next: &mut [u64]) -> Outcome
+    requires { ⌜ (checked (now table) ≡ Fine) × Reached (game (now table)) 1 (now family) × (length (now next) ≡ length (now family)) × Tabled (game (now table)) (now low) (now high) ⌝ }
+    ensures { λ r. ⌜ Searched (game (now (table .entry))) r (now (family .exit)) ⌝ }
+{
+    let start = tables::start(table);
+    let mut k: u32 = 1;
+    loop {
+        pass(table, low, high, family, next);
+        let round = k + 1;
+        if !shown_in(table, next, start) {
+            return Outcome::Lost(round);
+        }
+        if same(family, next) {
+            return Outcome::Settled(k);
+        }
+        copy(next, family);
+        k = round;
+    }
+}
+
+// The search: good for one round at once, then the step. `next` is scratch.
+pub fn search(
+    table: &[u32],
+    low: &[u32],
+    high: &[u32],
+    family: &mut [u64],
+    next: &mut [u64],
+) -> Outcome
+    requires { ⌜ (checked (now table) ≡ Fine) × (length (now family) ≡ lanes (game (now table) .states)) × (length (now next) ≡ length (now family)) × Tabled (game (now table)) (now low) (now high) ⌝ }
+    ensures { λ r. ⌜ Searched (game (now (table .entry))) r (now (family .exit)) ⌝ }
+{
+    let all = sets::single(tables::states(table)) - 1;
+    first_family(table, family);
+    if !shown_in(table, family, tables::start(table)) {
+        return Outcome::Lost(1);
+    }
+    if families::has(family, all) {
+        return Outcome::Settled(0);
+    }
+    settle(table, low, high, family, next)
+}
