@@ -1,4 +1,4 @@
--- Good for one round: the subsets of each action's open states.
+-- Good for one round: the subsets of the states, not bad, in which an action is enabled.
 -- Assumes nothing.
 use mathlib.Core.Path.{_≡_, refl, sym, ap, _∙_, subst}
 use mathlib.Core.List.{List, List·Memᴰ}
@@ -21,90 +21,90 @@ use Rattle.families.specs.Bits.{Bits}
 use Rattle.games.specs.Game.{Game, enabled}
 use Rattle.games.specs.Step.{safe, good}
 use Rattle.games.proofs.Steps.{safe-at, enabled-at, enabled-intro, meets-intro, meets-enabled, step-safe, step-action, step-intro}
-use Rattle.search.specs.Stages.{isOpen, OpenStates}
+use Rattle.search.specs.Stages.{safelyEnabled, EnabledStates}
 
 -- one action and one state: z is the successors, b whether the state is bad
-pub is-open : (g : Game) (a i z : ℕ) (b : Bool) → z ≡ g .successors a i → b ≡ member (g .bad) i → (not (eqb z 0) && not b) ≡ isOpen g a i
-unfolding isOpen enabled
-is-open g a i z b e f = ap (λ (x : ℕ). not (eqb x 0) && not b) e ∙ ap (λ (x : Bool). not (eqb (g .successors a i) 0) && not x) f
+pub safely-enabled : (g : Game) (a i z : ℕ) (b : Bool) → z ≡ g .successors a i → b ≡ member (g .bad) i → (not (eqb z 0) && not b) ≡ safelyEnabled g a i
+unfolding safelyEnabled enabled
+safely-enabled g a i z b e f = ap (λ (x : ℕ). not (eqb x 0) && not b) e ∙ ap (λ (x : Bool). not (eqb (g .successors a i) 0) && not x) f
 
 module _ (g : Game) (a : ℕ) where
-  pub open-none : OpenStates g a 0 0
-  open-none = record { below = pow-pos 0; at = below-none (λ j. member 0 j ≡ isOpen g a j) }
+  pub states-none : EnabledStates g a 0 0
+  states-none = record { below = pow-pos 0; at = below-none (λ j. member 0 j ≡ safelyEnabled g a j) }
 
-  module _ (i mask : ℕ) (w : OpenStates g a i mask) where
+  module _ (i mask : ℕ) (w : EnabledStates g a i mask) where
     narrow : mask < 2 ^ (i + 1)
     narrow = lt-of-lt-of-le (w .below) (pow-mono (omega arith))
 
-    pub open-hit : true ≡ isOpen g a i → OpenStates g a (i + 1) (union mask (2 ^ i))
-    open-hit h =
+    pub states-hit : true ≡ safelyEnabled g a i → EnabledStates g a (i + 1) (union mask (2 ^ i))
+    states-hit h =
         record {
           below = union-lt (i + 1) mask (2 ^ i) narrow (pow-lt (omega arith));
           at =
-              below-more (λ j. member (union mask (2 ^ i)) j ≡ isOpen g a j) i
+              below-more (λ j. member (union mask (2 ^ i)) j ≡ safelyEnabled g a j) i
               (λ j l. member-or mask (2 ^ i) j ∙ ap (λ (b : Bool). member mask j || b) (member-single-other i j (λ e. absurd (omega (arith, e)))) ∙ or-false (member mask j) ∙ w .at j l)
               (member-or mask (2 ^ i) i ∙ or-right (member mask i) (member-single i) ∙ h);
         }
 
-    pub open-skip : false ≡ isOpen g a i → OpenStates g a (i + 1) mask
-    open-skip h =
+    pub states-skip : false ≡ safelyEnabled g a i → EnabledStates g a (i + 1) mask
+    states-skip h =
         record {
           below = narrow;
-          at = below-more (λ j. member mask j ≡ isOpen g a j) i (w .at) (member-beyond i mask i (w .below) (le-refl i) ∙ h);
+          at = below-more (λ j. member mask j ≡ safelyEnabled g a j) i (w .at) (member-beyond i mask i (w .below) (le-refl i) ∙ h);
         }
 
--- ---- the list of the actions' open states
+-- ---- the list of these states, by action
 
--- the first places of the list are the open states of the actions below the bound
-abbrev pub Opens : Game → ℕ → List ℕ → Type 0
-Opens g bound masks = (a : ℕ) → a < bound → OpenStates g a (g .states) (getD masks a 0)
+-- the first places of the list are the states of the actions below the bound
+abbrev pub ByAction : Game → ℕ → List ℕ → Type 0
+ByAction g bound masks = (a : ℕ) → a < bound → EnabledStates g a (g .states) (getD masks a 0)
 
-pub opens-none : (g : Game) (masks : List ℕ) → Opens g 0 masks
-opens-none g masks = below-none (λ a. OpenStates g a (g .states) (getD masks a 0))
+pub actions-none : (g : Game) (masks : List ℕ) → ByAction g 0 masks
+actions-none g masks = below-none (λ a. EnabledStates g a (g .states) (getD masks a 0))
 
-pub opens-more : (g : Game) (masks : List ℕ) (a mask : ℕ) → a < length masks → OpenStates g a (g .states) mask → Opens g a masks → Opens g (a + 1) (set masks a mask)
-opens-more g masks a mask l w h =
-    below-more (λ b. OpenStates g b (g .states) (getD (set masks a mask) b 0)) a
-    (λ b m. subst (OpenStates g b (g .states)) (sym (getD-set-other masks a b mask 0 (λ q. absurd (omega (arith, q))))) (h b m))
-    (subst (OpenStates g a (g .states)) (sym (getD-set-same masks a mask 0 l)) w)
+pub actions-more : (g : Game) (masks : List ℕ) (a mask : ℕ) → a < length masks → EnabledStates g a (g .states) mask → ByAction g a masks → ByAction g (a + 1) (set masks a mask)
+actions-more g masks a mask l w h =
+    below-more (λ b. EnabledStates g b (g .states) (getD (set masks a mask) b 0)) a
+    (λ b m. subst (EnabledStates g b (g .states)) (sym (getD-set-other masks a b mask 0 (λ q. absurd (omega (arith, q))))) (h b m))
+    (subst (EnabledStates g a (g .states)) (sym (getD-set-same masks a mask 0 l)) w)
 
 -- they are those of the front
-pub opens-front : (g : Game) (masks : List ℕ) → Opens g (g .actions) masks → Opens g (g .actions) (take (g .actions) masks)
-opens-front g masks w a l = subst (OpenStates g a (g .states)) (sym (getD-take (g .actions) masks a 0 l)) (w a l)
+pub actions-front : (g : Game) (masks : List ℕ) → ByAction g (g .actions) masks → ByAction g (g .actions) (take (g .actions) masks)
+actions-front g masks w a l = subst (EnabledStates g a (g .states)) (sym (getD-take (g .actions) masks a 0 l)) (w a l)
 
-module _ (g : Game) (masks : List ℕ) (size : length masks ≡ g .actions) (w : Opens g (g .actions) masks) where
+module _ (g : Game) (masks : List ℕ) (size : length masks ≡ g .actions) (w : ByAction g (g .actions) masks) where
   -- a set of the list is an action's
-  by-action : (s : ℕ) → List·Memᴰ s masks → (a : ℕ) × (a < g .actions) × OpenStates g a (g .states) s
+  by-action : (s : ℕ) → List·Memᴰ s masks → (a : ℕ) × (a < g .actions) × EnabledStates g a (g .states) s
   by-action s m =
       let f = mem-at masks s m in
       let l : f .0 < g .actions = subst (λ (k : ℕ). f .0 < k) size (f .1) in
-      (f .0, l, subst (OpenStates g (f .0) (g .states)) (f .2) (w (f .0) l))
+      (f .0, l, subst (EnabledStates g (f .0) (g .states)) (f .2) (w (f .0) l))
 
-  pub opens-below : (s : ℕ) → List·Memᴰ s masks → s < 2 ^ g .states
-  opens-below s m = by-action s m .2 .below
+  pub actions-below : (s : ℕ) → List·Memᴰ s masks → s < 2 ^ g .states
+  actions-below s m = by-action s m .2 .below
 
-  open-enabled : (a i t : ℕ) → OpenStates g a (g .states) t → i < g .states → member t i ≡ true → (enabled g i a ≡ true) × (member (g .bad) i ≡ false)
-  unfolding isOpen
-  open-enabled a i t o l m =
+  member-enabled : (a i t : ℕ) → EnabledStates g a (g .states) t → i < g .states → member t i ≡ true → (enabled g i a ≡ true) × (member (g .bad) i ≡ false)
+  unfolding safelyEnabled
+  member-enabled a i t o l m =
       let b : (enabled g i a && not (member (g .bad) i)) ≡ true = sym (o .at i l) ∙ m in
       (and-left (enabled g i a) (not (member (g .bad) i)) b, not-true (member (g .bad) i) (and-right (enabled g i a) (not (member (g .bad) i)) b))
 
-  -- a subset of an action's open states is good for one round
+  -- a subset of an action's states is good for one round
   held-good : (s : ℕ) → s < 2 ^ g .states → holds masks s ≡ true → good g 1 s ≡ true
   unfolding good safe
   held-good s l h =
       let f = holds-found masks s h in
       let t = f .0 in
       let b = by-action t (f .1) in
-      let open-at : (i : ℕ) → i < g .states → member s i ≡ true → (enabled g i (b .0) ≡ true) × (member (g .bad) i ≡ false) = λ i k m. open-enabled (b .0) i t (b .2) k (subset-member s t (f .2) i m) in
+      let enabled-there : (i : ℕ) → i < g .states → member s i ≡ true → (enabled g i (b .0) ≡ true) × (member (g .bad) i ≡ false) = λ i k m. member-enabled (b .0) i t (b .2) k (subset-member s t (f .2) i m) in
       step-intro g (good g 0) s (b .0)
-      (eq-eqb (common s (g .bad)) 0 (common-zero-intro (g .states) s (g .bad) l (λ i k m. open-at i k m .1)))
+      (eq-eqb (common s (g .bad)) 0 (common-zero-intro (g .states) s (g .bad) l (λ i k m. enabled-there i k m .1)))
       (b .1)
-      (meets-intro g (good g 0) s (b .0) (enabled-intro g s (b .0) (λ i k m. open-at i k m .0)) (λ o k. refl))
+      (meets-intro g (good g 0) s (b .0) (enabled-intro g s (b .0) (λ i k m. enabled-there i k m .0)) (λ o k. refl))
 
   -- and the other way round
   good-held : (s : ℕ) → s < 2 ^ g .states → good g 1 s ≡ true → holds masks s ≡ true
-  unfolding good isOpen
+  unfolding good safelyEnabled
   good-held s l h =
       let f = step-action g (good g 0) s h in
       let a = f .0 in

@@ -37,13 +37,13 @@ pub record Passed (g : Game) (F : Family) (lane word : ℕ) : Type 0 where
   pub complete : (t : ℕ) → t < laneSets → Meets g F (lane * laneSets + t) → member word t ≡ true
 
 -- the state is not bad, and the action is enabled in it
-unfoldable pub isOpen : Game → (a i : ℕ) → Bool
-isOpen g a i = enabled g i a && not (member (g .bad) i)
+unfoldable pub safelyEnabled : Game → (a i : ℕ) → Bool
+safelyEnabled g a i = enabled g i a && not (member (g .bad) i)
 
 -- such states below the bound, as a mask
-pub record OpenStates (g : Game) (a bound mask : ℕ) : Type 0 where
+pub record EnabledStates (g : Game) (a bound mask : ℕ) : Type 0 where
   pub below : mask < 2 ^ bound
-  pub at : (i : ℕ) → i < bound → member mask i ≡ isOpen g a i
+  pub at : (i : ℕ) → i < bound → member mask i ≡ safelyEnabled g a i
 
 -- the two have the same words; or not, and then not the same sets
 abbrev pub Same : Bool → List ℕ → List ℕ → Type 0

@@ -10,7 +10,7 @@ ghost use Rattle.games.specs.Step.{meets, step, good};
 ghost use Rattle.tables.specs.Check.{checked};
 ghost use Rattle.tables.specs.declared.Checked.the-variants.{Fine};
 ghost use Rattle.moves.specs.Halves.{Tabled};
-ghost use Rattle.search.specs.Stages.{shownIn, Stage, Sound, Passed, isOpen, OpenStates, Same};
+ghost use Rattle.search.specs.Stages.{shownIn, Stage, Sound, Passed, safelyEnabled, EnabledStates, Same};
 ghost use Rattle.search.specs.Found.{Reached, Searched};
 use families::LANE_SETS;
 use games::Action;
@@ -114,9 +114,9 @@ fn pass(table: &[u32], low: &[u32], high: &[u32], family: &[u64], next: &mut [u6
 }
 
 // The state is not bad, and the action is enabled in it.
-fn is_open(table: &[u32], a: Action, i: State) -> bool
+fn safely_enabled(table: &[u32], a: Action, i: State) -> bool
     requires { ⌜ (checked (now table) ≡ Fine) × (a .0 < game (now table) .actions) × (i .0 < game (now table) .states) ⌝ }
-    ensures { λ r. ⌜ r ≡ isOpen (game (now (table .entry))) (a .0) (i .0) ⌝ }
+    ensures { λ r. ⌜ r ≡ safelyEnabled (game (now (table .entry))) (a .0) (i .0) ⌝ }
 {
     let bad = sets::member(tables::bad(table), i.0);
     let blocked = tables::successors(table, a, i) == 0;
@@ -124,15 +124,15 @@ fn is_open(table: &[u32], a: Action, i: State) -> bool
 }
 
 // The states that are not bad and in which the action is enabled.
-fn open_states(table: &[u32], a: Action) -> u32
+fn enabled_states(table: &[u32], a: Action) -> u32
     requires { ⌜ (checked (now table) ≡ Fine) × (a .0 < game (now table) .actions) ⌝ }
-    ensures { λ r. ⌜ OpenStates (game (now (table .entry))) (a .0) (game (now (table .entry)) .states) r ⌝ }
+    ensures { λ r. ⌜ EnabledStates (game (now (table .entry))) (a .0) (game (now (table .entry)) .states) r ⌝ }
 {
     let n = tables::states(table);
     let mut mask: u32 = 0;
     let mut i: u32 = 0;
     while i < n {
-        if is_open(table, a, State(i)) {
+        if safely_enabled(table, a, State(i)) {
             mask = mask | sets::single(i);
         }
         i += 1;
@@ -140,7 +140,7 @@ fn open_states(table: &[u32], a: Action) -> u32
     mask
 }
 
-// The sets that are good for one round: the subsets of each action's open states.
+// The sets that are good for one round: the subsets of the states, not bad, in which an action is enabled.
 fn first_family(table: &[u32], family: &mut [u64])
     requires { ⌜ (checked (now table) ≡ Fine) × (length (now family) ≡ lanes (game (now table) .states)) ⌝ }
     ensures { λ _. ⌜ Bits (game (now (table .entry)) .states) (good (game (now (table .entry))) 1) (now (family .exit)) ⌝ }
@@ -149,7 +149,7 @@ fn first_family(table: &[u32], family: &mut [u64])
     let mut masks = [0u32; MAX_ACTIONS as usize];
     let mut a: u32 = 0;
     while a < actions {
-        masks[a as usize] = open_states(table, Action(a));
+        masks[a as usize] = enabled_states(table, Action(a));
         a += 1;
     }
     families::below(&masks[..actions as usize], tables::states(table), family);

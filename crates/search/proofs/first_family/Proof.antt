@@ -8,25 +8,25 @@ use Rattle.games.specs.Format.{maxActions, maxStates}
 use Rattle.games.specs.Words.{game}
 use Rattle.tables.proofs.Checks.{sized}
 use Rattle.search.proofs.Turns.{few-states, few-actions}
-use Rattle.search.proofs.First.{Opens, opens-none, opens-more, opens-front, opens-below, first-bits}
+use Rattle.search.proofs.First.{ByAction, actions-none, actions-more, actions-front, actions-below, first-bits}
 use Rattle.search.proofs.first_family.Statement.{statement}
 use Rattle.search.proofs.first_family.Tie as tie
 
 abbrev Inv-loop : tie.InvT-loop
-Inv-loop table family actions masks₀ a₀ masks a = (actions ≤ maxActions) × (a ≤ actions) × (length masks ≡ maxActions) × Opens (game table) a masks
+Inv-loop table family actions masks₀ a₀ masks a = (actions ≤ maxActions) × (a ≤ actions) × (length masks ≡ maxActions) × ByAction (game table) a masks
 
 abbrev μ-loop : tie.MeasureT-loop
 μ-loop table family actions masks₀ a₀ masks a = actions - a
 
 -- what the loop leaves: the open states of all actions, in front
-front : (c : tie.After-loop Inv-loop μ-loop) → (length (take (c .before .before .actions .result) (c .before .loop .masks)) ≡ game (c .before .before .before .before .before .args .table .now) .actions) × Opens (game (c .before .before .before .before .before .args .table .now)) (game (c .before .before .before .before .before .args .table .now) .actions) (take (c .before .before .actions .result) (c .before .loop .masks))
+front : (c : tie.After-loop Inv-loop μ-loop) → (length (take (c .before .before .actions .result) (c .before .loop .masks)) ≡ game (c .before .before .before .before .before .args .table .now) .actions) × ByAction (game (c .before .before .before .before .before .args .table .now)) (game (c .before .before .before .before .before .args .table .now) .actions) (take (c .before .before .actions .result) (c .before .loop .masks))
 front c =
     let at = c .before in
     let g = game (at .before .before .before .before .args .table .now) in
     let e : at .loop .a ≡ g .actions = omega arith in
     let is = at .before .actions .ensures in (
       length-take-le _ _ (omega (arith, at .loop .inv .2)) ∙ is,
-      rw is (opens-front g (at .loop .masks) (rw e at (at .loop .inv .3))),
+      rw is (actions-front g (at .loop .masks) (rw e at (at .loop .inv .3))),
     )
 
 actions-requires : tie.Need-actions-requires Inv-loop μ-loop
@@ -36,10 +36,10 @@ loop-holds : tie.Need-loop-holds Inv-loop μ-loop
 loop-holds c =
     let start = c .before .before .before in
     let w = start .args .table .now in
-    (subst (λ (m : ℕ). m ≤ maxActions) (sym (c .actions .ensures)) (few-actions w (sized w (start .pre .0))), search needs, search needs, opens-none (game w) (replicate maxActions 0))
+    (subst (λ (m : ℕ). m ≤ maxActions) (sym (c .actions .ensures)) (few-actions w (sized w (start .pre .0))), search needs, search needs, actions-none (game w) (replicate maxActions 0))
 
-open-states-requires : tie.Need-open-states-requires Inv-loop μ-loop
-open-states-requires c κs = (c .before .before .before .before .before .pre .0, omega arith)
+enabled-states-requires : tie.Need-enabled-states-requires Inv-loop μ-loop
+enabled-states-requires c κs = (c .before .before .before .before .before .pre .0, omega arith)
 
 cast-masks : tie.Need-cast-masks Inv-loop μ-loop
 cast-masks c = search needs
@@ -60,7 +60,7 @@ loop-again : tie.Need-loop-again Inv-loop μ-loop
 loop-again c =
     let at = c .before .before in
     let start = at .before .before .before .before in
-    (at .loop .inv .0, search needs, length-set (at .loop .masks) (at .loop .a) (c .open-states .result) ∙ at .loop .inv .2, opens-more (game (start .args .table .now)) (at .loop .masks) (at .loop .a) (c .open-states .result) (omega (arith, at .loop .inv .2)) (c .open-states .ensures) (at .loop .inv .3))
+    (at .loop .inv .0, search needs, length-set (at .loop .masks) (at .loop .a) (c .enabled-states .result) ∙ at .loop .inv .2, actions-more (game (start .args .table .now)) (at .loop .masks) (at .loop .a) (c .enabled-states .result) (omega (arith, at .loop .inv .2)) (c .enabled-states .ensures) (at .loop .inv .3))
 
 cast-masks-2 : tie.Need-cast-masks-2 Inv-loop μ-loop
 cast-masks-2 c = search needs
@@ -83,7 +83,7 @@ below-requires c κs =
     let n = c .before .states .ensures in
     record {
       states = subst (λ (m : ℕ). m ≤ maxStates) (sym n) (few-states w (sized w (start .pre .0)));
-      masks = λ s m. rw n (opens-below (game w) _ (f .0) (f .1) s m);
+      masks = λ s m. rw n (actions-below (game w) _ (f .0) (f .1) s m);
       size = rw n (start .pre .1);
     }
 
@@ -109,7 +109,7 @@ first-family-spec =
     μ-loop
     actions-requires
     loop-holds
-    open-states-requires
+    enabled-states-requires
     cast-masks
     mul-masks
     array-write-masks

@@ -2,9 +2,9 @@ use native.Mathlib.Omega.{arith}
 use Rattle.games.specs.Words.{game}
 use Rattle.tables.proofs.Checks.{sized}
 use Rattle.search.proofs.Turns.{few-states}
-use Rattle.search.proofs.First.{is-open}
-use Rattle.search.proofs.is_open.Statement.{statement}
-use Rattle.search.proofs.is_open.Tie as tie
+use Rattle.search.proofs.First.{safely-enabled}
+use Rattle.search.proofs.safely_enabled.Statement.{statement}
+use Rattle.search.proofs.safely_enabled.Tie as tie
 
 bad-requires : tie.Need-bad-requires
 bad-requires c κs = sized (c .before .args .table .now) (c .before .pre .0)
@@ -23,7 +23,7 @@ successors-requires c κs =
 returns : tie.Need-returns
 returns c =
     let x = c .before .before .before .before .args in
-    is-open (game (x .table .now)) (x .a .0) (x .i .0) (c .successors .result) (c .before .member .result) (c .successors .ensures) (rw (c .before .before .bad .ensures) at (c .before .member .ensures))
+    safely-enabled (game (x .table .now)) (x .a .0) (x .i .0) (c .successors .result) (c .before .member .result) (c .successors .ensures) (rw (c .before .before .bad .ensures) at (c .before .member .ensures))
 
-pub is-open-spec : {M : Type 1} → statement M
-is-open-spec = tie.close (tie.spec bad-requires member-requires successors-requires returns)
+pub safely-enabled-spec : {M : Type 1} → statement M
+safely-enabled-spec = tie.close (tie.spec bad-requires member-requires successors-requires returns)

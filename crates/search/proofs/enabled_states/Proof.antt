@@ -6,14 +6,14 @@ use native.Mathlib.Omega.{arith}
 use Rattle.games.specs.Format.{maxStates}
 use Rattle.games.specs.Words.{game}
 use Rattle.tables.proofs.Checks.{sized}
-use Rattle.search.specs.Stages.{OpenStates}
+use Rattle.search.specs.Stages.{EnabledStates}
 use Rattle.search.proofs.Turns.{few-states}
-use Rattle.search.proofs.First.{open-none, open-hit, open-skip}
-use Rattle.search.proofs.open_states.Statement.{statement}
-use Rattle.search.proofs.open_states.Tie as tie
+use Rattle.search.proofs.First.{states-none, states-hit, states-skip}
+use Rattle.search.proofs.enabled_states.Statement.{statement}
+use Rattle.search.proofs.enabled_states.Tie as tie
 
 abbrev Inv-loop : tie.InvT-loop
-Inv-loop table a n mask₀ i₀ mask i = (n ≤ maxStates) × (i ≤ n) × OpenStates (game table) (a .0) i mask
+Inv-loop table a n mask₀ i₀ mask i = (n ≤ maxStates) × (i ≤ n) × EnabledStates (game table) (a .0) i mask
 
 abbrev μ-loop : tie.MeasureT-loop
 μ-loop table a n mask₀ i₀ mask i = n - i
@@ -25,10 +25,10 @@ loop-holds : tie.Need-loop-holds Inv-loop μ-loop
 loop-holds c =
     let start = c .before .before in
     let w = start .args .table .now in
-    (subst (λ (m : ℕ). m ≤ maxStates) (sym (c .states .ensures)) (few-states w (sized w (start .pre .0))), search needs, open-none (game w) (start .args .a .0))
+    (subst (λ (m : ℕ). m ≤ maxStates) (sym (c .states .ensures)) (few-states w (sized w (start .pre .0))), search needs, states-none (game w) (start .args .a .0))
 
-is-open-requires : tie.Need-is-open-requires Inv-loop μ-loop
-is-open-requires c κs = let start = c .before .before .before .before in (start .pre .0, start .pre .1, omega arith)
+safely-enabled-requires : tie.Need-safely-enabled-requires Inv-loop μ-loop
+safely-enabled-requires c κs = let start = c .before .before .before .before in (start .pre .0, start .pre .1, omega arith)
 
 single-requires : tie.Need-single-requires Inv-loop μ-loop
 single-requires c κs = search needs
@@ -48,8 +48,8 @@ loop-again c =
       at .loop .inv .0,
       search needs,
       ⊎-elim
-          (λ w. rw (w .2, w .1 .ensures) (open-hit g a (at .loop .i) (at .loop .mask) (at .loop .inv .2) (cc)))
-          (λ w. rw (w .1) (open-skip g a (at .loop .i) (at .loop .mask) (at .loop .inv .2) (cc)))
+          (λ w. rw (w .2, w .1 .ensures) (states-hit g a (at .loop .i) (at .loop .mask) (at .loop .inv .2) (cc)))
+          (λ w. rw (w .1) (states-skip g a (at .loop .i) (at .loop .mask) (at .loop .inv .2) (cc)))
           (c .if1 .came),
     )
 
@@ -61,15 +61,15 @@ returns c =
     let e : at .loop .i ≡ g .states = omega arith in
     rw e at (at .loop .inv .2)
 
-pub open-states-spec : {M : Type 1} → statement M
-open-states-spec =
+pub enabled-states-spec : {M : Type 1} → statement M
+enabled-states-spec =
     tie.close
     (tie.spec
     Inv-loop
     μ-loop
     states-requires
     loop-holds
-    is-open-requires
+    safely-enabled-requires
     single-requires
     add-i
     loop-less
