@@ -18,7 +18,7 @@ Inv-loop table family actions masks₀ a₀ masks a = (actions ≤ maxActions) �
 abbrev μ-loop : tie.MeasureT-loop
 μ-loop table family actions masks₀ a₀ masks a = actions - a
 
--- what the loop leaves: the open states of all actions, in front
+-- what the loop leaves: the states of all actions, in front
 front : (c : tie.After-loop Inv-loop μ-loop) → (length (take (c .before .before .actions .result) (c .before .loop .masks)) ≡ game (c .before .before .before .before .before .args .table .now) .actions) × ByAction (game (c .before .before .before .before .before .args .table .now)) (game (c .before .before .before .before .before .args .table .now) .actions) (take (c .before .before .actions .result) (c .before .loop .masks))
 front c =
     let at = c .before in
