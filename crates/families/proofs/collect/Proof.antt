@@ -20,13 +20,13 @@ enough c = few-lanes (c .args .n) (c .args .bits .now) (c .pre .0 .states) (c .p
 
 slice-aggregate-collect-with : tie.Need-slice-aggregate-collect-with
 unfolding room
-slice-aggregate-collect-with c = sym (length-take-le (length (c .before .before .before .args .bits .now)) room (enough (c .before .before .before)))
+slice-aggregate-collect-with c = let start : tie.Start = c .before .before .before in sym (length-take-le (length (start .args .bits .now)) room (enough start))
 
 collect-with-requires : tie.Need-collect-with-requires
 unfolding room
 collect-with-requires c κs =
-    let s : tie.Start = c .before .before .before .before in
-    (s .pre .0, length-take-le (length (s .args .bits .now)) room (enough s), s .pre .1)
+    let start : tie.Start = c .before .before .before .before in
+    (start .pre .0, length-take-le (length (start .args .bits .now)) room (enough start), start .pre .1)
 
 pub collect-spec : {M : Type 1} → statement M
 collect-spec =

@@ -1,4 +1,4 @@
--- `families::lane_count` meets its contract.
+-- `families::lane_count` meets its contract: up to 6 states take 2 ^ 0 lanes, and 1 shifted by fewer than 64 places does not wrap.
 -- Assumes nothing.
 use mathlib.Core.Path.{_≡_, ap}
 use Prim.Native.Nat.{ℕ, _-_, _^_}
