@@ -10,6 +10,8 @@ use Rattle.sets.proofs.Bounded.{all-at, all-intro, all-fails}
 use Rattle.sets.proofs.Mask.{member-and, common-lt-left}
 use Rattle.games.specs.Game.{Game, Accepted, Shows}
 use Rattle.games.specs.Verdict.{startSets, startSet, startsIn}
+-- the stations come first, so that a wrong definition is refused by the station that it breaks
+use Rattle.games.proofs.Stations.{every-station}
 
 module _ (g : Game) where
   pub start-below : Accepted g → (o : ℕ) → startSet g o < 2 ^ g .states
