@@ -7,7 +7,7 @@ use native.Mathlib.Nat.{le-refl}
 use native.Mathlib.Omega.{arith}
 use lib.ListN.{length}
 use Rattle.sets.specs.Bounded.{nothing, first, reachesFrom}
-use Rattle.sets.proofs.Places.{from-start, from-skip, from-stop, from-end}
+use Rattle.sets.proofs.Reaching.{from-start, from-skip, from-stop, from-end}
 use Rattle.sets.proofs.first_from.Statement.{statement}
 use Rattle.sets.proofs.first_from.Tie as tie
 
