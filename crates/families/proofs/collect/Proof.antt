@@ -6,16 +6,17 @@ use Prim.Native.Nat.{ℕ, _≤_}
 use borrow.Author.Needs.{needs}
 use lib.ListN.{length, replicate}
 use lib.Seq.{length-take-le}
+use Rattle.families.specs.Bits.{maxLanes}
 use Rattle.families.proofs.Lanes.{few-lanes}
 use Rattle.families.proofs.collect.Statement.{statement}
 use Rattle.families.proofs.collect.Tie as tie
 
 -- the room as it is made
 room : List ℕ
-room = replicate 64 0
+room = replicate maxLanes 0
 
 -- there are enough lanes
-enough : (c : tie.Start) → length (c .args .bits .now) ≤ 64
+enough : (c : tie.Start) → length (c .args .bits .now) ≤ maxLanes
 enough c = few-lanes (c .args .n) (c .args .bits .now) (c .pre .0 .states) (c .pre .0 .size)
 
 slice-aggregate-collect-with : tie.Need-slice-aggregate-collect-with

@@ -8,7 +8,7 @@ use lib.Count.{ones}
 use lib.ListN.{length, getD}
 use Rattle.sets.specs.Bounded.{count}
 use Rattle.sets.proofs.Bounded.{count-le}
-use Rattle.families.specs.Bits.{laneSets, has}
+use Rattle.families.specs.Bits.{laneSets, maxLanes, has}
 use Rattle.families.proofs.Words.{ones-count, lane-count, sets-count}
 use Rattle.families.proofs.size.Statement.{statement}
 use Rattle.families.proofs.size.Tie as tie
@@ -33,7 +33,7 @@ counted c =
     ap (λ (x : ℕ). at .loop .k + x) (ones-count laneSets (getD bits lane 0) (omega (arith, c .shared-slice-known .given lane))) ∙ lane-count bits lane (at .loop .k) (at .loop .inv .1)
 
 -- they are few
-few : (c : tie.After-shared-slice-known Inv-loop μ-loop) → let at = c .before .before in at .loop .k + ones (getD (at .before .args .bits .now) (at .loop .lane) 0) ≤ 4096
+few : (c : tie.After-shared-slice-known Inv-loop μ-loop) → let at = c .before .before in at .loop .k + ones (getD (at .before .args .bits .now) (at .loop .lane) 0) ≤ maxLanes * laneSets
 few c =
     let at = c .before .before in
     omega (arith, counted c, count-le ((at .loop .lane + 1) * laneSets) (has (at .before .args .bits .now)), at .before .pre, c .before .loop-test .taken)
