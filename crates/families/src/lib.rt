@@ -8,7 +8,8 @@ ghost use Rattle.sets.specs.Mask.{member, subset};
 ghost use Rattle.sets.specs.Bounded.{count as countOf, select};
 ghost use Rattle.sets.specs.Family.{listed, holds, isMaximal, maximal};
 ghost use Rattle.games.specs.Format.{maxStates};
-ghost use Rattle.families.specs.Bits.{laneStates, laneSets, highStates, maxLanes, lanes, has as isIn, sets, Bits, Closed, Holding, Lane, hasWith, largerHas, wordWith, coveredBy, lowHas, upHas, aboveHas, ByLane, raised};
+ghost use Rattle.families.specs.Bits.{laneStates, laneSets, highStates, maxLanes, lanes, has as isIn, sets, Bits, Closed, Holding, Lane};
+ghost use Rattle.families.specs.Bits.{hasWith, largerHas, wordWith, coveredBy, lowHas, upHas, aboveHas, ByLane, raised};
 
 // The states below 6 tell the sets of a lane apart.
 const LANE_STATES: u32 = 6;
