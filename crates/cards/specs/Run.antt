@@ -11,6 +11,7 @@ use Rattle.cards.specs.declared.CardCheck.{CardCheck}
 use Rattle.cards.specs.declared.CardCheck.the-variants.{Fine, Refused as Wrong}
 use Rattle.cards.specs.declared.Move.{Move}
 use Rattle.cards.specs.declared.Move.the-variants.{Entered, Refused}
+use Rattle.cards.specs.declared.Stood.{Stood}
 use Rattle.cards.specs.Card.{automaton, cardObservations, checked}
 
 -- the cell entered and its action
@@ -46,6 +47,26 @@ stepped w c j = past (checked w) (followed (automaton w) (cardObservations w) c 
 abbrev pub cellOr : Move → ℕ → ℕ
 cellOr (Entered c a) d = c .0
 cellOr (Refused n p) d = d
+
+-- ---- a runner
+
+-- a runner in cell c, whose last answer is m
+abbrev pub stands : ℕ → Move → Stood
+stands c m = record { cell = record { 0 = c }; answer = m }
+
+-- after an answer: in the cell entered, or in the one given where the answer is a refusal
+abbrev pub standsAfter : Move → ℕ → Stood
+standsAfter m c = stands (cellOr m c) m
+
+-- opened with the first observation; a refused opening gives cell 65,535
+abbrev pub starts : (card : List ℕ) (seen : ℕ) → Stood
+starts w j = standsAfter (opened w j) noCell
+
+-- moved from a cell by a later observation; a refused runner stays in its cell
+abbrev pub advances : (card : List ℕ) (cell seen : ℕ) → Stood
+advances w c j = standsAfter (stepped w c j) c
+
+-- ---- a list of observations
 
 -- one observation more: a step from the cell entered; a refusal stays
 unfoldable pub moved : List ℕ → Move → ℕ → Move

@@ -8,8 +8,7 @@ ghost use lib.ListN.{length};
 ghost use Rattle.games.specs.Format.{lowValues, numberValues, actionValues, kindValues, kindCell};
 ghost use Rattle.games.specs.Words.{lowField, numberField, word, cardLength};
 ghost use Rattle.cards.specs.Card.{headFits, cellNamed, cellFits, partFits, wordFits, wordsChecked, checked, automaton, cardObservations, cellPlace, Named};
-ghost use Rattle.games.specs.Automaton.{noCell};
-ghost use Rattle.cards.specs.Run.{enters, begun, followed, opened, stepped, cellOr};
+ghost use Rattle.cards.specs.Run.{enters, begun, followed, opened, stepped, standsAfter, starts, advances};
 
 pub enum CardCheck {
     Fine,
@@ -19,6 +18,12 @@ pub enum CardCheck {
 pub enum Move {
     Entered(Cell, Action),
     Refused(u32, usize),
+}
+
+// The cell that a runner is in, and its last answer.
+pub struct Stood {
+    pub cell: Cell,
+    pub answer: Move,
 }
 
 // The word of a kind that names the cell to go to on an observation.
@@ -165,8 +170,8 @@ fn enter(card: &[u32], cell: Cell, seen: Observation) -> Move
     Move::Entered(cell, Action(games::action_field(card[place])))
 }
 
-// Opening a checked card.
-fn start(card: &[u32], seen: Observation) -> Move
+// Opening a checked card. It is no entry: a run checks its card once and calls this.
+pub fn start(card: &[u32], seen: Observation) -> Move
     requires { ⌜ checked (now card) ≡ CardCheck.Fine ⌝ }
     ensures { λ r. ⌜ r ≡ begun (automaton (now (card .entry))) (cardObservations (now (card .entry))) (seen .0) ⌝ }
 {
@@ -177,8 +182,8 @@ fn start(card: &[u32], seen: Observation) -> Move
     enter(card, Cell(games::low_field(card[place])), seen)
 }
 
-// A step on a checked card.
-fn follow(card: &[u32], cell: Cell, seen: Observation) -> Move
+// A step on a checked card. It is no entry, as `start`.
+pub fn follow(card: &[u32], cell: Cell, seen: Observation) -> Move
     requires { ⌜ checked (now card) ≡ CardCheck.Fine ⌝ }
     ensures { λ r. ⌜ r ≡ followed (automaton (now (card .entry))) (cardObservations (now (card .entry))) (cell .0) (seen .0) ⌝ }
 {
@@ -213,22 +218,29 @@ pub fn step(card: &[u32], cell: Cell, seen: Observation) -> Move
     }
 }
 
-// The cell that the opening leads to; none where it is refused.
-pub fn first_cell(card: &[u32], seen: Observation) -> Cell
-    ensures { λ r. ⌜ r .0 ≡ cellOr (opened (now (card .entry)) (seen .0)) noCell ⌝ }
+// Where a runner stands after an answer: in the cell entered; in the one given where the answer is a refusal.
+fn after(answer: Move, cell: Cell) -> Stood
+    ensures { λ r. ⌜ r ≡ standsAfter answer (cell .0) ⌝ }
 {
-    match begin(card, seen) {
-        Move::Entered(cell, _) => cell,
-        Move::Refused(_, _) => Cell(games::NO_CELL),
+    match answer {
+        Move::Entered(entered, _) => Stood {
+            cell: entered,
+            answer,
+        },
+        Move::Refused(_, _) => Stood { cell, answer },
     }
 }
 
-// The cell that a step leads to; the same where it is refused.
-pub fn next_cell(card: &[u32], cell: Cell, seen: Observation) -> Cell
-    ensures { λ r. ⌜ r .0 ≡ cellOr (stepped (now (card .entry)) (cell .0) (seen .0)) (cell .0) ⌝ }
+// The opening with the cell that it leads to; none where it is refused. The card is checked once.
+pub fn opening(card: &[u32], seen: Observation) -> Stood
+    ensures { λ r. ⌜ r ≡ starts (now (card .entry)) (seen .0) ⌝ }
 {
-    match step(card, cell, seen) {
-        Move::Entered(entered, _) => entered,
-        Move::Refused(_, _) => cell,
-    }
+    after(begin(card, seen), Cell(games::NO_CELL))
+}
+
+// A step with the cell that it leads to; the same cell where it is refused. The card is checked once.
+pub fn moving(card: &[u32], cell: Cell, seen: Observation) -> Stood
+    ensures { λ r. ⌜ r ≡ advances (now (card .entry)) (cell .0) (seen .0) ⌝ }
+{
+    after(step(card, cell, seen), cell)
 }

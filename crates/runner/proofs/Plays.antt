@@ -18,32 +18,33 @@ use Rattle.games.specs.Demands.{Follows, Second}
 use Rattle.tables.specs.Fields.{filledBy}
 use Rattle.tables.proofs.Fills.{filled-ext}
 use Rattle.cards.specs.Card.{Fitting}
-use Rattle.cards.specs.Run.{entered, opened, stepped, moved, ran}
+use Rattle.cards.specs.Run.{entered, opened, stepped, moved, ran, stands, starts, advances}
 use Rattle.cards.specs.declared.Move.{Move}
+use Rattle.cards.specs.declared.Stood.{Stood}
 use Rattle.cards.proofs.Runs.{moved-entered, ran-one, ran-more, never-refused}
 use Rattle.runner.specs.declared.Ran.the-variants.{Done}
-use Rattle.runner.specs.Runs.{Standing, stands, starts, advances, standingFrom, standing, moveAt, actionOf, further, ranUpTo, leaves, writes, ranInto}
+use Rattle.runner.specs.Runs.{standingFrom, standing, moveAt, actionOf, further, ranUpTo, leaves, writes, ranInto}
 use Rattle.runner.proofs.Laws.{fits}
 
 -- ---- one observation more moves the runner
 
-standing-from-more : (w : List ℕ) (s : Standing) (h : List ℕ) (j : ℕ) → standingFrom w s (h ++ (j ∷ [])) ≡ advances w (standingFrom w s h .cell) j
+standing-from-more : (w : List ℕ) (s : Stood) (h : List ℕ) (j : ℕ) → standingFrom w s (h ++ (j ∷ [])) ≡ advances w (standingFrom w s h .cell .0) j
 unfolding standingFrom
 standing-from-more w s [] j = refl
-standing-from-more w s (i ∷ h) j = standing-from-more w (advances w (s .cell) i) h j
+standing-from-more w s (i ∷ h) j = standing-from-more w (advances w (s .cell .0) i) h j
 
 pub standing-one : (w : List ℕ) (j : ℕ) → standing w (j ∷ []) ≡ starts w j
 unfolding standing standingFrom
 standing-one w j = refl
 
-pub standing-more : (w h : List ℕ) (j : ℕ) → 0 < length h → standing w (h ++ (j ∷ [])) ≡ advances w (standing w h .cell) j
+pub standing-more : (w h : List ℕ) (j : ℕ) → 0 < length h → standing w (h ++ (j ∷ [])) ≡ advances w (standing w h .cell .0) j
 unfolding standing
 standing-more w [] j l = absurd (not-suc-le-zero l)
 standing-more w (i ∷ h) j l = standing-from-more w (starts w i) h j
 
 -- a runner that stands after observations, moved by one more
-pub stands-more : (w h : List ℕ) (j : ℕ) {s t : Standing} → 0 < length h → s ≡ standing w h → t ≡ advances w (s .cell) j → t ≡ standing w (h ++ (j ∷ []))
-stands-more w h j l e f = f ∙ ap (λ (u : Standing). advances w (u .cell) j) e ∙ sym (standing-more w h j l)
+pub stands-more : (w h : List ℕ) (j : ℕ) {s t : Stood} → 0 < length h → s ≡ standing w h → t ≡ advances w (s .cell .0) j → t ≡ standing w (h ++ (j ∷ []))
+stands-more w h j l e f = f ∙ ap (λ (u : Stood). advances w (u .cell .0) j) e ∙ sym (standing-more w h j l)
 
 -- where a cell is entered, the runner is in it
 starts-entered : (w : List ℕ) (j c a : ℕ) → opened w j ≡ entered c a → starts w j ≡ stands c (entered c a)
@@ -69,7 +70,7 @@ module _ (w : List ℕ) (c a : List ℕ → ℕ) where
   runs-more : (h : List ℕ) (j : ℕ) → 0 < length h → Enters h → Enters (h ++ (j ∷ [])) → Runs h → Runs (h ++ (j ∷ []))
   runs-more h j l e f r =
       standing-more w h j l
-      ∙ ap (λ (s : Standing). advances w (s .cell) j) r
+      ∙ ap (λ (s : Stood). advances w (s .cell .0) j) r
       ∙ advances-entered w (c h) j (c (h ++ (j ∷ []))) (a (h ++ (j ∷ [])))
       (sym (ran-more w h j l ∙ ap (λ (m : Move). moved w m j) e ∙ moved-entered w (c h) (a h) j) ∙ f)
 

@@ -6,10 +6,11 @@ use Prim.Native.Nat.{ℕ}
 use lib.ListN.{set}
 use Rattle.sets.specs.Bounded.{first, gather}
 use Rattle.cards.specs.Card.{automaton, headFits, cellNamed, cellFits, partFits, wordFits, wordsChecked, checked}
-use Rattle.cards.specs.Run.{entered, enters, begun, followed, opened, stepped, moved, ranFrom, ran}
+use Rattle.cards.specs.Run.{entered, enters, begun, followed, opened, stepped, moved, ranFrom, ran, stands}
+use Rattle.cards.specs.declared.Stood.{Stood}
 use Rattle.cards.specs.declared.Move.the-variants.{Refused}
 use Rattle.runner.specs.declared.Ran.the-variants.{Done, Refused as Stopped}
-use Rattle.runner.specs.Runs.{Standing, stands, standingFrom, standing, ranUpTo, Outcome, leaves, ranInto}
+use Rattle.runner.specs.Runs.{standingFrom, standing, ranUpTo, Outcome, leaves, ranInto}
 
 abbrev cardA : List ℕ
 cardA = 0x8021_0002 ∷ 0x9000_0000 ∷ 0xa000_0001 ∷ 0xb000_0001 ∷ 0xa010_0002 ∷ 0xb000_0000 ∷ []
@@ -19,11 +20,11 @@ cardC = 0x8022_0002 ∷ 0x9000_0000 ∷ 0x9001_0001 ∷ 0xa000_0001 ∷ 0xb000_f
 
 -- a card and observations; the buffer, and how the run leaves it; the runner
 abbrev pub Row : Type 0
-Row = record { card : List ℕ; seen : List ℕ; out : List ℕ; run : Outcome; runner : Standing }
+Row = record { card : List ℕ; seen : List ℕ; out : List ℕ; run : Outcome; runner : Stood }
 
 pub data Rows : List Row → Type 0 where
   none : Rows []
-  row : {w h d : List ℕ} {r : Outcome} {s : Standing} {l : List Row} → ranInto w h d ≡ r → standing w h ≡ s → Rows l → Rows (record { card = w; seen = h; out = d; run = r; runner = s } ∷ l)
+  row : {w h d : List ℕ} {r : Outcome} {s : Stood} {l : List Row} → ranInto w h d ≡ r → standing w h ≡ s → Rows l → Rows (record { card = w; seen = h; out = d; run = r; runner = s } ∷ l)
 
 -- the buffer of each row
 abbrev room : List ℕ

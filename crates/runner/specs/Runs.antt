@@ -7,41 +7,22 @@ use lib.Dec.{eqb, ltb}
 use lib.ListN.{length, take}
 use Rattle.games.specs.Automaton.{noCell}
 use Rattle.tables.specs.Fields.{filledBy}
-use Rattle.cards.specs.Run.{opened, stepped, cellOr, ran}
+use Rattle.cards.specs.Run.{opened, stepped, ran, stands, starts, advances}
+use Rattle.cards.specs.declared.Stood.{Stood}
 use Rattle.cards.specs.declared.Move.{Move}
 use Rattle.cards.specs.declared.Move.the-variants.{Entered, Refused}
-use Rattle.runner.specs.declared.Stood.{Stood}
 use Rattle.runner.specs.declared.Ran.{Ran}
 use Rattle.runner.specs.declared.Ran.the-variants.{Done, Refused as Stopped}
 
 -- ---- the runner
 
--- the cell that a runner is in, and its last answer
-pub record Standing : Type 0 where
-  pub cell : ℕ
-  pub answer : Move
-
-abbrev pub stands : ℕ → Move → Standing
-stands c m = record { cell = c; answer = m }
-
-abbrev pub stood : Stood → Standing
-stood s = stands (s .cell .0) (s .answer)
-
--- opened with the first observation; a refused opening gives cell 65,535
-abbrev pub starts : (card : List ℕ) (seen : ℕ) → Standing
-starts w j = stands (cellOr (opened w j) noCell) (opened w j)
-
--- moved from a cell by a later observation; a refused runner stays in its cell
-abbrev pub advances : (card : List ℕ) (cell seen : ℕ) → Standing
-advances w c j = stands (cellOr (stepped w c j) c) (stepped w c j)
-
 -- moved by a list of observations
-unfoldable pub standingFrom : (card : List ℕ) → Standing → List ℕ → Standing
+unfoldable pub standingFrom : (card : List ℕ) → Stood → List ℕ → Stood
 standingFrom w s [] = s
-standingFrom w s (j ∷ h) = standingFrom w (advances w (s .cell) j) h
+standingFrom w s (j ∷ h) = standingFrom w (advances w (s .cell .0) j) h
 
 -- opened with the first observation of a list and moved by the others; before the first it is in no cell, as `ran` has it
-unfoldable pub standing : (card seen : List ℕ) → Standing
+unfoldable pub standing : (card seen : List ℕ) → Stood
 standing w [] = stands noCell (ran w [])
 standing w (j ∷ h) = standingFrom w (starts w j) h
 

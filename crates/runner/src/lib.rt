@@ -2,6 +2,7 @@
 // or has a local of a runner is proved by a walk of its MIR, by hand, so there are three: two over the covered steps of `cards`, and
 // `drive`, which has plain parameters and needs no walk in its callers. `run` needs no runner.
 use cards::Move;
+use cards::Stood;
 use games::Cell;
 use games::Observation;
 ghost use mathlib.Core.Path.{_≡_};
@@ -9,7 +10,8 @@ ghost use mathlib.Core.List.{[], _∷_};
 ghost use Prim.Native.Nat.{_≤_};
 ghost use lib.ListN.{length};
 ghost use Rattle.tables.specs.Fields.{filledBy};
-ghost use Rattle.runner.specs.Runs.{stands, starts, advances, stood, standing, moveAt, moveOn, actionOf, ranUpTo, leaves, ranInto};
+ghost use Rattle.cards.specs.Run.{stands, starts, advances};
+ghost use Rattle.runner.specs.Runs.{standing, moveAt, moveOn, actionOf, ranUpTo, leaves, ranInto};
 
 pub struct Runner<'c> {
     pub card: &'c [u32],
@@ -26,8 +28,9 @@ pub struct Opened<'c> {
 pub fn start<'c>(card: &'c [u32], seen: Observation) -> Opened<'c>
     ensures { λ r. ⌜ (r .runner .card ≡ card .entry) × (stands (r .runner .cell .0) (r .answer) ≡ starts (now (card .entry)) (seen .0)) ⌝ }
 {
-    let cell = cards::first_cell(card, seen);
-    let answer = cards::begin(card, seen);
+    let stood = cards::opening(card, seen);
+    let cell = stood.cell;
+    let answer = stood.answer;
     Opened {
         runner: Runner { card, cell },
         answer,
@@ -36,19 +39,12 @@ pub fn start<'c>(card: &'c [u32], seen: Observation) -> Opened<'c>
 
 // Moves a runner by a later observation. Refused: it stays in its cell.
 pub fn advance<'r, 'c>(r: &'r mut Runner<'c>, seen: Observation) -> Move
-    ensures { λ m. ⌜ (now (r .exit) .card ≡ now (r .entry) .card) × (stands (now (r .exit) .cell .0) m ≡ advances (now (now (r .entry) .card)) (now (r .entry) .cell .0) (seen .0)) ⌝ }
+    ensures { λ m. ⌜ (now (r .exit) .card ≡ now (r .entry) .card)
+        × (stands (now (r .exit) .cell .0) m ≡ advances (now (now (r .entry) .card)) (now (r .entry) .cell .0) (seen .0)) ⌝ }
 {
-    let card = r.card;
-    let cell = r.cell;
-    let answer = cards::step(card, cell, seen);
-    r.cell = cards::next_cell(card, cell, seen);
-    answer
-}
-
-// The cell that a runner is in, and its last answer.
-pub struct Stood {
-    pub cell: Cell,
-    pub answer: Move,
+    let stood = cards::moving(r.card, r.cell, seen);
+    r.cell = stood.cell;
+    stood.answer
 }
 
 // A runner after its first, second and third observation.
@@ -59,8 +55,11 @@ pub struct Driven {
 }
 
 // Opens a runner with the first observation and moves it by two more. A refused runner stays in its cell, and goes on from there.
+// It is a harness and no entry: the rows and the walk show by it that a runner lives in a local and is lent twice.
 pub fn drive(card: &[u32], first: Observation, second: Observation, third: Observation) -> Driven
-    ensures { λ r. ⌜ (stood (r .begun) ≡ standing (now (card .entry)) (first .0 ∷ [])) × (stood (r .moved) ≡ standing (now (card .entry)) (first .0 ∷ second .0 ∷ [])) × (stood (r .last) ≡ standing (now (card .entry)) (first .0 ∷ second .0 ∷ third .0 ∷ [])) ⌝ }
+    ensures { λ r. ⌜ (r .begun ≡ standing (now (card .entry)) (first .0 ∷ []))
+        × (r .moved ≡ standing (now (card .entry)) (first .0 ∷ second .0 ∷ []))
+        × (r .last ≡ standing (now (card .entry)) (first .0 ∷ second .0 ∷ third .0 ∷ [])) ⌝ }
 {
     let opened = start(card, first);
     let mut r = opened.runner;
