@@ -1,12 +1,11 @@
 -- Running a card over its words and a cell number (document 01, "Entries": Run; refusals 13, 12, 14).
 -- Assumes nothing.
-use mathlib.Core.Bool.{Bool, true, false, cond}
+use mathlib.Core.Bool.{cond}
 use mathlib.Core.List.{List, [], _∷_}
 use Prim.Native.Nat.{ℕ}
 use lib.Dec.{eqb, leb}
 use Rattle.games.specs.Automaton.{Automaton, noCell}
 use Rattle.games.specs.declared.Cell.{Cell}
-use Rattle.games.specs.declared.Action.{Action}
 use Rattle.cards.specs.declared.CardCheck.{CardCheck}
 use Rattle.cards.specs.declared.CardCheck.the-variants.{Fine, Refused as Wrong}
 use Rattle.cards.specs.declared.Move.{Move}

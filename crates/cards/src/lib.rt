@@ -3,7 +3,7 @@ use games::Action;
 use games::Cell;
 use games::Observation;
 ghost use mathlib.Core.Path.{_≡_};
-ghost use Prim.Native.Nat.{_<_, _≤_};
+ghost use Prim.Native.Nat.{_<_};
 ghost use lib.ListN.{length};
 ghost use Rattle.games.specs.Format.{lowValues, numberValues, actionValues, kindValues, kindCell};
 ghost use Rattle.games.specs.Words.{lowField, numberField, word, cardLength};

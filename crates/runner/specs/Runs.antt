@@ -1,12 +1,16 @@
 -- What a runner does, and what a run over a list of observations answers and writes (document 01, "Entries": Run).
 -- Assumes nothing.
-use mathlib.Core.Bool.{Bool, cond}
+use mathlib.Core.Path.{_≡_}
+use mathlib.Core.Bool.{cond}
 use mathlib.Core.List.{List, [], _∷_}
-use Prim.Native.Nat.{ℕ, zero, suc, _+_}
+use Prim.Native.Nat.{ℕ, zero, suc, _+_, _≤_}
 use lib.Dec.{eqb, ltb}
 use lib.ListN.{length, take}
 use Rattle.games.specs.Automaton.{noCell}
 use Rattle.tables.specs.Fields.{filledBy}
+use Rattle.cards.specs.declared.CardCheck.{CardCheck}
+use Rattle.cards.specs.declared.CardCheck.the-variants.{Fine, Refused as Wrong}
+use Rattle.cards.specs.Card.{checked}
 use Rattle.cards.specs.Run.{opened, stepped, ran, stands, starts, advances}
 use Rattle.cards.specs.declared.Stood.{Stood}
 use Rattle.cards.specs.declared.Move.{Move}
@@ -52,6 +56,16 @@ unfoldable pub ranUpTo : (card seen : List ℕ) → ℕ → Ran
 ranUpTo w h zero = Done 0
 ranUpTo w h (suc k) = further (ranUpTo w h k) (moveAt w h k)
 
+-- the actions after the first k observations, in front of the buffer
+abbrev pub withActions : (card seen : List ℕ) → ℕ → List ℕ → List ℕ
+withActions w h k d = filledBy k (λ i. actionOf (moveAt w h i)) d
+
+-- what the pass that writes asks: the card is one, the run takes every observation, and there is a word for each
+pub record Writable (card seen out : List ℕ) : Type 0 where
+  pub right : checked card ≡ Fine
+  pub taken : ranUpTo card seen (length seen) ≡ Done (length seen)
+  pub room : length seen ≤ length out
+
 -- the answer, and the buffer `out` as it is left
 pub record Outcome : Type 0 where
   pub answer : Ran
@@ -60,11 +74,19 @@ pub record Outcome : Type 0 where
 abbrev pub leaves : Ran → List ℕ → Outcome
 leaves r d = record { answer = r; out = d }
 
--- where all are taken, their actions stand in front; a refusal leaves the buffer as it was
-abbrev pub writes : (card seen out : List ℕ) → Ran → Outcome
-writes w h d (Done k) = leaves (Done k) (filledBy k (λ i. actionOf (moveAt w h i)) d)
-writes w h d (Stopped number place i) = leaves (Stopped number place i) d
+-- a run that was not refused on the way: 15 where there is no word for each observation; else their actions stand in front
+abbrev pub written : (card seen out : List ℕ) → Ran → Outcome
+written w h d (Done k) = cond (ltb (length d) k) (leaves (Stopped 15 k k) d) (leaves (Done k) (withActions w h k d))
+written w h d (Stopped number place i) = leaves (Stopped number place i) d
 
--- 15: there is no word for each observation, and none is taken; else the run
+-- the run of a checked card: 12 and 14 on the way, then 15
+unfoldable pub writes : (card seen out : List ℕ) → Outcome
+writes w h d = written w h d (ranUpTo w h (length h))
+
+abbrev pub unless : CardCheck → (ℕ → ℕ → Outcome) → Outcome → Outcome
+unless Fine f r = r
+unless (Wrong n p) f r = f n p
+
+-- 13 first, whatever the observations; a refusal leaves the buffer as it was
 unfoldable pub ranInto : (card seen out : List ℕ) → Outcome
-ranInto w h d = cond (ltb (length d) (length h)) (leaves (Stopped 15 (length h) 0) d) (writes w h d (ranUpTo w h (length h)))
+ranInto w h d = unless (checked w) (λ number place. leaves (Stopped number place 0) d) (writes w h d)

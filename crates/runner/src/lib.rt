@@ -1,17 +1,17 @@
 // The runner (document 01, "Entries": Run): a card's words, held and not copied, and the cell it is in. A function that takes, makes
 // or has a local of a runner is proved by a walk of its MIR, by hand, so there are three: two over the covered steps of `cards`, and
 // `drive`, which has plain parameters and needs no walk in its callers. `run` needs no runner.
+use cards::CardCheck;
 use cards::Move;
 use cards::Stood;
 use games::Cell;
 use games::Observation;
 ghost use mathlib.Core.Path.{_≡_};
 ghost use mathlib.Core.List.{[], _∷_};
-ghost use Prim.Native.Nat.{_≤_};
 ghost use lib.ListN.{length};
-ghost use Rattle.tables.specs.Fields.{filledBy};
+ghost use Rattle.cards.specs.Card.{checked};
 ghost use Rattle.cards.specs.Run.{stands, starts, advances};
-ghost use Rattle.runner.specs.Runs.{standing, moveAt, moveOn, actionOf, ranUpTo, leaves, ranInto};
+ghost use Rattle.runner.specs.Runs.{standing, moveOn, ranUpTo, withActions, Writable, leaves, writes, ranInto};
 
 pub struct Runner<'c> {
     pub card: &'c [u32],
@@ -86,19 +86,21 @@ pub enum Ran {
     Refused(u32, usize, usize),
 }
 
-// The move on the next observation; the first opens the card.
+// The move of a checked card on the next observation; the first opens it.
 fn move_on(card: &[u32], taken: usize, cell: Cell, seen: Observation) -> Move
+    requires { ⌜ checked (now card) ≡ CardCheck.Fine ⌝ }
     ensures { λ r. ⌜ r ≡ moveOn (now (card .entry)) taken (cell .0) (seen .0) ⌝ }
 {
     if taken == 0 {
-        cards::begin(card, seen)
+        cards::start(card, seen)
     } else {
-        cards::step(card, cell, seen)
+        cards::follow(card, cell, seen)
     }
 }
 
-// Runs the card and writes nothing: refusals 13, 12 and 14.
+// Runs a checked card and writes nothing: refusals 12 and 14.
 fn try_run(card: &[u32], seen: &[u32]) -> Ran
+    requires { ⌜ checked (now card) ≡ CardCheck.Fine ⌝ }
     ensures { λ r. ⌜ r ≡ ranUpTo (now (card .entry)) (now (seen .entry)) (length (now (seen .entry))) ⌝ }
 {
     let mut cell: u32 = games::NO_CELL;
@@ -117,8 +119,8 @@ fn try_run(card: &[u32], seen: &[u32]) -> Ran
 
 // The actions of a run that is not refused.
 fn write_actions(card: &[u32], seen: &[u32], out: &mut [u32])
-    requires { ⌜ (length (now seen) ≤ length (now out)) × (ranUpTo (now card) (now seen) (length (now seen)) ≡ Ran.Done (length (now seen))) ⌝ }
-    ensures { λ _. ⌜ now (out .exit) ≡ filledBy (length (now (seen .entry))) (λ i. actionOf (moveAt (now (card .entry)) (now (seen .entry)) i)) (now (out .entry)) ⌝ }
+    requires { ⌜ Writable (now card) (now seen) (now out) ⌝ }
+    ensures { λ _. ⌜ now (out .exit) ≡ withActions (now (card .entry)) (now (seen .entry)) (length (now (seen .entry))) (now (out .entry)) ⌝ }
 {
     let mut cell: u32 = games::NO_CELL;
     let mut i: usize = 0;
@@ -134,19 +136,30 @@ fn write_actions(card: &[u32], seen: &[u32], out: &mut [u32])
     }
 }
 
-// Runs a card over observations, and writes the action after each into the front of `out`. A refused run leaves `out` as it was.
-pub fn run(card: &[u32], seen: &[u32], out: &mut [u32]) -> Ran
-    ensures { λ r. ⌜ leaves r (now (out .exit)) ≡ ranInto (now (card .entry)) (now (seen .entry)) (now (out .entry)) ⌝ }
+// Runs a checked card: a first pass that writes nothing (12, 14), then 15, then the pass that writes.
+fn run_checked(card: &[u32], seen: &[u32], out: &mut [u32]) -> Ran
+    requires { ⌜ checked (now card) ≡ CardCheck.Fine ⌝ }
+    ensures { λ r. ⌜ leaves r (now (out .exit)) ≡ writes (now (card .entry)) (now (seen .entry)) (now (out .entry)) ⌝ }
 {
-    let words = seen.len();
-    if out.len() < words {
-        return Ran::Refused(15, words, 0);
-    }
     match try_run(card, seen) {
         Ran::Refused(number, place, taken) => Ran::Refused(number, place, taken),
         Ran::Done(taken) => {
+            if out.len() < taken {
+                return Ran::Refused(15, taken, taken);
+            }
             write_actions(card, seen, out);
             Ran::Done(taken)
         }
+    }
+}
+
+// Runs a card over observations, and writes the action after each into the front of `out`. The card is checked once, whatever the
+// observations. A refused run leaves `out` as it was.
+pub fn run(card: &[u32], seen: &[u32], out: &mut [u32]) -> Ran
+    ensures { λ r. ⌜ leaves r (now (out .exit)) ≡ ranInto (now (card .entry)) (now (seen .entry)) (now (out .entry)) ⌝ }
+{
+    match cards::check(card) {
+        CardCheck::Refused(number, place) => Ran::Refused(number, place, 0),
+        CardCheck::Fine => run_checked(card, seen, out),
     }
 }
