@@ -1,7 +1,10 @@
 pub mod Limits
+pub mod Answers
+pub mod Places
 pub mod Stations
 pub mod Steps
 pub mod Plays
+pub mod Starts
 pub mod Memory
 pub mod Losing
 pub mod Lasting

@@ -1,4 +1,5 @@
 pub mod Logic
 pub mod Bounded
+pub mod Fills
 pub mod Mask
 pub mod Family

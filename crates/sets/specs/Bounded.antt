@@ -29,6 +29,11 @@ abbrev pub orElse : Found → ℕ → ℕ
 orElse nothing d = d
 orElse (found i) d = i
 
+-- what is said of the number found, else what follows
+abbrev pub atFound : {A : Type 0} → Found → (ℕ → A) → A → A
+atFound nothing said rest = rest
+atFound (found i) said rest = said i
+
 -- how many numbers below the bound pass
 unfoldable pub count : ℕ → (ℕ → Bool) → ℕ
 count zero test = 0
@@ -43,6 +48,10 @@ select (suc n) test = select n test ++ cond (test n) (n ∷ []) []
 unfoldable pub gather : ℕ → (ℕ → List ℕ) → List ℕ
 gather zero piece = []
 gather (suc n) piece = gather n piece ++ piece n
+
+-- the list with its first k places set to f 0, f 1, and so on
+abbrev pub filledBy : ℕ → (ℕ → ℕ) → List ℕ → List ℕ
+filledBy k f d = gather k (λ i. f i ∷ []) ++ drop k d
 
 -- the list with its first n places set to v
 abbrev pub fill : ℕ → ℕ → List ℕ → List ℕ
