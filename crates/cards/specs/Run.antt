@@ -4,10 +4,9 @@ use mathlib.Core.Bool.{cond}
 use mathlib.Core.List.{List, [], _∷_}
 use Prim.Native.Nat.{ℕ}
 use lib.Dec.{eqb, leb}
+use Rattle.games.specs.Answers.{unless}
 use Rattle.games.specs.Automaton.{Automaton, noCell}
 use Rattle.games.specs.declared.Cell.{Cell}
-use Rattle.cards.specs.declared.CardCheck.{CardCheck}
-use Rattle.cards.specs.declared.CardCheck.the-variants.{Fine, Refused as Wrong}
 use Rattle.cards.specs.declared.Move.{Move}
 use Rattle.cards.specs.declared.Move.the-variants.{Entered, Refused}
 use Rattle.cards.specs.declared.Stood.{Stood}
@@ -29,18 +28,13 @@ begun A o j = cond (leb o j) (Refused 12 j) (enters A (A .begins j) j)
 unfoldable pub followed : Automaton → (o c j : ℕ) → Move
 followed A o c j = cond (leb (A .size) c) (Refused 12 c) (cond (leb o j) (Refused 12 j) (enters A (A .next c j) j))
 
--- the card's own refusal comes first
-abbrev pub past : CardCheck → Move → Move
-past Fine r = r
-past (Wrong n p) r = Refused n p
-
--- opening a card with the first observation
+-- opening a card with the first observation; the card's own refusal comes first
 unfoldable pub opened : List ℕ → ℕ → Move
-opened w j = past (checked w) (begun (automaton w) (cardObservations w) j)
+opened w j = unless (checked w) Refused (begun (automaton w) (cardObservations w) j)
 
 -- a later observation in a cell
 unfoldable pub stepped : List ℕ → (c j : ℕ) → Move
-stepped w c j = past (checked w) (followed (automaton w) (cardObservations w) c j)
+stepped w c j = unless (checked w) Refused (followed (automaton w) (cardObservations w) c j)
 
 -- the cell that a move leads to: the one entered, or the one given where it was refused
 abbrev pub cellOr : Move → ℕ → ℕ
