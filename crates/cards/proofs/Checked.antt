@@ -1,11 +1,11 @@
 -- Laws of the check of a card's words.
 -- Assumes nothing.
-use mathlib.Core.Path.{_≡_, refl, sym, ap, subst, _∙_}
+use mathlib.Core.Path.{_≡_, sym, ap, subst, _∙_}
 use mathlib.Core.Logic.{_⊎_, inl, inr, ⊎-elim}
-use mathlib.Core.Bool.{Bool, true, false, not, cond, _&&_, _||_}
+use mathlib.Core.Bool.{Bool, true, false, not, _&&_, _||_}
 use mathlib.Core.List.{List}
 use Prim.Native.Nat.{ℕ, suc, _+_, _*_, _-_, _%_, _≤_, _<_}
-use native.Mathlib.Nat.{suc-mul, mul-le-mul-right, mul-mod-left, mul-add-mod-self-right, mod-eq-of-lt, mul-le-mul}
+use native.Mathlib.Nat.{suc-mul, mul-le-mul-right, mul-mod-left, mul-add-mod-self-right, mod-eq-of-lt}
 use native.Mathlib.Omega.{arith}
 use lib.Dec.{eqb, ltb}
 use lib.ListN.{length, getD}
@@ -13,7 +13,7 @@ use borrow.Author.Tests.{eq-eqb, ne-eqb, lt-ltb, le-ltb, eqb-true, ltb-true, not
 use Rattle.sets.specs.Bounded.{Found, nothing, first, atFound}
 use Rattle.sets.proofs.Logic.{and-left, and-right, or-cases, true-not, false-not}
 use Rattle.sets.proofs.Bounded.{first-zero, first-skip, first-stop, first-nothing}
-use Rattle.games.specs.Format.{within, maxActions, maxObservations, maxSets, maxCells, lowValues, numberValues, kindCard, kindFirst, kindCell, kindNext}
+use Rattle.games.specs.Format.{within, maxActions, maxObservations, maxSets, maxCells, kindCard, kindFirst, kindCell, kindNext}
 use Rattle.games.specs.Automaton.{noCell}
 use Rattle.games.specs.Fields.{lowField, numberField, actionField, word}
 use Rattle.games.specs.Words.{frontLength, partLength, cardLength}

@@ -6,7 +6,6 @@ use Prim.Native.Nat.{ℕ}
 use lib.Dec.{eqb, leb}
 use Rattle.games.specs.Answers.{unless}
 use Rattle.games.specs.Automaton.{Automaton, noCell}
-use Rattle.games.specs.declared.Cell.{Cell}
 use Rattle.cards.specs.declared.Move.{Move}
 use Rattle.cards.specs.declared.Move.the-variants.{Entered, Refused}
 use Rattle.cards.specs.declared.Stood.{Stood}

@@ -8,7 +8,8 @@ ghost use Prim.Native.Nat.{_<_};
 ghost use lib.ListN.{length};
 ghost use Rattle.games.specs.Format.{lowValues, numberValues, actionValues, kindValues, kindCell};
 ghost use Rattle.games.specs.Fields.{word};
-ghost use Rattle.cards.specs.Card.{headFits, cellNamed, cellFits, partFits, wordFits, wordsChecked, checked, automaton, cardObservations, cellPlace, Named};
+ghost use Rattle.cards.specs.Card.{headFits, cellNamed, cellFits, partFits, wordFits, wordsChecked, checked};
+ghost use Rattle.cards.specs.Card.{automaton, cardObservations, cellPlace, Named};
 ghost use Rattle.cards.specs.Run.{enters, begun, followed, opened, stepped, standsAfter, starts, advances};
 
 // What an observation leads to: the cell entered and its action, or a refusal's number and place.

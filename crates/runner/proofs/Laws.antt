@@ -2,6 +2,7 @@
 -- Assumes nothing.
 use mathlib.Core.Path.{_≡_, refl, sym, ap, ap₂, subst, _∙_}
 use mathlib.Core.Logic.{_⊎_, inl, inr, ⊎-elim}
+use mathlib.Core.Bool.{Bool, cond}
 use mathlib.Core.List.{List}
 use Prim.Native.Nat.{ℕ, zero, suc, _+_, _≤_, _<_}
 use native.Mathlib.Nat.{not-suc-le-zero, eq-or-lt-of-le, le-of-suc-le-suc}
@@ -9,19 +10,20 @@ use native.Mathlib.Numerals.{add-one}
 use native.Mathlib.Omega.{arith}
 use lib.ListN.{length, getD, take, set}
 use borrow.Author.Tests.{eq-eqb, ne-eqb, lt-ltb, le-ltb}
+use Rattle.games.specs.Answers.{Leaves, leaves}
 use Rattle.games.specs.declared.Cell.{Cell}
 use Rattle.games.specs.declared.Action.{Action}
-use Rattle.tables.proofs.Fills.{filled-none, filled-more, length-filled}
+use Rattle.sets.proofs.Fills.{filled-none, filled-more, length-filled}
 use Rattle.cards.specs.declared.Move.{Move}
 use Rattle.cards.specs.declared.Move.the-variants.{Entered, Refused}
-use Rattle.cards.specs.declared.CardCheck.the-variants.{Fine, Refused as Wrong}
+use Rattle.games.specs.declared.Checked.the-variants.{Fine, Refused as Wrong}
 use Rattle.cards.specs.Card.{automaton, cardObservations, checked}
 use Rattle.cards.specs.Run.{entered, begun, followed, opened, stepped, moved, ran}
 use Rattle.cards.proofs.Running.{opened-fine, stepped-fine}
 use Rattle.cards.proofs.Runs.{moved-entered, ran-take-one, ran-take-more}
 use Rattle.runner.specs.declared.Ran.{Ran}
 use Rattle.runner.specs.declared.Ran.the-variants.{Done, Refused as Stopped}
-use Rattle.runner.specs.Runs.{moveAt, moveOn, actionOf, further, ranUpTo, withActions, Writable, leaves, written, writes, ranInto}
+use Rattle.runner.specs.Runs.{moveAt, moveOn, actionOf, further, ranUpTo, withActions, Writable, written, writes, ranInto}
 
 -- ---- the next move, by the observations taken
 
@@ -153,14 +155,18 @@ module _ (w h : List ℕ) where
     unfolding writes
     run-refused number place i e = sym (ap (written w h d) e)
 
+    -- a run that took k observations, by whether there is room
+    room-for : ℕ → Bool → Leaves Ran (List ℕ)
+    room-for k b = cond b (leaves (Stopped 15 k k) d) (leaves (Done k) (withActions w h k d))
+
     pub run-short : (k : ℕ) → ranUpTo w h (length h) ≡ Done k → length d < k → leaves (Stopped 15 k k) d ≡ writes w h d
-    unfolding writes
-    run-short k e l = sym (ap (written w h d) e ∙ rw (lt-ltb (length d) k l))
+    unfolding writes room-for
+    run-short k e l = sym (ap (written w h d) e ∙ ap (room-for k) (lt-ltb (length d) k l))
 
     pub run-done : (k : ℕ) (o : List ℕ) → ranUpTo w h (length h) ≡ Done k → k ≤ length d → o ≡ withActions w h (length h) d → leaves (Done k) o ≡ writes w h d
-    unfolding writes
+    unfolding writes room-for
     run-done k o e l f =
-        sym (ap (written w h d) e ∙ rw (le-ltb (length d) k l)
+        sym (ap (written w h d) e ∙ ap (room-for k) (le-ltb (length d) k l)
         ∙ ap (λ (n : ℕ). leaves (Done k) (withActions w h n d)) (done-all (length h) k e)
         ∙ ap (leaves (Done k)) (sym f))
 

@@ -6,10 +6,10 @@ use mathlib.Core.List.{List, [], _∷_}
 use Prim.Native.Nat.{ℕ, zero, suc, _+_, _≤_}
 use lib.Dec.{eqb, ltb}
 use lib.ListN.{length, take}
+use Rattle.sets.specs.Bounded.{filledBy}
+use Rattle.games.specs.Answers.{unless, Leaves, leaves}
+use Rattle.games.specs.declared.Checked.the-variants.{Fine}
 use Rattle.games.specs.Automaton.{noCell}
-use Rattle.tables.specs.Fields.{filledBy}
-use Rattle.cards.specs.declared.CardCheck.{CardCheck}
-use Rattle.cards.specs.declared.CardCheck.the-variants.{Fine, Refused as Wrong}
 use Rattle.cards.specs.Card.{checked}
 use Rattle.cards.specs.Run.{opened, stepped, ran, stands, starts, advances}
 use Rattle.cards.specs.declared.Stood.{Stood}
@@ -66,27 +66,15 @@ pub record Writable (card seen out : List ℕ) : Type 0 where
   pub taken : ranUpTo card seen (length seen) ≡ Done (length seen)
   pub room : length seen ≤ length out
 
--- the answer, and the buffer `out` as it is left
-pub record Outcome : Type 0 where
-  pub answer : Ran
-  pub out : List ℕ
-
-abbrev pub leaves : Ran → List ℕ → Outcome
-leaves r d = record { answer = r; out = d }
-
 -- a run that was not refused on the way: 15 where there is no word for each observation; else their actions stand in front
-abbrev pub written : (card seen out : List ℕ) → Ran → Outcome
+abbrev pub written : (card seen out : List ℕ) → Ran → Leaves Ran (List ℕ)
 written w h d (Done k) = cond (ltb (length d) k) (leaves (Stopped 15 k k) d) (leaves (Done k) (withActions w h k d))
 written w h d (Stopped number place i) = leaves (Stopped number place i) d
 
 -- the run of a checked card: 12 and 14 on the way, then 15
-unfoldable pub writes : (card seen out : List ℕ) → Outcome
+unfoldable pub writes : (card seen out : List ℕ) → Leaves Ran (List ℕ)
 writes w h d = written w h d (ranUpTo w h (length h))
 
-abbrev pub unless : CardCheck → (ℕ → ℕ → Outcome) → Outcome → Outcome
-unless Fine f r = r
-unless (Wrong n p) f r = f n p
-
 -- 13 first, whatever the observations; a refusal leaves the buffer as it was
-unfoldable pub ranInto : (card seen out : List ℕ) → Outcome
+unfoldable pub ranInto : (card seen out : List ℕ) → Leaves Ran (List ℕ)
 ranInto w h d = unless (checked w) (λ number place. leaves (Stopped number place 0) d) (writes w h d)

@@ -1,17 +1,18 @@
 // The runner (document 01, "Entries": Run): a card's words, held and not copied, and the cell it is in. A function that takes, makes
 // or has a local of a runner is proved by a walk of its MIR, by hand, so there are three: two over the covered steps of `cards`, and
 // `drive`, which has plain parameters and needs no walk in its callers. `run` needs no runner.
-use cards::CardCheck;
 use cards::Move;
 use cards::Stood;
 use games::Cell;
+use games::Checked;
 use games::Observation;
 ghost use mathlib.Core.Path.{_≡_};
 ghost use mathlib.Core.List.{[], _∷_};
 ghost use lib.ListN.{length};
+ghost use Rattle.games.specs.Answers.{leaves};
 ghost use Rattle.cards.specs.Card.{checked};
 ghost use Rattle.cards.specs.Run.{stands, starts, advances};
-ghost use Rattle.runner.specs.Runs.{standing, moveOn, ranUpTo, withActions, Writable, leaves, writes, ranInto};
+ghost use Rattle.runner.specs.Runs.{standing, moveOn, ranUpTo, withActions, Writable, writes, ranInto};
 
 pub struct Runner<'c> {
     pub card: &'c [u32],
@@ -88,7 +89,7 @@ pub enum Ran {
 
 // The move of a checked card on the next observation; the first opens it.
 fn move_on(card: &[u32], taken: usize, cell: Cell, seen: Observation) -> Move
-    requires { ⌜ checked (now card) ≡ CardCheck.Fine ⌝ }
+    requires { ⌜ checked (now card) ≡ Checked.Fine ⌝ }
     ensures { λ r. ⌜ r ≡ moveOn (now (card .entry)) taken (cell .0) (seen .0) ⌝ }
 {
     if taken == 0 {
@@ -100,7 +101,7 @@ fn move_on(card: &[u32], taken: usize, cell: Cell, seen: Observation) -> Move
 
 // Runs a checked card and writes nothing: refusals 12 and 14.
 fn try_run(card: &[u32], seen: &[u32]) -> Ran
-    requires { ⌜ checked (now card) ≡ CardCheck.Fine ⌝ }
+    requires { ⌜ checked (now card) ≡ Checked.Fine ⌝ }
     ensures { λ r. ⌜ r ≡ ranUpTo (now (card .entry)) (now (seen .entry)) (length (now (seen .entry))) ⌝ }
 {
     let mut cell: u32 = games::NO_CELL;
@@ -138,7 +139,7 @@ fn write_actions(card: &[u32], seen: &[u32], out: &mut [u32])
 
 // Runs a checked card: a first pass that writes nothing (12, 14), then 15, then the pass that writes.
 fn run_checked(card: &[u32], seen: &[u32], out: &mut [u32]) -> Ran
-    requires { ⌜ checked (now card) ≡ CardCheck.Fine ⌝ }
+    requires { ⌜ checked (now card) ≡ Checked.Fine ⌝ }
     ensures { λ r. ⌜ leaves r (now (out .exit)) ≡ writes (now (card .entry)) (now (seen .entry)) (now (out .entry)) ⌝ }
 {
     match try_run(card, seen) {
@@ -159,7 +160,7 @@ pub fn run(card: &[u32], seen: &[u32], out: &mut [u32]) -> Ran
     ensures { λ r. ⌜ leaves r (now (out .exit)) ≡ ranInto (now (card .entry)) (now (seen .entry)) (now (out .entry)) ⌝ }
 {
     match cards::check(card) {
-        CardCheck::Refused(number, place) => Ran::Refused(number, place, 0),
-        CardCheck::Fine => run_checked(card, seen, out),
+        Checked::Refused(number, place) => Ran::Refused(number, place, 0),
+        Checked::Fine => run_checked(card, seen, out),
     }
 }

@@ -51,7 +51,6 @@ use Rattle.games.proofs.Cell.Laws as K′
 use Rattle.games.proofs.Observation as O
 use Rattle.games.proofs.Observation.Laws as O′
 use Rattle.cards.specs.Run.{advances}
-use Rattle.cards.specs.declared.Move.{Move}
 use Rattle.cards.specs.declared.Stood.{Stood}
 use Rattle.cards.proofs.Move as S
 use Rattle.cards.proofs.Move.Laws as S′

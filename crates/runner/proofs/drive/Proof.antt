@@ -1,5 +1,4 @@
--- `runner::drive` meets its contract: a walk of its MIR, by hand. `start` returns a runner, which is copied into a local; the local is lent to `advance` by `&mut`, twice, and its cell is read after each call. All that the proof knows of the two callees is that they meet their contracts.
--- A loan (`lend`) is at a lifetime below the card's, as `advance`'s bound asks: a new atom ν before the card's κ, whose token is made of a share of each. Once the call has returned, ν is ended, and the runner lies in the local again, as the call left it (`back`).
+-- A walk of the MIR by hand: `start` returns a runner, which is copied into a local; the local is lent to `advance` by `&mut`, twice, and its cell is read after each call, so each answer is that of one observation more.
 -- Assumes nothing.
 use mathlib.Core.Path.{_≡_, refl, sym, ap, subst, _∙_}
 use Prim.Native.Nat.{ℕ}
@@ -128,6 +127,8 @@ module _ {M : Type 1} (𝓤 : URA M) (H : Heap 𝓤) (A : Atoms 𝓤) (W : Given
   αᵉ = record { mir = erased; lft = κ }
 
   -- ---- a runner in a local is lent to `advance`, and comes back
+  -- The loan is at a lifetime below the card's, as `advance`'s bound asks: a new atom ν before the card's κ, whose token is made of a share
+  -- of each. Once the call has returned, ν is ended, and the runner lies in the local again, as the call left it.
   module _ (l : ℕ) (h : Runner) (d : Observation) (d-is : IsObs d) where
     abbrev q₁ : Share
     q₁ = PosShare·left q

@@ -38,14 +38,12 @@ use denote.Triple.Spec.{Meets, tripleOf}
 use denote.Triple.Table.{entered, cited}
 use denote.Triple.Walked.{says, Stays, stay-none, stay-none-slice, walkOf, goes-none, goes-none-slice, Walks, ends-at, walked, walk-meets}
 use denote.Exit.{yes}
-use Rattle.games.specs.declared.Cell.{Cell}
 use Rattle.games.specs.declared.Observation.{Observation}
 use Rattle.games.proofs.Cell as K
 use Rattle.games.proofs.Cell.Laws as K′
 use Rattle.games.proofs.Observation as O
 use Rattle.games.proofs.Observation.Laws as O′
 use Rattle.cards.specs.Run.{starts}
-use Rattle.cards.specs.declared.Move.{Move}
 use Rattle.cards.specs.declared.Stood.{Stood}
 use Rattle.cards.proofs.Move as S
 use Rattle.cards.proofs.Move.Laws as S′
