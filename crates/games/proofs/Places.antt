@@ -2,8 +2,8 @@
 -- Assumes nothing.
 use mathlib.Core.Path.{_≡_, refl, sym, ap, ap₂, _∙_, subst}
 use mathlib.Core.Logic.{_⊎_, ⊎-elim}
-use Prim.Native.Nat.{ℕ, _+_, _-_, _*_, _/_, _%_, _≤_, _<_}
-use native.Mathlib.Nat.{div-add-mod', mod-lt, mod-eq-of-lt, div-eq-of-lt, div-lt-iff-lt-mul, mul-add-div-right, mul-add-mod-self-right}
+use Prim.Native.Nat.{ℕ, suc, _+_, _-_, _*_, _/_, _%_, _≤_, _<_}
+use native.Mathlib.Nat.{div-add-mod', mod-lt, mod-eq-of-lt, div-eq-of-lt, div-lt-iff-lt-mul, mul-add-div-right, mul-add-mod-self-right, mul-le-mul-right, suc-mul}
 use native.Mathlib.Omega.{arith}
 use borrow.Author.Tests.{eq-eqb, ne-eqb, eqb-true, eqb-false, lt-ltb, le-ltb, ltb-true, ltb-false}
 use lib.Dec.{eqb, ltb}
@@ -98,3 +98,19 @@ shown-from s j = omega arith
 
 pub move-from : (s : Shape) (j : ℕ) → placeOf s (move 0 0) + j ≡ placeOf s (move (j / s .states) (j % s .states))
 move-from s j = omega (arith, div-add-mod' j (s .states))
+
+-- a move's slot is its action's and its state's
+pub move-slot : (s : Shape) (a i : ℕ) → placeOf s (move ((a * s .states + i) / s .states) ((a * s .states + i) % s .states)) ≡ placeOf s (move a i)
+move-slot s a i = omega (arith, div-add-mod' (a * s .states + i) (s .states))
+
+-- all observations' sets, all moves and an action's moves lie in the table
+pub shown-row : (s : Shape) → placeOf s (shown 0) + s .observations ≤ tableLength s
+shown-row s = omega arith
+
+pub moves-row : (s : Shape) → placeOf s (move 0 0) + s .actions * s .states ≤ tableLength s
+moves-row s = omega arith
+
+pub action-row : (s : Shape) (a : ℕ) → a < s .actions → placeOf s (move a 0) + s .states ≤ tableLength s
+action-row s a h =
+    let k : suc a * s .states ≤ s .actions * s .states = mul-le-mul-right (s .states) h in
+    omega (arith, suc-mul a (s .states))
