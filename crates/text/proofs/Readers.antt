@@ -21,20 +21,24 @@ use Rattle.text.proofs.Decimals.{lt-or-le, digit-within}
 -- ---- a literal run of bytes: s from its byte i on, at place `next` of the text l
 
 module _ (s l : List ℕ) (i next : ℕ) where
+  -- s is at its end
   pub matched-end : length s ≤ i → matched (drop i s) next (drop next l) ≡ At next
   unfolding matched
   matched-end h = rw (drop-of-length-le s h)
 
   module _ (h : i < length s) where
+    -- the text is, before s
     pub matched-short : length l ≤ next → matched (drop i s) next (drop next l) ≡ Wrong next
     unfolding matched
     matched-short m = rw (drop-cons s i 0 h, drop-of-length-le l m)
 
     module _ (m : next < length l) where
+      -- the bytes differ
       pub matched-other : (getD l next 0 ≡ getD s i 0 → ⊥) → matched (drop i s) next (drop next l) ≡ Wrong next
       unfolding matched
       matched-other d = rw (drop-cons s i 0 h, drop-cons l next 0 m, ne-eqb (getD l next 0) (getD s i 0) d)
 
+      -- they are the same
       pub matched-more : getD l next 0 ≡ getD s i 0 → matched (drop i s) next (drop next l) ≡ matched (drop (i + 1) s) (next + 1) (drop (next + 1) l)
       unfolding matched
       matched-more e = rw (drop-cons s i 0 h, drop-cons l next 0 m, eq-eqb (getD l next 0) (getD s i 0) e, add-one i, add-one next)
@@ -52,10 +56,12 @@ module _ (s l : List ℕ) {c : Cursor} {i : ℕ} where
 -- ---- a digit behind a number
 
 module _ (most v d : ℕ) where
+  -- behind a leading zero
   pub misplaced-zero : v ≡ 0 → misplaced most v d ≡ true
   unfolding misplaced
   misplaced-zero z = or-left (ltb most (v * 10 + d)) (eq-eqb v 0 z)
 
+  -- above the bound by itself
   pub misplaced-digit : most < d → misplaced most v d ≡ true
   unfolding misplaced
   misplaced-digit l = or-right (eqb v 0) (lt-ltb most (v * 10 + d) (omega arith))
@@ -83,34 +89,39 @@ module _ (most v d : ℕ) where
 -- ---- a number: d is the digit at place i of the text l
 
 module _ (most v : ℕ) (l : List ℕ) (i d : ℕ) (e : d ≡ digitAt l i) where
-  -- no digit, or the end
+  -- no digit, or the end: no number
   pub number-none : 9 < d → numberOf most i (drop i l) ≡ noNumber i
   unfolding numberOf digitAt
   number-none n =
       ⊎-elim (λ (h : i < length l). rw (drop-cons l i 0 h, ← e, lt-ltb 9 d n)) (λ (h : length l ≤ i). rw (drop-of-length-le l h)) (lt-or-le i (length l))
 
+  -- no digit, or the end: the number ends
   pub further-none : 9 < d → furtherDigits most v i (drop i l) ≡ number v i
   unfolding furtherDigits digitAt
   further-none n =
       ⊎-elim (λ (h : i < length l). rw (drop-cons l i 0 h, ← e, lt-ltb 9 d n)) (λ (h : length l ≤ i). rw (drop-of-length-le l h)) (lt-or-le i (length l))
 
-  -- a digit
+  -- a digit, which lies in the text
   module _ (n : d ≤ 9) where
     within : i < length l
     within = digit-within l i d e n
 
+    -- the first, above the bound
     pub number-large : most < d → numberOf most i (drop i l) ≡ noNumber i
     unfolding numberOf digitAt
     number-large m = rw (drop-cons l i 0 within, ← e, le-ltb 9 d n, lt-ltb most d m)
 
+    -- the first
     pub number-first : d ≤ most → numberOf most i (drop i l) ≡ furtherDigits most d (i + 1) (drop (i + 1) l)
     unfolding numberOf digitAt
     number-first m = rw (drop-cons l i 0 within, ← e, le-ltb 9 d n, le-ltb most d m, add-one i)
 
+    -- a further one, misplaced
     pub further-misplaced : misplaced most v d ≡ true → furtherDigits most v i (drop i l) ≡ noNumber i
     unfolding furtherDigits digitAt
     further-misplaced m = rw (drop-cons l i 0 within, ← e, le-ltb 9 d n, m)
 
+    -- a further one
     pub further-more : misplaced most v d ≡ false → furtherDigits most v i (drop i l) ≡ furtherDigits most (v * 10 + d) (i + 1) (drop (i + 1) l)
     unfolding furtherDigits digitAt
     further-more m = rw (drop-cons l i 0 within, ← e, le-ltb 9 d n, m, add-one i)
@@ -127,6 +138,7 @@ further-bounded most v i (b ∷ l) h =
     (decided (misplaced most v (digitOf b))))
     (decided (ltb 9 (digitOf b)))
 
+-- at most the bound, 0 where there is none
 pub number-bounded : (most i : ℕ) (l : List ℕ) → numberOf most i l .value ≤ most
 unfolding numberOf
 number-bounded most i [] = omega arith

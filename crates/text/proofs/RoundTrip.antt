@@ -190,6 +190,11 @@ read-is most l (At i) n j e =
     }
 read-is most l (Wrong i) n j e = nowhere most n j i e
 
+-- the same, from the cursor that it left
+pub read-passed : (most : ℕ) (l : List ℕ) (c : Cursor) (j : ℕ) → readDecimal most l c .next ≡ At j → ReadAs most l c (readDecimal most l c .value) j
+read-passed most l c j e =
+    read-is most l c (readDecimal most l c .value) j (ap (λ (x : Cursor). record { value = readDecimal most l c .value; next = x }) e)
+
 -- no two numbers have the same decimal
 pub decimal-injective : (a b : ℕ) → decimal a ≡ decimal b → a ≡ b
 unfolding furtherDigits

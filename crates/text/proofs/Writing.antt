@@ -7,9 +7,10 @@ use native.Mathlib.Nat.{add-zero, zero-add, add-suc, suc-add}
 use native.Mathlib.Numerals.{add-one}
 use native.Mathlib.Omega.{arith}
 use lib.ListN.{length, getD, set, take, drop, length-append, length-drop, take-append-drop}
-use lib.Seq.{sets, sets-eq, length-sets, take-suc, take-all, length-take-le, drop-drop, drop-append-seam, drop-at}
+use lib.Seq.{sets, sets-eq, length-sets, take-suc, take-all, length-take-le, drop-drop, drop-append-seam, drop-at, getD-drop}
 use Rattle.sets.specs.Bounded.{gather}
 use Rattle.text.specs.Text.{Wrote, Stands}
+use Rattle.text.specs.Decimal.{digitOf, digitAt}
 
 -- ---- writers
 
@@ -54,10 +55,6 @@ wrote-front {s} {d} {e} {r} w l = w .stored ∙ rw (zero-add (length s)) at (set
 
 -- ---- what stands at a place
 
--- nothing, anywhere
-pub stands-none : (i : ℕ) (l : List ℕ) → Stands [] i l i
-stands-none i l = record { next = sym (add-zero i); text = refl }
-
 -- x, and y behind it
 pub stands-then : {x y l : List ℕ} {i j k : ℕ} → Stands x i l j → Stands y j l k → Stands (x ++ y) i l k
 stands-then {x} {y} {l} {i} {j} {k} v w =
@@ -83,6 +80,13 @@ wrote-stands {s} {d} {e} {at} {r} w h =
     let q : e ≡ take at d ++ (s ++ drop (at + length s) d) = w .stored ∙ sets-eq s d at (omega arith) ∙ append-assoc (take at d) s (drop (at + length s) d) in
     let f = stands-front s (drop (at + length s) d) e at (rw q (drop-at (take at d) (s ++ drop (at + length s) d) at t)) in
     rw n (f .0)
+
+-- the digit there is that of the first byte
+pub stands-digit : {b : ℕ} {s l : List ℕ} {i j : ℕ} → Stands (b ∷ s) i l j → digitAt l i ≡ digitOf b
+unfolding digitAt
+stands-digit {b} {s} {l} {i} {j} h =
+    let e : getD l (i + 0) 0 ≡ b = sym (getD-drop i l 0 0) ∙ rw (h .text) in
+    rw (add-zero i) at (ap digitOf e)
 
 unmoved : (s l : List ℕ) (i : ℕ) → drop i l ≡ s ++ drop (i + length s) l → l ≡ sets l i s
 unmoved [] l i e = refl
