@@ -64,6 +64,8 @@ const A_CARD_CELL: [u32; 6] = with(A_CARD, 3, 0xB0000002);
 const A_CARD_KIND: [u32; 6] = with(A_CARD, 1, 0xB0000000);
 const A_CARD_MASK: [u32; 6] = with(A_CARD, 2, 0xA0001000);
 const A_CARD_SPARE: [u32; 6] = with(A_CARD, 5, 0xB1000000);
+// Right, with the two cells' actions exchanged.
+const A_CARD_TURNED: [u32; 6] = with(with(A_CARD, 2, 0xA0100001), 4, 0xA0000002);
 const C_CARD_SPARE: [u32; 9] = with(C_CARD, 8, 0xB101FFFF);
 // Right, but the observation 1 cannot occur first.
 const C_CARD_FIRST: [u32; 9] = with(C_CARD, 2, 0x9001FFFF);
@@ -210,6 +212,7 @@ pub fn runs() -> Vec<Row> {
         row("A run, more room", run(&A_CARD, &[0, 0, 0], 9), list(&[0, 1, 0])),
         row("C run", run(&C_CARD, &[0, 1, 0], 3), list(&[0, 1, 0])),
         row("C run from the other", run(&C_CARD, &[1, 0, 1, 0], 5), list(&[1, 0, 1, 0])),
+        row("actions that are not the cells", run(&A_CARD_TURNED, &[0, 0, 0], 3), list(&[1, 0, 1])),
         row("no observation", run(&A_CARD, &[], 0), list(&[])),
         row("no observation, some room", run(&C_CARD, &[], 3), list(&[])),
         row("12", run(&A_CARD, &[0, 0, 1, 0], 4), refused(12, 1)),
@@ -235,6 +238,7 @@ pub fn runs() -> Vec<Row> {
         row("order: 12 before a later 14", run(&C_CARD, &[0, 2, 0], 3), refused(12, 2)),
         row("A driven", drive(&A_CARD, [0, 0, 0]), Outcome::done(0, 0)),
         row("C driven", drive(&C_CARD, [1, 0, 1]), Outcome::done(1, 1)),
+        row("driven, actions that are not the cells", drive(&A_CARD_TURNED, [0, 0, 0]), Outcome::done(0, 1)),
         row("driven on from a refusal", drive(&C_CARD, [0, 0, 1]), Outcome::done(1, 1)),
         row("driven on from 12", drive(&C_CARD, [1, 7, 0]), Outcome::done(0, 0)),
         row("driven into 14", drive(&C_CARD, [0, 1, 1]), refused(14, 1)),
