@@ -587,8 +587,8 @@ impl Judge {
 /// What a move answers: the cell entered and its action, or number and place of a refusal.
 pub type Moved = Result<(u32, u32), (u32, usize)>;
 
-/// A card that passed its check. Its words are rows of 1 + o: the head with the first cells, then a
-/// row for each cell. A word of a row leads to a cell's number; the row of cell c is row c + 1.
+/// A card that passed its check. Its words are rows of 1 + o: row 0 has the head and the first cells,
+/// row c + 1 the action and the next cells of cell c.
 struct Rows<'c> {
     words: &'c [u32],
     cells: usize,
@@ -626,7 +626,7 @@ impl Rows<'_> {
         Ok(Rows { words, cells, o })
     }
 
-    /// The move by an observation, from the front or from a cell's row.
+    /// The move by an observation from row 0 or from a cell's row.
     #[inline(always)]
     fn enter(&self, row: usize, observation: u32) -> Moved {
         let seen = observation as usize;
@@ -653,7 +653,7 @@ impl Rows<'_> {
     }
 }
 
-/// The first of these words that is not a cell's number in the frame of its place.
+/// The first of these words that is not a cell or none, in the frame of its place.
 #[inline(always)]
 fn wrong_target(words: &[u32], kind: u32, cells: usize) -> Option<usize> {
     let wrong = |(r, word): (u32, &u32)| {
@@ -687,8 +687,7 @@ pub fn run(card: &[u32], observations: &[u32], out: &mut [u32]) -> Result<usize,
     Ok(observations.len())
 }
 
-/// A card's words and the cell that the runner is in. The card is checked at every move, as the words
-/// are anyone's.
+/// A card's words and the cell that the runner is in. Anyone may make one, so each move checks the card.
 pub struct Runner<'c> {
     pub card: &'c [u32],
     pub cell: u32,

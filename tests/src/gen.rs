@@ -286,11 +286,11 @@ pub fn walk(rng: &mut Rng, card: &Card, length: usize) -> Vec<u32> {
     let mut targets = &card.first;
     let mut observations = Vec::new();
     for _ in 0..length {
-        let open: Vec<usize> = (0..card.o).filter(|&r| targets[r].is_some()).collect();
-        if open.is_empty() {
+        let possible: Vec<usize> = (0..card.o).filter(|&r| targets[r].is_some()).collect();
+        if possible.is_empty() {
             break;
         }
-        let r = rng.pick(&open);
+        let r = rng.pick(&possible);
         observations.push(r as u32);
         targets = &card.cells[targets[r].expect("it can occur")].next;
     }

@@ -2,8 +2,8 @@
 //!
 //! - `game`, `oracle`: the game, the words, the entries and their refusals, as plain as can be;
 //! - `check`: checkers of verdicts by playing and by searching for strategies;
-//! - `fast`: a quick solver for the benchmark;
-//! - `gen`: random tables, lists, cards and damage;
+//! - `fast`: a quick solver, lists, judge and runner for the benchmark;
+//! - `gen`: random tables, lists, cards, plays and damage;
 //! - `stations`: the inputs and answers that document 01 itself gives;
 //! - `archive`, `guard`: the proved archive behind safe functions, called with guard words around
 //!   every buffer (only with the feature `archive`).

@@ -77,6 +77,7 @@ impl Tally {
         }
     }
 
+    /// The same for the runs.
     fn must_have_runs_of(&self, tried: u64) {
         if tried >= ENOUGH {
             self.runs.must_have_all();
@@ -592,7 +593,7 @@ fn cards_at_the_limits() {
     try_all_runs(&rng, &mut tally, &over, 1);
     tally.report("cards at the limits", 4);
     tally.must_have(&[12, 13, 14]);
-    tally.runs.must_have_all();
+    tally.runs.must_have(&[12, 13, 15]);
 }
 
 /// The list with another observation in one place.
