@@ -1,4 +1,4 @@
-//! A quick independent solver, for the benchmark, with two searches.
+//! A quick independent solver, for the benchmark, with two searches; lists, judge and runner as well.
 //!
 //! - Boundary: families of sets, 64 sets to a machine word. A set that is good settles all its
 //!   subsets, so a pass tests little more than the sets that fall and the maximal ones that stay.
@@ -580,4 +580,136 @@ impl Judge {
         let layout = &self.layout;
         k == 0 || layout.widest().iter().all(|shows| self.good(post & shows, k))
     }
+}
+
+// ---- Cards -------------------------------------------------------------------------------------
+
+/// What a move answers: the cell entered and its action, or number and place of a refusal.
+pub type Moved = Result<(u32, u32), (u32, usize)>;
+
+/// A card that passed its check. Its words are rows of 1 + o: row 0 has the head and the first cells,
+/// row c + 1 the action and the next cells of cell c.
+struct Rows<'c> {
+    words: &'c [u32],
+    cells: usize,
+    o: usize,
+}
+
+impl Rows<'_> {
+    /// Refusal 13: head, length, then the words in order.
+    fn check(words: &[u32]) -> Result<Rows<'_>, (u32, usize)> {
+        let head = words.first().copied().unwrap_or(0);
+        let (cells, o, a) = (head as usize & 0xFFFF, head as usize >> 16 & 15, head >> 20 & 15);
+        let fits = head >> 24 == 0x80
+            && cells.wrapping_sub(1) < 4096
+            && o.wrapping_sub(1) < 8
+            && a.wrapping_sub(1) < 8;
+        if !fits {
+            return Err((13, 0));
+        }
+        if words.len() != (1 + cells) * (1 + o) {
+            return Err((13, words.len()));
+        }
+        let (front, rows) = words.split_at(1 + o);
+        if let Some(place) = wrong_target(&front[1..], 0x9000_0000, cells) {
+            return Err((13, 1 + place));
+        }
+        for (row, at) in rows.chunks_exact(1 + o).zip((1 + o..).step_by(1 + o)) {
+            let cell = row[0] ^ 0xA000_0000;
+            if cell & !0x00F0_0FFF != 0 || cell >> 20 >= a {
+                return Err((13, at));
+            }
+            if let Some(place) = wrong_target(&row[1..], 0xB000_0000, cells) {
+                return Err((13, at + 1 + place));
+            }
+        }
+        Ok(Rows { words, cells, o })
+    }
+
+    /// The move by an observation from row 0 or from a cell's row.
+    #[inline(always)]
+    fn enter(&self, row: usize, observation: u32) -> Moved {
+        let seen = observation as usize;
+        if seen >= self.o {
+            return Err((12, seen));
+        }
+        let cell = self.words[row * (1 + self.o) + 1 + seen] & 0xFFFF;
+        if cell == NO_CELL {
+            return Err((14, seen));
+        }
+        Ok((cell, self.words[(1 + cell as usize) * (1 + self.o)] >> 20 & 15))
+    }
+
+    /// The action after each observation is handed on; stops at the first that is not taken.
+    #[inline(always)]
+    fn walk(&self, observations: &[u32], mut take: impl FnMut(usize, u32)) -> Result<(), (u32, usize)> {
+        let mut row = 0;
+        for (i, &observation) in observations.iter().enumerate() {
+            let (cell, action) = self.enter(row, observation)?;
+            row = 1 + cell as usize;
+            take(i, action);
+        }
+        Ok(())
+    }
+}
+
+/// The first of these words that is not a cell or none, in the frame of its place.
+#[inline(always)]
+fn wrong_target(words: &[u32], kind: u32, cells: usize) -> Option<usize> {
+    let wrong = |(r, word): (u32, &u32)| {
+        let cell = word ^ (kind | r << 16);
+        cell as usize >= cells && cell != NO_CELL
+    };
+    (0..).zip(words).position(wrong)
+}
+
+/// Opens a card with the first observation.
+pub fn open(card: &[u32], observation: u32) -> Moved {
+    Rows::check(card)?.enter(0, observation)
+}
+
+/// A later observation in a cell.
+pub fn step(card: &[u32], cell: u32, observation: u32) -> Moved {
+    let card = Rows::check(card)?;
+    if cell as usize >= card.cells {
+        return Err((12, cell as usize));
+    }
+    card.enter(1 + cell as usize, observation)
+}
+
+/// Runs a card over observations and writes the action after each to the front of `out`. What may be
+/// refused is walked through before anything is written.
+pub fn run(card: &[u32], observations: &[u32], out: &mut [u32]) -> Result<usize, (u32, usize)> {
+    let card = Rows::check(card)?;
+    card.walk(observations, |_, _| ())?;
+    let front = out.get_mut(..observations.len()).ok_or((15, observations.len()))?;
+    card.walk(observations, |i, action| front[i] = action)?;
+    Ok(observations.len())
+}
+
+/// A card's words and the cell that the runner is in. Anyone may make one, so each move checks the card.
+pub struct Runner<'c> {
+    pub card: &'c [u32],
+    pub cell: u32,
+}
+
+impl<'c> Runner<'c> {
+    pub fn open(card: &'c [u32], observation: u32) -> (Runner<'c>, Moved) {
+        let moved = open(card, observation);
+        (Runner { card, cell: moved.map_or(NO_CELL, |entered| entered.0) }, moved)
+    }
+
+    /// A refused runner stays in its cell.
+    pub fn advance(&mut self, observation: u32) -> Moved {
+        let moved = step(self.card, self.cell, observation)?;
+        self.cell = moved.0;
+        Ok(moved)
+    }
+}
+
+/// A runner opened with the first observation and moved by two more: what its last move answers.
+pub fn drive(card: &[u32], [first, second, third]: [u32; 3]) -> Moved {
+    let (mut runner, _) = Runner::open(card, first);
+    let _ = runner.advance(second);
+    runner.advance(third)
 }

@@ -1,6 +1,6 @@
-//! Random numbers, tables of several shapes, lists, cards, and damage to words.
+//! Random numbers, tables of several shapes, lists, cards, plays, and damage to words.
 
-use crate::game::Game;
+use crate::game::{members, Game};
 use crate::oracle::{card_words, table_words, Card, Cell, NO_CELL};
 
 /// splitmix64.
@@ -263,6 +263,38 @@ pub fn card(rng: &mut Rng, cells: usize, a: usize, o: usize) -> Vec<u32> {
     let first = targets(rng);
     let mut cell = |_| Cell { mask: rng.set(12, 40), action: rng.below(a), next: targets(rng) };
     card_words(&Card { a, o, first, cells: (0..cells).map(&mut cell).collect() })
+}
+
+/// The observations of a random play under the card of its game.
+pub fn play(rng: &mut Rng, game: &Game, card: &Card, length: usize) -> Vec<u32> {
+    let (mut states, mut targets) = (game.start, &card.first);
+    let mut observations = Vec::new();
+    for _ in 0..length {
+        let in_play: Vec<usize> = members(states).collect();
+        let state = rng.pick(&in_play);
+        let shown: Vec<usize> = (0..game.o).filter(|&r| game.showing(r, state)).collect();
+        let r = rng.pick(&shown);
+        let cell = &card.cells[targets[r].expect("what a play shows can occur")];
+        observations.push(r as u32);
+        (states, targets) = (game.moves[cell.action][state], &cell.next);
+    }
+    observations
+}
+
+/// Observations that a card takes one after the other, fewer where no more can occur.
+pub fn walk(rng: &mut Rng, card: &Card, length: usize) -> Vec<u32> {
+    let mut targets = &card.first;
+    let mut observations = Vec::new();
+    for _ in 0..length {
+        let possible: Vec<usize> = (0..card.o).filter(|&r| targets[r].is_some()).collect();
+        if possible.is_empty() {
+            break;
+        }
+        let r = rng.pick(&possible);
+        observations.push(r as u32);
+        targets = &card.cells[targets[r].expect("it can occur")].next;
+    }
+    observations
 }
 
 /// Damages words: a bit flipped, a word cut, added, replaced, swapped or pushed by a little.

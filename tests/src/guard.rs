@@ -102,7 +102,10 @@ impl Buffers {
                 Buffers::new(rng, &[first, second], 0, out)
             }
             Call::Rewrite { table, out } => Buffers::new(rng, &[table], 0, out),
-            Call::Open { card, .. } | Call::Step { card, .. } => Buffers::new(rng, &[card], 0, 0),
+            Call::Open { card, .. } | Call::Step { card, .. } | Call::Drive { card, .. } => {
+                Buffers::new(rng, &[card], 0, 0)
+            }
+            Call::Run { card, observations, out } => Buffers::new(rng, &[card, observations], 0, out),
             Call::Show { table, card, .. } => Buffers::new(rng, &[table, card], 0, 0),
         }
     }
@@ -119,6 +122,8 @@ impl Buffers {
             Call::Rewrite { .. } => archive::rewrite(input(0), out, answer),
             Call::Open { observation, .. } => archive::open(input(0), observation, answer),
             Call::Step { cell, observation, .. } => archive::step(input(0), cell, observation, answer),
+            Call::Run { .. } => archive::run(input(0), input(1), out, answer),
+            Call::Drive { observations, .. } => archive::drive(input(0), observations, answer),
             Call::Show { cell, .. } => archive::show(input(0), input(1), cell, answer),
         }
     }

@@ -2,8 +2,8 @@
 //!
 //! - `game`, `oracle`: the game, the words, the entries and their refusals, as plain as can be;
 //! - `check`: checkers of verdicts by playing and by searching for strategies;
-//! - `fast`: a quick solver for the benchmark;
-//! - `gen`: random tables, lists, cards and damage;
+//! - `fast`: a quick solver, lists, judge and runner for the benchmark;
+//! - `gen`: random tables, lists, cards, plays and damage;
 //! - `stations`: the inputs and answers that document 01 itself gives;
 //! - `archive`, `guard`: the proved archive behind safe functions, called with guard words around
 //!   every buffer (only with the feature `archive`).
@@ -55,6 +55,18 @@ pub mod archive {
         );
         fn kirdanzug_open(card: *const u32, card_length: usize, observation: u32, answer: *mut Answer);
         fn kirdanzug_step(card: *const u32, card_length: usize, cell: u32, observation: u32, answer: *mut Answer);
+        fn kirdanzug_run(
+            card: *const u32, card_length: usize,
+            observations: *const u32, observations_length: usize,
+            out: *mut u32, out_length: usize,
+            answer: *mut Answer,
+        );
+        // For comparisons and the benchmark alone; not in the header.
+        fn kirdanzug_drive(
+            card: *const u32, card_length: usize,
+            first: u32, second: u32, third: u32,
+            answer: *mut Answer,
+        );
         fn kirdanzug_show(
             table: *const u32, table_length: usize,
             card: *const u32, card_length: usize,
@@ -114,6 +126,23 @@ pub mod archive {
 
     pub fn step(card: &[u32], cell: u32, observation: u32, answer: &mut Answer) {
         unsafe { kirdanzug_step(card.as_ptr(), card.len(), cell, observation, answer) }
+    }
+
+    pub fn run(card: &[u32], observations: &[u32], out: &mut [u32], answer: &mut Answer) {
+        unsafe {
+            kirdanzug_run(
+                card.as_ptr(), card.len(),
+                observations.as_ptr(), observations.len(),
+                out.as_mut_ptr(), out.len(),
+                answer,
+            )
+        }
+    }
+
+    /// A runner opened with the first observation and moved by two more; the answer is the last move's.
+    pub fn drive(card: &[u32], observations: [u32; 3], answer: &mut Answer) {
+        let [first, second, third] = observations;
+        unsafe { kirdanzug_drive(card.as_ptr(), card.len(), first, second, third, answer) }
     }
 
     pub fn show(table: &[u32], card: &[u32], cell: u32, answer: &mut Answer) {

@@ -268,25 +268,58 @@ fn enter(card: &Card, target: Option<usize>, observation: u32) -> Result<Move, R
     }
 }
 
-/// Opening a runner with the first observation.
-pub fn open(words: &[u32], observation: u32) -> Result<Move, Refusal> {
-    let card = read_card(words)?;
+/// The move by the first observation.
+fn first_move(card: &Card, observation: u32) -> Result<Move, Refusal> {
     match card.first.get(observation as usize) {
-        Some(&target) => enter(&card, target, observation),
+        Some(&target) => enter(card, target, observation),
         None => refuse(12, observation as usize),
     }
 }
 
-/// One step of a runner from a cell.
-pub fn step(words: &[u32], cell: u32, observation: u32) -> Result<Move, Refusal> {
-    let card = read_card(words)?;
+/// The move by a later observation in a cell.
+fn next_move(card: &Card, cell: u32, observation: u32) -> Result<Move, Refusal> {
     let Some(current) = card.cells.get(cell as usize) else {
         return refuse(12, cell as usize);
     };
     match current.next.get(observation as usize) {
-        Some(&target) => enter(&card, target, observation),
+        Some(&target) => enter(card, target, observation),
         None => refuse(12, observation as usize),
     }
+}
+
+/// Opening a runner with the first observation.
+pub fn open(words: &[u32], observation: u32) -> Result<Move, Refusal> {
+    first_move(&read_card(words)?, observation)
+}
+
+/// One step of a runner from a cell.
+pub fn step(words: &[u32], cell: u32, observation: u32) -> Result<Move, Refusal> {
+    next_move(&read_card(words)?, cell, observation)
+}
+
+/// A run over observations: the action after each. Refused by 13, with no observation too; by 12 or
+/// 14 at the first observation that is not taken; then by 15.
+pub fn run(words: &[u32], observations: &[u32], room: usize) -> Result<Vec<u32>, Refusal> {
+    let card = read_card(words)?;
+    let mut cell = None;
+    let mut actions = Vec::new();
+    for &observation in observations {
+        let (entered, action) = match cell {
+            None => first_move(&card, observation)?,
+            Some(cell) => next_move(&card, cell, observation)?,
+        };
+        cell = Some(entered);
+        actions.push(action);
+    }
+    fit(actions, room)
+}
+
+/// A runner opened with the first observation and moved by two more: what its last move answers. A
+/// refused runner stays in its cell, and a refused opening leaves it in none.
+pub fn drive(words: &[u32], [first, second, third]: [u32; 3]) -> Result<Move, Refusal> {
+    let opened = open(words, first).map_or(NO_CELL, |entered| entered.0);
+    let moved = step(words, opened, second).map_or(opened, |entered| entered.0);
+    step(words, moved, third)
 }
 
 /// Show: offset and length of the part of the table's words with the moves of a cell's action.
@@ -455,6 +488,8 @@ pub enum Call<'a> {
     Rewrite { table: &'a [u32], out: usize },
     Open { card: &'a [u32], observation: u32 },
     Step { card: &'a [u32], cell: u32, observation: u32 },
+    Run { card: &'a [u32], observations: &'a [u32], out: usize },
+    Drive { card: &'a [u32], observations: [u32; 3] },
     Show { table: &'a [u32], card: &'a [u32], cell: u32 },
 }
 
@@ -517,6 +552,8 @@ pub fn outcome(call: &Call) -> Outcome {
         }
         Call::Open { card, observation } => open(card, observation).map(entered),
         Call::Step { card, cell, observation } => step(card, cell, observation).map(entered),
+        Call::Run { card, observations, out } => run(card, observations, out).map(Outcome::list),
+        Call::Drive { card, observations } => drive(card, observations).map(entered),
         Call::Show { table, card, cell } => {
             show(table, card, cell).map(|(offset, length)| Outcome::done(offset as u64, length as u64))
         }
@@ -552,6 +589,12 @@ impl fmt::Debug for Call<'_> {
             Call::Open { card, observation } => write!(f, "open, observation {observation}, card {}", hex(card)),
             Call::Step { card, cell, observation } => {
                 write!(f, "step, cell {cell}, observation {observation}, card {}", hex(card))
+            }
+            Call::Run { card, observations, out } => {
+                write!(f, "run, observations {observations:?}, out {out}, card {}", hex(card))
+            }
+            Call::Drive { card, observations } => {
+                write!(f, "drive, observations {observations:?}, card {}", hex(card))
             }
             Call::Show { table, card, cell } => {
                 write!(f, "show, cell {cell}, table {}, card {}", hex(table), hex(card))

@@ -1,5 +1,6 @@
 //! What document 01 itself gives: its stations with their answers, and every row of the table of
-//! refusals with its small input. The answers here are copied from the document, not computed.
+//! refusals with its small input. The answers here are copied from the document, not computed. Runs
+//! over lists of observations are done by hand on its cards.
 
 use crate::oracle::{Call, Outcome};
 
@@ -63,6 +64,11 @@ const A_CARD_CELL: [u32; 6] = with(A_CARD, 3, 0xB0000002);
 const A_CARD_KIND: [u32; 6] = with(A_CARD, 1, 0xB0000000);
 const A_CARD_MASK: [u32; 6] = with(A_CARD, 2, 0xA0001000);
 const A_CARD_SPARE: [u32; 6] = with(A_CARD, 5, 0xB1000000);
+// Right, with the two cells' actions exchanged.
+const A_CARD_TURNED: [u32; 6] = with(with(A_CARD, 2, 0xA0100001), 4, 0xA0000002);
+const C_CARD_SPARE: [u32; 9] = with(C_CARD, 8, 0xB101FFFF);
+// Right, but the observation 1 cannot occur first.
+const C_CARD_FIRST: [u32; 9] = with(C_CARD, 2, 0x9001FFFF);
 // Two things wrong at once, for the order of the refusals.
 const A_KIND_AND_MASK: [u32; 10] = with(with(A, 1, 0x20000008), 2, 0x20000004);
 const A_KIND_BEFORE_MASK: [u32; 10] = with(A, 1, 0x30000008);
@@ -194,6 +200,52 @@ pub fn refusals() -> Vec<Row> {
         row("order: 13 before 16", show(&C, &A_CARD_HEAD, 7), refused(13, 6)),
         row("order: 16 before 12", show(&C, &A_CARD, 7), refused(16, 0)),
         row("order: table before 10", Call::Rewrite { table: &A_UNSHOWN, out: 0 }, refused(7, 2)),
+    ]
+}
+
+/// Runs of the stations' cards over lists of observations, and runners driven by three.
+pub fn runs() -> Vec<Row> {
+    let run = |card, observations, out| Call::Run { card, observations, out };
+    let drive = |card, observations| Call::Drive { card, observations };
+    vec![
+        row("A run", run(&A_CARD, &[0, 0, 0, 0], 4), list(&[0, 1, 0, 1])),
+        row("A run, more room", run(&A_CARD, &[0, 0, 0], 9), list(&[0, 1, 0])),
+        row("C run", run(&C_CARD, &[0, 1, 0], 3), list(&[0, 1, 0])),
+        row("C run from the other", run(&C_CARD, &[1, 0, 1, 0], 5), list(&[1, 0, 1, 0])),
+        row("actions that are not the cells", run(&A_CARD_TURNED, &[0, 0, 0], 3), list(&[1, 0, 1])),
+        row("no observation", run(&A_CARD, &[], 0), list(&[])),
+        row("no observation, some room", run(&C_CARD, &[], 3), list(&[])),
+        row("12", run(&A_CARD, &[0, 0, 1, 0], 4), refused(12, 1)),
+        row("12, the first", run(&C_CARD, &[2], 4), refused(12, 2)),
+        row("12, not cut to 16 bits", run(&A_CARD, &[0, 0x10000], 4), refused(12, 0x10000)),
+        row("12, the largest", run(&C_CARD, &[0, 1, u32::MAX], 4), refused(12, u32::MAX.into())),
+        row("13", run(&A_CARD_HEAD, &[0], 1), refused(13, 6)),
+        row("13, the last word", run(&A_CARD_SPARE, &[0], 1), refused(13, 5)),
+        row("13, no observation", run(&A_CARD_HEAD, &[], 0), refused(13, 6)),
+        row("13, no observation, a word", run(&A_CARD_ACTION, &[], 4), refused(13, 4)),
+        row("13, no words, no observation", run(&[], &[], 0), refused(13, 0)),
+        row("14", run(&C_CARD, &[0, 1, 1, 0], 4), refused(14, 1)),
+        row("14, the first", run(&C_CARD_FIRST, &[1, 0], 2), refused(14, 1)),
+        row("14, the last", run(&C_CARD, &[1, 0, 0], 3), refused(14, 0)),
+        row("15", run(&A_CARD, &[0, 0, 0], 2), refused(15, 3)),
+        row("15, no room", run(&C_CARD, &[1], 0), refused(15, 1)),
+        row("order: 13 before 12", run(&A_CARD_SPARE, &[9], 1), refused(13, 5)),
+        row("order: 13 before 14", run(&C_CARD_SPARE, &[0, 0], 2), refused(13, 8)),
+        row("order: 13 before 15", run(&A_CARD_SPARE, &[0, 0], 1), refused(13, 5)),
+        row("order: 12 before 15", run(&C_CARD, &[0, 1, 2], 2), refused(12, 2)),
+        row("order: 14 before 15", run(&C_CARD, &[0, 1, 1], 2), refused(14, 1)),
+        row("order: 14 before a later 12", run(&C_CARD, &[0, 0, 2], 3), refused(14, 0)),
+        row("order: 12 before a later 14", run(&C_CARD, &[0, 2, 0], 3), refused(12, 2)),
+        row("A driven", drive(&A_CARD, [0, 0, 0]), Outcome::done(0, 0)),
+        row("C driven", drive(&C_CARD, [1, 0, 1]), Outcome::done(1, 1)),
+        row("driven, actions that are not the cells", drive(&A_CARD_TURNED, [0, 0, 0]), Outcome::done(0, 1)),
+        row("driven on from a refusal", drive(&C_CARD, [0, 0, 1]), Outcome::done(1, 1)),
+        row("driven on from 12", drive(&C_CARD, [1, 7, 0]), Outcome::done(0, 0)),
+        row("driven into 14", drive(&C_CARD, [0, 1, 1]), refused(14, 1)),
+        row("driven into 12", drive(&C_CARD, [0, 1, 2]), refused(12, 2)),
+        row("driven after an opening refused by 12", drive(&C_CARD, [2, 1, 0]), refused(12, 65_535)),
+        row("driven after an opening refused by 14", drive(&C_CARD_FIRST, [1, 0, 0]), refused(12, 65_535)),
+        row("driven on a wrong card", drive(&A_CARD_CELL, [0, 0, 0]), refused(13, 3)),
     ]
 }
 

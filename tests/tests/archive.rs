@@ -5,7 +5,7 @@ use kirdanzug_tests::check::{keeps_clear, lasts_played, no_holds};
 use kirdanzug_tests::game::Game;
 use kirdanzug_tests::gen::{self, Rng, SHAPES};
 use kirdanzug_tests::guard::{compare, ArchiveRunner};
-use kirdanzug_tests::oracle::{self, card_length, work_length, Call, Decided, Outcome, Verdict, NO_CELL};
+use kirdanzug_tests::oracle::{self, card_length, work_length, Call, Card, Decided, Outcome, Verdict, NO_CELL};
 use kirdanzug_tests::run::{count, report, seed, spread};
 use kirdanzug_tests::stations;
 
@@ -21,11 +21,16 @@ struct Tally {
     longest: u64,
     most_cells: u64,
     refusals: [u64; 18],
+    runs: Runs,
 }
 
 impl Tally {
     fn add(&mut self, call: &Call, outcome: &Outcome) {
-        self.calls += 1;
+        match *call {
+            Call::Run { observations, out, .. } => return self.runs.add_run(observations.len(), out, outcome),
+            Call::Drive { .. } => return self.runs.add_drive(outcome),
+            _ => self.calls += 1,
+        }
         let [tag, first, second] = outcome.answer;
         match (call, tag) {
             (Call::Solve { .. }, 0) => {
@@ -48,21 +53,21 @@ impl Tally {
             sum.no += part.no;
             sum.longest = sum.longest.max(part.longest);
             sum.most_cells = sum.most_cells.max(part.most_cells);
-            sum.refusals.iter_mut().zip(part.refusals).for_each(|(mine, theirs)| *mine += theirs);
+            add_each(&mut sum.refusals, &part.refusals);
+            sum.runs.add(&part.runs);
             sum
         })
     }
 
     fn report(&self, name: &str, tried: u64) {
-        let Tally { calls, yes, no, longest, most_cells, refusals } = self;
-        let refusals: Vec<String> =
-            (1..18).filter(|&i| refusals[i] > 0).map(|i| format!("{i}: {}", refusals[i])).collect();
+        let Tally { calls, yes, no, longest, most_cells, refusals, runs } = self;
         report(&format!(
             "{name}: seed {}, {tried} inputs, {calls} calls, solve yes {yes} (up to {most_cells} cells), \
-             no {no} (up to {longest} rounds), refusals {{{}}}",
+             no {no} (up to {longest} rounds), refusals {}",
             seed(),
-            refusals.join(", ")
+            listed(refusals)
         ));
+        runs.report(name);
     }
 
     /// The same where so many random inputs were tried that each number must have come up.
@@ -72,10 +77,108 @@ impl Tally {
         }
     }
 
+    /// The same for the runs.
+    fn must_have_runs_of(&self, tried: u64) {
+        if tried >= ENOUGH {
+            self.runs.must_have_all();
+        }
+    }
+
     fn must_have(&self, numbers: &[usize]) {
         for &number in numbers {
             assert!(self.refusals[number] > 0, "refusal {number} never came up");
         }
+    }
+}
+
+fn add_each(sum: &mut [u64; 18], part: &[u64; 18]) {
+    sum.iter_mut().zip(part).for_each(|(mine, theirs)| *mine += theirs);
+}
+
+/// How often each refusal came up.
+fn listed(refusals: &[u64; 18]) -> String {
+    let some: Vec<String> =
+        (1..18).filter(|&i| refusals[i] > 0).map(|i| format!("{i}: {}", refusals[i])).collect();
+    format!("{{{}}}", some.join(", "))
+}
+
+/// What runs over lists of observations and runners driven by three came by. In both arrays the
+/// number at 0 counts the calls that were not refused.
+#[derive(Default, Clone)]
+struct Runs {
+    run: [u64; 18],
+    driven: [u64; 18],
+    /// The most observations that a run took.
+    longest: usize,
+    /// Runs refused by 12 or 14 for which the room was short too.
+    short_too: u64,
+    /// Runs refused by 13 with no observation.
+    unobserved: u64,
+}
+
+/// The number of a refusal, 0 where there is none.
+fn number_of(outcome: &Outcome) -> usize {
+    match outcome.answer {
+        [2, number, _] => number as usize,
+        _ => 0,
+    }
+}
+
+impl Runs {
+    fn add_run(&mut self, observations: usize, out: usize, outcome: &Outcome) {
+        let number = number_of(outcome);
+        self.run[number] += 1;
+        match number {
+            0 => self.longest = self.longest.max(observations),
+            12 | 14 => self.short_too += u64::from(out < observations),
+            13 => self.unobserved += u64::from(observations == 0),
+            _ => (),
+        }
+    }
+
+    fn add_drive(&mut self, outcome: &Outcome) {
+        self.driven[number_of(outcome)] += 1;
+    }
+
+    fn add(&mut self, part: &Runs) {
+        add_each(&mut self.run, &part.run);
+        add_each(&mut self.driven, &part.driven);
+        self.longest = self.longest.max(part.longest);
+        self.short_too += part.short_too;
+        self.unobserved += part.unobserved;
+    }
+
+    fn report(&self, name: &str) {
+        let Runs { run, driven, longest, short_too, unobserved } = self;
+        if run.iter().chain(driven).all(|&times| times == 0) {
+            return;
+        }
+        report(&format!(
+            "{name}, runs: seed {}, {} taken (up to {longest} observations), refusals {}, by 12 or 14 with a short \
+             room {short_too}, by 13 with no observation {unobserved}; driven: {} entered, refusals {}",
+            seed(),
+            run[0],
+            listed(run),
+            driven[0],
+            listed(driven)
+        ));
+    }
+
+    /// Runs were taken, and refused by each of these numbers.
+    fn must_have(&self, numbers: &[usize]) {
+        for &number in [0].iter().chain(numbers) {
+            assert!(self.run[number] > 0, "{number} never came up in a run");
+        }
+    }
+
+    /// All that a run and a driven runner answer, and the earlier of two refusals where both hold.
+    fn must_have_all(&self) {
+        self.must_have(&[12, 13, 14, 15]);
+        for number in [0, 12, 13, 14] {
+            assert!(self.driven[number] > 0, "{number} never came up in a driven runner");
+        }
+        assert!(self.short_too > 0, "no run was refused on the way with a short room");
+        assert!(self.unobserved > 0, "no run was refused by 13 with no observation");
     }
 }
 
@@ -162,7 +265,46 @@ fn try_card(rng: &mut Rng, tally: &mut Tally, table: &[u32], card: &[u32], calls
         try_call(rng, tally, Call::Open { card, observation });
         try_call(rng, tally, Call::Step { card, cell, observation });
         try_call(rng, tally, Call::Show { table, card, cell });
+        try_runs(rng, tally, card, o, 12);
     }
+}
+
+/// Runs over some observations with exact, short, long and no room, and a runner driven by three. They
+/// draw from a copy of the generator, so that the other calls are what they are without them.
+fn try_runs(rng: &Rng, tally: &mut Tally, card: &[u32], o: usize, longest: usize) {
+    let rng = &mut rng.clone();
+    let observations = &some_observations(rng, card, o, longest);
+    for out in lengths(rng, observations.len()) {
+        try_call(rng, tally, Call::Run { card, observations, out });
+    }
+    let some = some_observations(rng, card, o, 3);
+    let observations = [0, 1, 2].map(|i| some.get(i).copied().unwrap_or_else(|| some_observation(rng, o)));
+    try_call(rng, tally, Call::Drive { card, observations });
+}
+
+/// Observations that the card takes, mostly with another in one place; any where the card is wrong.
+fn some_observations(rng: &mut Rng, card: &[u32], o: usize, longest: usize) -> Vec<u32> {
+    let length = rng.within(0, longest);
+    let mut observations = match oracle::read_card(card) {
+        Ok(card) => gen::walk(rng, &card, length),
+        Err(_) => (0..length).map(|_| some_observation(rng, o)).collect(),
+    };
+    if !observations.is_empty() && rng.percent(60) {
+        let place = rng.below(observations.len());
+        observations[place] = some_observation(rng, o);
+    }
+    observations
+}
+
+/// A random play under the solver's card: a run over its observations is taken whole.
+fn try_play(rng: &Rng, tally: &mut Tally, game: &Game, card: &Card) {
+    let rng = &mut rng.clone();
+    let length = rng.within(0, 40);
+    let observations = &gen::play(rng, game, card, length);
+    let card = &oracle::card_words(card);
+    let taken = oracle::run(card, observations, length).map(|actions| actions.len());
+    assert_eq!(taken, Ok(length), "{game:?}");
+    try_call(rng, tally, Call::Run { card, observations, out: length });
 }
 
 /// Judging some masks, one of them from n up at times, and k from 0 to 5 or anything.
@@ -191,6 +333,7 @@ fn try_table(rng: &mut Rng, tally: &mut Tally, table: &[u32]) {
         try_call(rng, tally, Call::Rewrite { table, out });
     }
     if let Verdict::Yes { card, .. } = verdict {
+        try_play(rng, tally, &game, card);
         let mut card = oracle::card_words(card);
         try_card(rng, tally, table, &card, 2);
         gen::damage(rng, &mut card);
@@ -214,7 +357,7 @@ fn try_damaged(rng: &mut Rng, tally: &mut Tally, table: &[u32]) {
 #[test]
 fn stations_of_document_01() {
     let mut rng = Rng::new(seed(), 0);
-    for row in stations::stations().into_iter().chain(stations::refusals()) {
+    for row in stations::stations().into_iter().chain(stations::refusals()).chain(stations::runs()) {
         for _ in 0..10 {
             compare(&mut rng, &row.call, &row.outcome);
         }
@@ -223,7 +366,7 @@ fn stations_of_document_01() {
 
 /// All tables of one and two states with one or two actions and observations, those that are refused
 /// for an empty start or a state that shows nothing among them; on each, every mask, k, cell and
-/// observation, and one beyond.
+/// observation, and one beyond, and every short run.
 #[test]
 fn all_small_tables() {
     for (n, a, o) in [(1, 1, 1), (1, 1, 2), (1, 2, 1), (1, 2, 2), (2, 1, 1), (2, 1, 2), (2, 2, 1), (2, 2, 2)] {
@@ -240,6 +383,8 @@ fn all_small_tables() {
         let tally = Tally::sum(spread(tables, work));
         tally.report(&format!("all tables of n {n}, a {a}, o {o}"), tables);
         tally.must_have(&[5, 6, 7, 8, 9, 12, 17]);
+        // With one observation every state shows it, and it can always occur.
+        tally.runs.must_have(if o == 1 { &[12, 15] } else { &[12, 14, 15] });
     }
 }
 
@@ -276,6 +421,20 @@ fn try_whole_card(rng: &mut Rng, tally: &mut Tally, game: &Game, table: &[u32], 
     for cell in (0..=cells).chain([NO_CELL]) {
         try_call(rng, tally, Call::Show { table, card, cell });
     }
+    try_all_runs(rng, tally, card, game.o as u32);
+}
+
+/// All lists of up to three observations and one beyond, with every room, and every runner driven so.
+fn try_all_runs(rng: &Rng, tally: &mut Tally, card: &[u32], o: u32) {
+    let rng = &mut rng.clone();
+    for observations in &all_lists(o + 1, 3) {
+        for out in 0..=observations.len() + 1 {
+            try_call(rng, tally, Call::Run { card, observations, out });
+        }
+        if let Ok(observations) = observations[..].try_into() {
+            try_call(rng, tally, Call::Drive { card, observations });
+        }
+    }
 }
 
 fn random_tables(name: &str, tables: u64, least: usize, most: usize) -> Tally {
@@ -298,6 +457,7 @@ fn random_tables(name: &str, tables: u64, least: usize, most: usize) -> Tally {
 fn random_tables_up_to_six_states() {
     let tally = random_tables("random tables up to 6 states", count(1), 1, 6);
     tally.must_have_of(count(1), &[1, 2, 3, 4, 5, 6, 7, 8, 9, 10, 12, 13, 14, 16, 17]);
+    tally.must_have_runs_of(count(1));
 }
 
 /// The largest games known to us: long counters and wide rings, with every entry.
@@ -344,10 +504,12 @@ fn every_single_damage_to_the_stations() {
                 try_call(&mut rng, &mut tally, Call::Step { card: &damaged, cell: observation, observation: 0 });
             }
             try_call(&mut rng, &mut tally, Call::Show { table, card: &damaged, cell: 0 });
+            try_all_runs(&rng, &mut tally, &damaged, 2);
         }
     }
     tally.report("every single damage", 11);
     tally.must_have(&[1, 2, 3, 4, 5, 6, 7, 13, 14, 16]);
+    tally.runs.must_have_all();
 }
 
 fn all_damages(words: &[u32]) -> Vec<Vec<u32>> {
@@ -381,6 +543,7 @@ fn random_cards() {
         let mut card = gen::card(&mut rng, cells, a, o);
         try_card(&mut rng, tally, &table, &card, 3);
         try_run(&mut rng, tally, &card, o);
+        try_runs(&rng, tally, &card, o, 200);
         gen::damage(&mut rng, &mut card);
         try_card(&mut rng, tally, &table, &card, 3);
     };
@@ -388,6 +551,7 @@ fn random_cards() {
     let tally = Tally::sum(spread(cards, work));
     tally.report("random cards", cards);
     tally.must_have_of(cards, &[12, 13, 14, 16]);
+    tally.must_have_runs_of(cards);
 }
 
 /// A run of some observations, each step from the cell that the last one entered.
@@ -426,8 +590,73 @@ fn cards_at_the_limits() {
     over[0] += 1;
     over.extend([0xA000_0000, 0xB000_0000]);
     try_call(&mut rng, &mut tally, Call::Open { card: &over, observation: 0 });
+    try_all_runs(&rng, &mut tally, &over, 1);
     tally.report("cards at the limits", 4);
     tally.must_have(&[12, 13, 14]);
+    tally.runs.must_have(&[12, 13, 15]);
+}
+
+/// The list with another observation in one place.
+fn with_other(observations: &[u32], place: usize, other: u32) -> Vec<u32> {
+    let mut changed = observations.to_vec();
+    changed[place] = other;
+    changed
+}
+
+/// Station C's card takes 0 and 1 in turn. Runs that break off at every place, by an observation that
+/// cannot occur there or that the card does not have, with every room.
+#[test]
+fn runs_that_break_off() {
+    let mut rng = Rng::new(seed(), 6);
+    let mut tally = Tally::default();
+    for (length, first) in (0..=12).flat_map(|length| [(length, 0), (length, 1)]) {
+        let whole: Vec<u32> = (0..length as u32).map(|i| (first + i) % 2).collect();
+        let others = |place: usize| [1 - whole[place], 2, 8, 1 << 16, u32::MAX];
+        let broken = |place: usize| others(place).map(|other| with_other(&whole, place, other));
+        let lists: Vec<Vec<u32>> = (0..length).flat_map(broken).chain([whole.clone()]).collect();
+        for observations in &lists {
+            for out in 0..=length + 1 {
+                try_call(&mut rng, &mut tally, Call::Run { card: &stations::C_CARD, observations, out });
+            }
+        }
+    }
+    tally.runs.report("breaking off");
+    tally.runs.must_have(&[12, 14, 15]);
+    assert!(tally.runs.short_too > 0);
+}
+
+/// Long runs on large cards: on that of the wide ring over a play, and on one of 4,096 cells.
+#[test]
+fn long_runs() {
+    let mut rng = Rng::new(seed(), 7);
+    let mut tally = Tally::default();
+    let game = gen::ring(12, &gen::WIDE_RING, 8);
+    let Verdict::Yes { card, .. } = oracle::decide(&game) else { panic!("the wide ring has a card") };
+    let play = gen::play(&mut rng, &game, &card, 2_000);
+    try_long(&mut rng, &mut tally, &oracle::card_words(&card), &play);
+    let words = gen::card(&mut rng, 4096, 8, 8);
+    let card = oracle::read_card(&words).expect("the card is right");
+    let walk = gen::walk(&mut rng, &card, 2_000);
+    try_long(&mut rng, &mut tally, &words, &walk);
+    tally.runs.report("long");
+    tally.runs.must_have(&[12, 14, 15]);
+    assert!(tally.runs.longest >= 2_000);
+}
+
+/// A run over these, and with each observation at the start, in the middle and at the end.
+fn try_long(rng: &mut Rng, tally: &mut Tally, card: &[u32], observations: &[u32]) {
+    let length = observations.len();
+    for out in lengths(rng, length) {
+        try_call(rng, tally, Call::Run { card, observations, out });
+    }
+    for place in [0, length / 2, length - 1] {
+        for other in (0..=8).chain([u32::MAX]) {
+            let observations = &with_other(observations, place, other);
+            for out in [length, length - 1] {
+                try_call(rng, tally, Call::Run { card, observations, out });
+            }
+        }
+    }
 }
 
 /// Every n, a and o about the limits, with the right length, and lengths one off.

@@ -300,6 +300,54 @@ fn judges_and_refusals_agree() {
     assert!(count(20) < 1000 || good > 100 && refused > 100);
 }
 
+/// Runs, moves and driven runners of the fast model, on right and on damaged cards. A refused run
+/// writes nothing, and none writes behind its actions.
+#[test]
+fn runs_agree() {
+    let seed = seed();
+    let mut answers = [0; 18];
+    for i in 0..count(5) {
+        let mut rng = Rng::new(seed, i);
+        let (words, observations) = card_and_observations(&mut rng);
+        let cell = rng.below(20) as u32;
+        let refused = |refusal: oracle::Refusal| (refusal.number, refusal.place as usize);
+        for &observation in observations.iter().take(3) {
+            assert_eq!(fast::open(&words, observation), oracle::open(&words, observation).map_err(refused));
+            assert_eq!(fast::step(&words, cell, observation), oracle::step(&words, cell, observation).map_err(refused));
+        }
+        if let Some(&three) = observations.first_chunk() {
+            assert_eq!(fast::drive(&words, three), oracle::drive(&words, three).map_err(refused), "{words:x?}");
+        }
+        let mut out = vec![9; rng.within(0, 30)];
+        let expected = oracle::run(&words, &observations, out.len()).map_err(refused);
+        let found = fast::run(&words, &observations, &mut out);
+        assert_eq!(found, expected.as_ref().map(Vec::len).map_err(|&refusal| refusal), "{words:x?}");
+        let mut left = expected.unwrap_or_default();
+        left.resize(out.len(), 9);
+        assert_eq!(out, left, "{words:x?}");
+        answers[found.map_or_else(|refusal| refusal.0 as usize, |_| 0)] += 1;
+    }
+    report(&format!("runs: seed {seed}, taken {}, refused by 12 to 15: {:?}", answers[0], &answers[12..16]));
+    assert!(count(5) < 1000 || [0, 12, 13, 14, 15].iter().all(|&number: &usize| answers[number] > 50));
+}
+
+/// A card, sometimes damaged, and observations that it takes, sometimes with another among them.
+fn card_and_observations(rng: &mut Rng) -> (Vec<u32>, Vec<u32>) {
+    let (cells, a, o) = (rng.pick(&[1, 2, 3, 17, 100]), rng.within(1, 8), rng.within(1, 8));
+    let mut words = gen::card(rng, cells, a, o);
+    let card = oracle::read_card(&words).expect("the card is right");
+    let length = rng.within(0, 20);
+    let mut observations = gen::walk(rng, &card, length);
+    if rng.percent(50) && !observations.is_empty() {
+        let (place, near, wild) = (rng.below(observations.len()), rng.within(0, o + 1) as u32, rng.word());
+        observations[place] = rng.pick(&[near, near, wild]);
+    }
+    if rng.percent(30) {
+        gen::damage(rng, &mut words);
+    }
+    (words, observations)
+}
+
 /// Searching for a strategy and the families tell the same of every number of rounds.
 #[test]
 fn searching_agrees_with_judging() {

@@ -23,6 +23,11 @@ fn oracle_gives_every_refusal() {
 }
 
 #[test]
+fn oracle_gives_the_runs() {
+    check(stations::runs());
+}
+
+#[test]
 fn every_number_has_a_row() {
     let rows = stations::refusals();
     let numbers: Vec<u64> = rows.iter().map(|row| &row.outcome.answer).filter(|x| x[0] == 2).map(|x| x[1]).collect();
@@ -98,7 +103,8 @@ fn fast_models_give_the_stations() {
 fn fast_model_gives_the_stations(search: Search) {
     let mut solver = fast::Solver::new(search);
     let mut judge = fast::Judge::new();
-    for Row { name, call, outcome } in stations::stations().into_iter().chain(stations::refusals()) {
+    let rows = stations::stations().into_iter().chain(stations::refusals()).chain(stations::runs());
+    for Row { name, call, outcome } in rows {
         let mut out = vec![0; 64];
         let found = match call {
             Call::Solve { table, work, card } => {
@@ -111,7 +117,11 @@ fn fast_model_gives_the_stations(search: Search) {
             Call::Judge { table, mask, k } => answer(judge.judge(table, mask, k).map(usize::from)),
             Call::Join { n, first, second, out: room } => answer(fast::join(n, first, second, &mut out[..room])),
             Call::Meet { n, first, second, out: room } => answer(fast::meet(n, first, second, &mut out[..room])),
-            _ => continue,
+            Call::Open { card, observation } => moved(fast::open(card, observation)),
+            Call::Step { card, cell, observation } => moved(fast::step(card, cell, observation)),
+            Call::Run { card, observations, out: room } => answer(fast::run(card, observations, &mut out[..room])),
+            Call::Drive { card, observations } => moved(fast::drive(card, observations)),
+            Call::Rewrite { .. } | Call::Show { .. } => continue,
         };
         assert_eq!(found, outcome.answer, "{name}");
         assert_eq!(out[..outcome.written.len()], outcome.written, "{name}");
@@ -121,6 +131,13 @@ fn fast_model_gives_the_stations(search: Search) {
 fn answer(result: Result<usize, (u32, usize)>) -> [u64; 3] {
     match result {
         Ok(value) => [0, value as u64, 0],
+        Err((number, place)) => [2, number.into(), place as u64],
+    }
+}
+
+fn moved(result: fast::Moved) -> [u64; 3] {
+    match result {
+        Ok((cell, action)) => [0, cell.into(), action.into()],
         Err((number, place)) => [2, number.into(), place as u64],
     }
 }

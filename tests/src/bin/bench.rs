@@ -5,14 +5,16 @@
 //! `cargo run --release --bin bench [PLOT.svg]` prints a table of medians and ratios and writes a
 //! plot of time against n (docs/benchmark.svg unless named). Both sides read the table's words, write
 //! the card and zero the lent work words, as document 01 says. Buffers are not cleared before a call.
+//! Both sides check a card once in a run, in a step and in each move of a runner.
 //! Answers are compared before anything is timed. What is measured is the
 //! processor time of the thread, the two sides in turn, so that a busy machine does little harm.
 
 use kirdanzug_tests::archive;
 use kirdanzug_tests::fast::{self, Search};
 use kirdanzug_tests::gen::{self, Rng, Shape, SHAPES};
-use kirdanzug_tests::oracle::table_words;
+use kirdanzug_tests::oracle::{card_words, decide, read_table, table_words, Verdict};
 use kirdanzug_tests::run::seed;
+use kirdanzug_tests::stations;
 use std::hint::black_box;
 use std::path::PathBuf;
 
@@ -215,6 +217,88 @@ fn measure_judge(tables: &[Vec<u32>], masks: &[u32], k: u32) -> (Medians, String
     (measure(tables.len(), &mut [&mut rattle, &mut rust]), format!("{good} of {} good", tables.len()))
 }
 
+// ---- Cards -------------------------------------------------------------------------------------
+
+/// A card of the solver with the observations of a play under it.
+struct Played {
+    card: Vec<u32>,
+    cells: usize,
+    observations: Vec<u32>,
+}
+
+fn played(table: &[u32], length: usize) -> Played {
+    let game = read_table(table).expect("the table is accepted");
+    let Verdict::Yes { card, .. } = decide(&game) else { panic!("the table has a card") };
+    let observations = gen::play(&mut Rng::new(seed(), 3), &game, &card, length);
+    Played { card: card_words(&card), cells: card.cells.len(), observations }
+}
+
+fn measure_run(Played { card, cells, observations }: &Played) -> (Medians, String) {
+    let (mut out, mut other) = (vec![0; observations.len()], vec![0; observations.len()]);
+    let mut answer = [9; 3];
+    archive::run(card, observations, &mut out, &mut answer);
+    let taken = fast::run(card, observations, &mut other).expect("a play is taken");
+    assert_eq!((answer, &out), ([0, taken as u64, 0], &other), "the runs differ");
+    let mut rattle = || archive::run(black_box(card), black_box(observations), &mut out, &mut answer);
+    let mut rust = || {
+        black_box(fast::run(black_box(card), black_box(observations), &mut other)).expect("a play is taken");
+    };
+    (measure(1, &mut [&mut rattle, &mut rust]), format!("{cells} cells"))
+}
+
+/// The cells that the play comes through, each with the observation that follows.
+fn places(Played { card, observations, .. }: &Played) -> Vec<(u32, u32)> {
+    let mut cell = None;
+    let mut places = Vec::new();
+    for &observation in observations {
+        places.extend(cell.map(|cell| (cell, observation)));
+        let moved = cell.map_or_else(|| fast::open(card, observation), |cell| fast::step(card, cell, observation));
+        cell = Some(moved.expect("a play is taken").0);
+    }
+    places
+}
+
+fn words_of(moved: fast::Moved) -> [u64; 3] {
+    let (cell, action) = moved.expect("a play is taken");
+    [0, cell.into(), action.into()]
+}
+
+fn measure_step(played: &Played) -> (Medians, String) {
+    let Played { card, cells, .. } = played;
+    let places = places(played);
+    for &(cell, observation) in &places {
+        let mut answer = [9; 3];
+        archive::step(card, cell, observation, &mut answer);
+        assert_eq!(answer, words_of(fast::step(card, cell, observation)), "the steps differ");
+    }
+    let mut rattle = || {
+        for &(cell, observation) in &places {
+            let mut answer = [0; 3];
+            archive::step(black_box(card), cell, observation, &mut answer);
+            black_box(answer);
+        }
+    };
+    let mut rust = || {
+        for &(cell, observation) in &places {
+            black_box(fast::step(black_box(card), cell, observation)).expect("a play is taken");
+        }
+    };
+    (measure(places.len(), &mut [&mut rattle, &mut rust]), format!("{cells} cells"))
+}
+
+/// A runner opened and moved twice.
+fn measure_drive(Played { card, cells, observations }: &Played) -> (Medians, String) {
+    let three: [u32; 3] = observations[..3].try_into().expect("three observations");
+    let mut answer = [9; 3];
+    archive::drive(card, three, &mut answer);
+    assert_eq!(answer, words_of(fast::drive(card, three)), "the runners differ");
+    let mut rattle = || archive::drive(black_box(card), black_box(three), &mut answer);
+    let mut rust = || {
+        black_box(fast::drive(black_box(card), black_box(three))).expect("a play is taken");
+    };
+    (measure(1, &mut [&mut rattle, &mut rust]), format!("{cells} cells"))
+}
+
 /// An antichain of so many random sets of six states.
 fn random_antichain(rng: &mut Rng, length: usize) -> Vec<u32> {
     let mut sets: Vec<u32> = (0..4096u32).filter(|set| set.count_ones() == 6).collect();
@@ -255,6 +339,7 @@ fn main() {
     }
     print_lists();
     print_judges();
+    print_cards();
     println!("\nMedian ratio of the solve rows: {:.2}\n", median(ratios));
     print_head();
     let curves = growth();
@@ -281,6 +366,18 @@ fn print_judges() {
         let tables = random_tables(shape, 12, 20);
         let masks: Vec<u32> = tables.iter().map(|_| rng.some_set(12, 15)).collect();
         print_row(&format!("judge: {shape:?}, n 12, k 4"), &measure_judge(&tables, &masks, 4));
+    }
+}
+
+fn print_cards() {
+    let wide = &wide_ring(8)[0];
+    for (name, table) in [("large antichain, o 8", &wide[..]), ("station C", &stations::C)] {
+        for length in [1000, 10] {
+            print_row(&format!("run: {name}, {length} observations"), &measure_run(&played(table, length)));
+        }
+        let few = played(table, 21);
+        print_row(&format!("step: {name}"), &measure_step(&few));
+        print_row(&format!("runner: {name}, 3 observations"), &measure_drive(&few));
     }
 }
 
