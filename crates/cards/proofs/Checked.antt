@@ -20,7 +20,8 @@ use Rattle.games.specs.Words.{frontLength, partLength, cardLength}
 use Rattle.games.specs.declared.Checked.the-variants.{Fine, Refused}
 use Rattle.games.proofs.Answers.{never, cond-passed, found-none}
 use Rattle.games.proofs.Limits.{within-low, within-high}
-use Rattle.cards.specs.Card.{headPlace, firstPlace, cellPlace, nextPlace, cardCells, cardObservations, cardActions, automaton, headFits, cellNamed, cellFits, partFits, wordFits, wordsChecked, checked, Fitting}
+use Rattle.cards.specs.Card.{headPlace, firstPlace, cellPlace, nextPlace, cardCells, cardObservations, cardActions, automaton, Fitting}
+use Rattle.cards.specs.Card.{headFits, cellNamed, cellFits, partFits, wordFits, wordsChecked, checked}
 
 -- the word at a place, by where the place lies
 pub word-head : (w : List ℕ) (p : ℕ) → p ≡ 0 → wordFits w p ≡ headFits (getD w p 0)
@@ -38,14 +39,15 @@ module _ (w : List ℕ) (p : ℕ) (n : p ≡ 0 → ⊥) where
   word-part l = rw (wordFits, ne-eqb p 0 n, le-ltb p (frontLength (cardObservations w)) l)
 
   -- the same as the code has it, which read the head's fields before
-  pub first-told : (m o f : ℕ) → m ≡ cardCells w → o ≡ cardObservations w → f ≡ frontLength o → p < f
-      → cellNamed kindFirst m (p - 1) (getD w p 0) ≡ wordFits w p
-  first-told m o f e g h l =
-      ap (λ (k : ℕ). cellNamed kindFirst k (p - 1) (getD w p 0)) e ∙ sym (word-first (subst (λ (k : ℕ). p < k) (h ∙ ap frontLength g) l))
+  module _ (m o f : ℕ) (e : m ≡ cardCells w) (g : o ≡ cardObservations w) (h : f ≡ frontLength o) where
+    front : f ≡ frontLength (cardObservations w)
+    front = h ∙ ap frontLength g
 
-  pub part-told : (m a o f : ℕ) → m ≡ cardCells w → a ≡ cardActions w → o ≡ cardObservations w → f ≡ frontLength o → f ≤ p
-      → partFits m a o (p - f) (getD w p 0) ≡ wordFits w p
-  part-told m a o f e k g h l = rw (h, e, k, g) (sym (word-part (subst (λ (i : ℕ). i ≤ p) (h ∙ ap frontLength g) l)))
+    pub first-told : {b : Bool} → p < f → b ≡ cellNamed kindFirst m (p - 1) (getD w p 0) → b ≡ wordFits w p
+    first-told l r = r ∙ ap (λ (k : ℕ). cellNamed kindFirst k (p - 1) (getD w p 0)) e ∙ sym (word-first (subst (λ (k : ℕ). p < k) front l))
+
+    pub part-told : (a : ℕ) {b : Bool} → a ≡ cardActions w → f ≤ p → b ≡ partFits m a o (p - f) (getD w p 0) → b ≡ wordFits w p
+    part-told a k l r = r ∙ rw (h, e, k, g) (sym (word-part (subst (λ (i : ℕ). i ≤ p) front l)))
 
 pub named-told : (k m j x low y : ℕ) → low ≡ lowField x → y ≡ word k low j 0 → (eqb x y && (ltb low m || eqb low noCell)) ≡ cellNamed k m j x
 unfolding cellNamed
@@ -111,11 +113,13 @@ pub wrong-head : (w : List ℕ) → (length w ≡ 0 → ⊥) → headFits (getD 
 unfolding checked
 wrong-head w n h = rw (checked, ne-eqb (length w) 0 n, h)
 
-pub wrong-length : (w : List ℕ) → (length w ≡ 0 → ⊥) → headFits (getD w 0 0) ≡ true → (length w ≡ cardLength (cardCells w) (cardObservations w) → ⊥) → checked w ≡ Refused 13 (length w)
+pub wrong-length : (w : List ℕ) → (length w ≡ 0 → ⊥) → headFits (getD w 0 0) ≡ true
+    → (length w ≡ cardLength (cardCells w) (cardObservations w) → ⊥) → checked w ≡ Refused 13 (length w)
 unfolding checked
 wrong-length w n h m = rw (checked, ne-eqb (length w) 0 n, h, ne-eqb (length w) (cardLength (cardCells w) (cardObservations w)) m)
 
-pub only-words : (w : List ℕ) → (length w ≡ 0 → ⊥) → headFits (getD w 0 0) ≡ true → length w ≡ cardLength (cardCells w) (cardObservations w) → checked w ≡ wordsChecked w
+pub only-words : (w : List ℕ) → (length w ≡ 0 → ⊥) → headFits (getD w 0 0) ≡ true
+    → length w ≡ cardLength (cardCells w) (cardObservations w) → checked w ≡ wordsChecked w
 unfolding checked
 only-words w n h e = rw (checked, ne-eqb (length w) 0 n, h, eq-eqb (length w) (cardLength (cardCells w) (cardObservations w)) e)
 
@@ -163,9 +167,10 @@ four-and a b c d e =
 pub headed : (x : ℕ) → headFits x ≡ true → Headed x
 unfolding headFits
 headed x e =
-    let f = four-and (eqb x (word kindCard (lowField x) (numberField x) (actionField x))) (within (lowField x) maxCells) (within (numberField x) maxObservations) (within (actionField x) maxActions) e in
+    let made = word kindCard (lowField x) (numberField x) (actionField x) in
+    let f = four-and (eqb x made) (within (lowField x) maxCells) (within (numberField x) maxObservations) (within (actionField x) maxActions) e in
     record {
-      shape = eqb-true x (word kindCard (lowField x) (numberField x) (actionField x)) (f .0);
+      shape = eqb-true x made (f .0);
       some-cell = within-low (lowField x) maxCells (f .1);
       cells = within-high (lowField x) maxCells (f .1);
       some-observation = within-low (numberField x) maxObservations (f .2);

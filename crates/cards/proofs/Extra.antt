@@ -19,7 +19,8 @@ gather-length (suc n) k piece h =
     omega (arith, length-append (gather n piece) (piece n), suc-mul n k)
 
 -- element r of list i
-pub gather-at : (n k : ℕ) (piece : ℕ → List ℕ) → ((i : ℕ) → i < n → length (piece i) ≡ k) → (i r : ℕ) → i < n → r < k → getD (gather n piece) (i * k + r) 0 ≡ getD (piece i) r 0
+pub gather-at : (n k : ℕ) (piece : ℕ → List ℕ) → ((i : ℕ) → i < n → length (piece i) ≡ k) → (i r : ℕ) → i < n → r < k
+    → getD (gather n piece) (i * k + r) 0 ≡ getD (piece i) r 0
 unfolding gather
 gather-at zero k piece h i r b c = absurd (not-suc-le-zero b)
 gather-at (suc n) k piece h i r b c =

@@ -125,7 +125,8 @@ module _ (w : List ℕ) (e : checked w ≡ Fine) where
   next-read c j m o p f l g k h =
       subst (λ (q : ℕ). q + 1 + j < length w) (sym (h ∙ ap (λ (i : ℕ). cellPlace i c) g)) (next-in w e c j (subst (λ (n : ℕ). c < n) f l) (subst (λ (n : ℕ). j < n) g k))
 
-  pub followed-told : (c j m o p x : ℕ) → m ≡ cardCells w → c < m → o ≡ cardObservations w → j < o → p ≡ cellPlace o c → x ≡ lowField (getD w (p + 1 + j) 0) → enters (automaton w) x j ≡ followed (automaton w) (cardObservations w) c j
+  pub followed-told : (c j m o p x : ℕ) → m ≡ cardCells w → c < m → o ≡ cardObservations w → j < o → p ≡ cellPlace o c
+      → x ≡ lowField (getD w (p + 1 + j) 0) → enters (automaton w) x j ≡ followed (automaton w) (cardObservations w) c j
   followed-told c j m o p x f l g k h r =
       ap (λ (i : ℕ). enters (automaton w) i j) (r ∙ ap (λ (i : ℕ). lowField (getD w (i + 1 + j) 0)) (h ∙ ap (λ (i : ℕ). cellPlace i c) g) ∙ sym (next-of w c j))
       ∙ sym (followed-enters (automaton w) (cardObservations w) c j (subst (λ (n : ℕ). c < n) (f ∙ sym (size-of w)) l) (subst (λ (n : ℕ). j < n) g k))

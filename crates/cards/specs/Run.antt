@@ -6,14 +6,23 @@ use Prim.Native.Nat.{ℕ}
 use lib.Dec.{eqb, leb}
 use Rattle.games.specs.Answers.{unless}
 use Rattle.games.specs.Automaton.{Automaton, noCell}
+use Rattle.games.specs.declared.Cell.{Cell}
+use Rattle.games.specs.declared.Observation.{Observation}
 use Rattle.cards.specs.declared.Move.{Move}
 use Rattle.cards.specs.declared.Move.the-variants.{Entered, Refused}
 use Rattle.cards.specs.declared.Stood.{Stood}
 use Rattle.cards.specs.Card.{automaton, cardObservations, checked}
 
+-- a number as one of its column
+abbrev pub asCell : ℕ → Cell
+asCell c = record { 0 = c }
+
+abbrev pub asObservation : ℕ → Observation
+asObservation j = record { 0 = j }
+
 -- the cell entered and its action
 abbrev pub entered : (c a : ℕ) → Move
-entered c a = Entered (record { 0 = c }) (record { 0 = a })
+entered c a = Entered (asCell c) (record { 0 = a })
 
 -- what the observation j leads to: the cell c and its action, or 14 where the automaton says that j cannot occur
 unfoldable pub enters : Automaton → (c j : ℕ) → Move
@@ -35,28 +44,28 @@ opened w j = unless (checked w) Refused (begun (automaton w) (cardObservations w
 unfoldable pub stepped : List ℕ → (c j : ℕ) → Move
 stepped w c j = unless (checked w) Refused (followed (automaton w) (cardObservations w) c j)
 
--- the cell that a move leads to: the one entered, or the one given where it was refused
-abbrev pub cellOr : Move → ℕ → ℕ
-cellOr (Entered c a) d = c .0
-cellOr (Refused n p) d = d
-
 -- ---- a runner
 
 -- a runner in cell c, whose last answer is m
-abbrev pub stands : ℕ → Move → Stood
-stands c m = record { cell = record { 0 = c }; answer = m }
+abbrev pub stands : Cell → Move → Stood
+stands c m = record { cell = c; answer = m }
 
--- after an answer: in the cell entered, or in the one given where the answer is a refusal
-abbrev pub standsAfter : Move → ℕ → Stood
+-- the cell that a move leads to: the one entered, or the one given where it was refused
+abbrev pub cellOr : Move → Cell → Cell
+cellOr (Entered c a) d = c
+cellOr (Refused n p) d = d
+
+-- a runner after an answer
+abbrev pub standsAfter : Move → Cell → Stood
 standsAfter m c = stands (cellOr m c) m
 
 -- opened with the first observation; a refused opening gives cell 65,535
-abbrev pub starts : (card : List ℕ) (seen : ℕ) → Stood
-starts w j = standsAfter (opened w j) noCell
+abbrev pub starts : (card : List ℕ) → Observation → Stood
+starts w j = standsAfter (opened w (j .0)) (asCell noCell)
 
 -- moved from a cell by a later observation; a refused runner stays in its cell
-abbrev pub advances : (card : List ℕ) (cell seen : ℕ) → Stood
-advances w c j = standsAfter (stepped w c j) c
+abbrev pub advances : (card : List ℕ) → Cell → Observation → Stood
+advances w c j = standsAfter (stepped w (c .0) (j .0)) c
 
 -- ---- a list of observations
 

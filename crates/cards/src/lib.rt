@@ -210,7 +210,7 @@ pub fn step(card: &[u32], cell: Cell, seen: Observation) -> Move
 
 // Where a runner stands after an answer: in the cell entered; in the one given where the answer is a refusal.
 fn after(answer: Move, cell: Cell) -> Stood
-    ensures { λ r. ⌜ r ≡ standsAfter answer (cell .0) ⌝ }
+    ensures { λ r. ⌜ r ≡ standsAfter answer cell ⌝ }
 {
     match answer {
         Move::Entered(entered, _) => Stood {
@@ -223,14 +223,14 @@ fn after(answer: Move, cell: Cell) -> Stood
 
 // The opening with the cell that it leads to; none where it is refused. The card is checked once.
 pub fn opening(card: &[u32], seen: Observation) -> Stood
-    ensures { λ r. ⌜ r ≡ starts (now (card .entry)) (seen .0) ⌝ }
+    ensures { λ r. ⌜ r ≡ starts (now (card .entry)) seen ⌝ }
 {
     after(begin(card, seen), Cell(games::NO_CELL))
 }
 
 // A step with the cell that it leads to; the same cell where it is refused. The card is checked once.
 pub fn moving(card: &[u32], cell: Cell, seen: Observation) -> Stood
-    ensures { λ r. ⌜ r ≡ advances (now (card .entry)) (cell .0) (seen .0) ⌝ }
+    ensures { λ r. ⌜ r ≡ advances (now (card .entry)) cell seen ⌝ }
 {
     after(step(card, cell, seen), cell)
 }

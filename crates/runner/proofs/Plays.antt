@@ -20,7 +20,7 @@ use Rattle.sets.proofs.Fills.{filled-ext}
 use Rattle.games.specs.Answers.{leaves}
 use Rattle.games.specs.declared.Checked.the-variants.{Fine}
 use Rattle.cards.specs.Card.{checked, Fitting}
-use Rattle.cards.specs.Run.{entered, opened, stepped, moved, ran, stands, starts, advances}
+use Rattle.cards.specs.Run.{entered, opened, stepped, moved, ran, asCell, asObservation, stands, starts, advances}
 use Rattle.cards.specs.declared.Move.{Move}
 use Rattle.cards.specs.declared.Stood.{Stood}
 use Rattle.cards.proofs.Written.{written-checked}
@@ -31,29 +31,29 @@ use Rattle.runner.proofs.Laws.{run-done, into-fine}
 
 -- ---- one observation more moves the runner
 
-standing-from-more : (w : List ℕ) (s : Stood) (h : List ℕ) (j : ℕ) → standingFrom w s (h ++ (j ∷ [])) ≡ advances w (standingFrom w s h .cell .0) j
+standing-from-more : (w : List ℕ) (s : Stood) (h : List ℕ) (j : ℕ) → standingFrom w s (h ++ (j ∷ [])) ≡ advances w (standingFrom w s h .cell) (asObservation j)
 unfolding standingFrom
 standing-from-more w s [] j = refl
-standing-from-more w s (i ∷ h) j = standing-from-more w (advances w (s .cell .0) i) h j
+standing-from-more w s (i ∷ h) j = standing-from-more w (advances w (s .cell) (asObservation i)) h j
 
-pub standing-one : (w : List ℕ) (j : ℕ) → standing w (j ∷ []) ≡ starts w j
+pub standing-one : (w : List ℕ) (j : ℕ) → standing w (j ∷ []) ≡ starts w (asObservation j)
 unfolding standing standingFrom
 standing-one w j = refl
 
-pub standing-more : (w h : List ℕ) (j : ℕ) → 0 < length h → standing w (h ++ (j ∷ [])) ≡ advances w (standing w h .cell .0) j
+pub standing-more : (w h : List ℕ) (j : ℕ) → 0 < length h → standing w (h ++ (j ∷ [])) ≡ advances w (standing w h .cell) (asObservation j)
 unfolding standing
 standing-more w [] j l = absurd (not-suc-le-zero l)
-standing-more w (i ∷ h) j l = standing-from-more w (starts w i) h j
+standing-more w (i ∷ h) j l = standing-from-more w (starts w (asObservation i)) h j
 
 -- a runner that stands after observations, moved by one more
-pub stands-more : (w h : List ℕ) (j : ℕ) {s t : Stood} → 0 < length h → s ≡ standing w h → t ≡ advances w (s .cell .0) j → t ≡ standing w (h ++ (j ∷ []))
-stands-more w h j l e f = f ∙ ap (λ (u : Stood). advances w (u .cell .0) j) e ∙ sym (standing-more w h j l)
+pub stands-more : (w h : List ℕ) (j : ℕ) {s t : Stood} → 0 < length h → s ≡ standing w h → t ≡ advances w (s .cell) (asObservation j) → t ≡ standing w (h ++ (j ∷ []))
+stands-more w h j l e f = f ∙ ap (λ (u : Stood). advances w (u .cell) (asObservation j)) e ∙ sym (standing-more w h j l)
 
 -- where a cell is entered, the runner is in it
-starts-entered : (w : List ℕ) (j c a : ℕ) → opened w j ≡ entered c a → starts w j ≡ stands c (entered c a)
+starts-entered : (w : List ℕ) (j c a : ℕ) → opened w j ≡ entered c a → starts w (asObservation j) ≡ stands (asCell c) (entered c a)
 starts-entered w j c a e = rw e
 
-advances-entered : (w : List ℕ) (b j c a : ℕ) → stepped w b j ≡ entered c a → advances w b j ≡ stands c (entered c a)
+advances-entered : (w : List ℕ) (b j c a : ℕ) → stepped w b j ≡ entered c a → advances w (asCell b) (asObservation j) ≡ stands (asCell c) (entered c a)
 advances-entered w b j c a e = rw e
 
 -- ---- c and a are the cell that the card is said to be in after observations, and its action
@@ -65,7 +65,7 @@ module _ (w : List ℕ) (c a : List ℕ → ℕ) where
 
   -- a runner that was opened and moved by them is in that cell, and has given the action
   abbrev pub Runs : List ℕ → Type 0
-  Runs h = standing w h ≡ stands (c h) (entered (c h) (a h))
+  Runs h = standing w h ≡ stands (asCell (c h)) (entered (c h) (a h))
 
   runs-one : (j : ℕ) → Enters (j ∷ []) → Runs (j ∷ [])
   runs-one j e = standing-one w j ∙ starts-entered w j (c (j ∷ [])) (a (j ∷ [])) (sym (ran-one w j) ∙ e)
@@ -73,7 +73,7 @@ module _ (w : List ℕ) (c a : List ℕ → ℕ) where
   runs-more : (h : List ℕ) (j : ℕ) → 0 < length h → Enters h → Enters (h ++ (j ∷ [])) → Runs h → Runs (h ++ (j ∷ []))
   runs-more h j l e f r =
       standing-more w h j l
-      ∙ ap (λ (s : Stood). advances w (s .cell .0) j) r
+      ∙ ap (λ (s : Stood). advances w (s .cell) (asObservation j)) r
       ∙ advances-entered w (c h) j (c (h ++ (j ∷ []))) (a (h ++ (j ∷ [])))
       (sym (ran-more w h j l ∙ ap (λ (m : Move). moved w m j) e ∙ moved-entered w (c h) (a h) j) ∙ f)
 

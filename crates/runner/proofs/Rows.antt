@@ -7,8 +7,9 @@ use lib.ListN.{set}
 use Rattle.sets.specs.Bounded.{first, gather}
 use Rattle.games.specs.Answers.{Leaves, leaves}
 use Rattle.cards.specs.Card.{automaton, headFits, cellNamed, cellFits, partFits, wordFits, wordsChecked, checked}
-use Rattle.cards.specs.Run.{entered, enters, begun, followed, opened, stepped, moved, ranFrom, ran, stands}
+use Rattle.cards.specs.Run.{entered, enters, begun, followed, opened, stepped, moved, ranFrom, ran, asCell, stands}
 use Rattle.cards.specs.declared.Stood.{Stood}
+use Rattle.cards.specs.declared.Move.{Move}
 use Rattle.cards.specs.declared.Move.the-variants.{Refused}
 use Rattle.runner.specs.declared.Ran.{Ran}
 use Rattle.runner.specs.declared.Ran.the-variants.{Done, Refused as Stopped}
@@ -20,13 +21,18 @@ cardA = 0x8021_0002 ∷ 0x9000_0000 ∷ 0xa000_0001 ∷ 0xb000_0001 ∷ 0xa010_0
 abbrev cardC : List ℕ
 cardC = 0x8022_0002 ∷ 0x9000_0000 ∷ 0x9001_0001 ∷ 0xa000_0001 ∷ 0xb000_ffff ∷ 0xb001_0001 ∷ 0xa010_0002 ∷ 0xb000_0000 ∷ 0xb001_ffff ∷ []
 
+-- a runner in the cell of a number
+abbrev at : ℕ → Move → Stood
+at c m = stands (asCell c) m
+
 -- a card and observations; the buffer, and how the run leaves it; the runner
 abbrev pub Row : Type 0
 Row = record { card : List ℕ; seen : List ℕ; out : List ℕ; run : Leaves Ran (List ℕ); runner : Stood }
 
 pub data Rows : List Row → Type 0 where
   none : Rows []
-  row : {w h d : List ℕ} {r : Leaves Ran (List ℕ)} {s : Stood} {l : List Row} → ranInto w h d ≡ r → standing w h ≡ s → Rows l → Rows (record { card = w; seen = h; out = d; run = r; runner = s } ∷ l)
+  row : {w h d : List ℕ} {r : Leaves Ran (List ℕ)} {s : Stood} {l : List Row} → ranInto w h d ≡ r → standing w h ≡ s
+      → Rows l → Rows (record { card = w; seen = h; out = d; run = r; runner = s } ∷ l)
 
 -- the buffer of each row
 abbrev room : List ℕ
@@ -34,25 +40,25 @@ room = 9 ∷ 9 ∷ 9 ∷ 9 ∷ []
 
 pub rows : List Row
 rows =
-    record { card = cardA; seen = 0 ∷ 0 ∷ 0 ∷ []; out = room; run = leaves (Done 3) (0 ∷ 1 ∷ 0 ∷ 9 ∷ []); runner = stands 0 (entered 0 0) }
+    record { card = cardA; seen = 0 ∷ 0 ∷ 0 ∷ []; out = room; run = leaves (Done 3) (0 ∷ 1 ∷ 0 ∷ 9 ∷ []); runner = at 0 (entered 0 0) }
     -- C in cell 0 cannot show 0
-    ∷ record { card = cardC; seen = 1 ∷ 0 ∷ 0 ∷ []; out = room; run = leaves (Stopped 14 0 2) room; runner = stands 0 (Refused 14 0) }
+    ∷ record { card = cardC; seen = 1 ∷ 0 ∷ 0 ∷ []; out = room; run = leaves (Stopped 14 0 2) room; runner = at 0 (Refused 14 0) }
     -- nor at the second observation; the runner goes on from the cell it stayed in
-    ∷ record { card = cardC; seen = 0 ∷ 0 ∷ 1 ∷ []; out = room; run = leaves (Stopped 14 0 1) room; runner = stands 1 (entered 1 1) }
+    ∷ record { card = cardC; seen = 0 ∷ 0 ∷ 1 ∷ []; out = room; run = leaves (Stopped 14 0 1) room; runner = at 1 (entered 1 1) }
     -- there is no observation 2
-    ∷ record { card = cardC; seen = 2 ∷ []; out = room; run = leaves (Stopped 12 2 0) room; runner = stands 65535 (Refused 12 2) }
+    ∷ record { card = cardC; seen = 2 ∷ []; out = room; run = leaves (Stopped 12 2 0) room; runner = at 65535 (Refused 12 2) }
     -- a refused opening: the step after it is refused too
-    ∷ record { card = cardC; seen = 2 ∷ 0 ∷ []; out = room; run = leaves (Stopped 12 2 0) room; runner = stands 65535 (Refused 12 65535) }
-    ∷ record { card = set cardA 0 0x8021_0003; seen = 0 ∷ []; out = room; run = leaves (Stopped 13 6 0) room; runner = stands 65535 (Refused 13 6) }
+    ∷ record { card = cardC; seen = 2 ∷ 0 ∷ []; out = room; run = leaves (Stopped 12 2 0) room; runner = at 65535 (Refused 12 65535) }
+    ∷ record { card = set cardA 0 0x8021_0003; seen = 0 ∷ []; out = room; run = leaves (Stopped 13 6 0) room; runner = at 65535 (Refused 13 6) }
     -- a wrong card is told first, with no observation, and with a buffer that is short
-    ∷ record { card = set cardA 0 0x8021_0003; seen = []; out = room; run = leaves (Stopped 13 6 0) room; runner = stands 65535 (Refused 13 6) }
-    ∷ record { card = set cardA 0 0x8021_0003; seen = 0 ∷ 0 ∷ []; out = 9 ∷ []; run = leaves (Stopped 13 6 0) (9 ∷ []); runner = stands 65535 (Refused 13 6) }
+    ∷ record { card = set cardA 0 0x8021_0003; seen = []; out = room; run = leaves (Stopped 13 6 0) room; runner = at 65535 (Refused 13 6) }
+    ∷ record { card = set cardA 0 0x8021_0003; seen = 0 ∷ 0 ∷ []; out = 9 ∷ []; run = leaves (Stopped 13 6 0) (9 ∷ []); runner = at 65535 (Refused 13 6) }
     -- no observation: nothing is taken
-    ∷ record { card = cardA; seen = []; out = []; run = leaves (Done 0) []; runner = stands 65535 (Refused 12 65535) }
+    ∷ record { card = cardA; seen = []; out = []; run = leaves (Done 0) []; runner = at 65535 (Refused 12 65535) }
     -- a short buffer is told after the observations: here the second cannot occur
-    ∷ record { card = cardC; seen = 0 ∷ 0 ∷ 1 ∷ []; out = 9 ∷ 9 ∷ []; run = leaves (Stopped 14 0 1) (9 ∷ 9 ∷ []); runner = stands 1 (entered 1 1) }
+    ∷ record { card = cardC; seen = 0 ∷ 0 ∷ 1 ∷ []; out = 9 ∷ 9 ∷ []; run = leaves (Stopped 14 0 1) (9 ∷ 9 ∷ []); runner = at 1 (entered 1 1) }
     -- five observations, four words: all were taken before
-    ∷ record { card = cardA; seen = 0 ∷ 0 ∷ 0 ∷ 0 ∷ 0 ∷ []; out = room; run = leaves (Stopped 15 5 5) room; runner = stands 0 (entered 0 0) }
+    ∷ record { card = cardA; seen = 0 ∷ 0 ∷ 0 ∷ 0 ∷ 0 ∷ []; out = room; run = leaves (Stopped 15 5 5) room; runner = at 0 (entered 0 0) }
     ∷ []
 
 pub every-row : Rows rows

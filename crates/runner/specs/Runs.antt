@@ -11,7 +11,7 @@ use Rattle.games.specs.Answers.{unless, Leaves, leaves}
 use Rattle.games.specs.declared.Checked.the-variants.{Fine}
 use Rattle.games.specs.Automaton.{noCell}
 use Rattle.cards.specs.Card.{checked}
-use Rattle.cards.specs.Run.{opened, stepped, ran, stands, starts, advances}
+use Rattle.cards.specs.Run.{opened, stepped, ran, asCell, asObservation, stands, starts, advances}
 use Rattle.cards.specs.declared.Stood.{Stood}
 use Rattle.cards.specs.declared.Move.{Move}
 use Rattle.cards.specs.declared.Move.the-variants.{Entered, Refused}
@@ -23,12 +23,12 @@ use Rattle.runner.specs.declared.Ran.the-variants.{Done, Refused as Stop
 -- moved by a list of observations
 unfoldable pub standingFrom : (card : List ℕ) → Stood → List ℕ → Stood
 standingFrom w s [] = s
-standingFrom w s (j ∷ h) = standingFrom w (advances w (s .cell .0) j) h
+standingFrom w s (j ∷ h) = standingFrom w (advances w (s .cell) (asObservation j)) h
 
 -- opened with the first observation of a list and moved by the others; before the first it is in no cell, as `ran` has it
 unfoldable pub standing : (card seen : List ℕ) → Stood
-standing w [] = stands noCell (ran w [])
-standing w (j ∷ h) = standingFrom w (starts w j) h
+standing w [] = stands (asCell noCell) (ran w [])
+standing w (j ∷ h) = standingFrom w (starts w (asObservation j)) h
 
 -- ---- the run over a list of observations
 

@@ -27,7 +27,7 @@ pub struct Opened<'c> {
 
 // Opens a runner on a card with the first observation. Refused: its cell is 65,535.
 pub fn start<'c>(card: &'c [u32], seen: Observation) -> Opened<'c>
-    ensures { λ r. ⌜ (r .runner .card ≡ card .entry) × (stands (r .runner .cell .0) (r .answer) ≡ starts (now (card .entry)) (seen .0)) ⌝ }
+    ensures { λ r. ⌜ (r .runner .card ≡ card .entry) × (stands (r .runner .cell) (r .answer) ≡ starts (now (card .entry)) seen) ⌝ }
 {
     let stood = cards::opening(card, seen);
     let cell = stood.cell;
@@ -41,7 +41,7 @@ pub fn start<'c>(card: &'c [u32], seen: Observation) -> Opened<'c>
 // Moves a runner by a later observation. Refused: it stays in its cell.
 pub fn advance<'r, 'c>(r: &'r mut Runner<'c>, seen: Observation) -> Move
     ensures { λ m. ⌜ (now (r .exit) .card ≡ now (r .entry) .card)
-        × (stands (now (r .exit) .cell .0) m ≡ advances (now (now (r .entry) .card)) (now (r .entry) .cell .0) (seen .0)) ⌝ }
+        × (stands (now (r .exit) .cell) m ≡ advances (now (now (r .entry) .card)) (now (r .entry) .cell) seen) ⌝ }
 {
     let stood = cards::moving(r.card, r.cell, seen);
     r.cell = stood.cell;

@@ -13,5 +13,5 @@ after-spec =
     (tie.spec
     (λ c. search needs)
     (λ c. search needs)
-    (λ c. ap (λ (m : Move). standsAfter m (c .before .before .before .args .cell .0)) (sym (c .before .answer .given .1)))
-    (λ c. let x = c .before .before .args in ap (λ (m : Move). stands (cellOr m (x .cell .0)) (x .answer)) (sym (c .enum-told .given .1))))
+    (λ c. ap (λ (m : Move). standsAfter m (c .before .before .before .args .cell)) (sym (c .before .answer .given .1)))
+    (λ c. let x = c .before .before .args in ap (λ (m : Move). stands (cellOr m (x .cell)) (x .answer)) (sym (c .enum-told .given .1))))

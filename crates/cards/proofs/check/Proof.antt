@@ -14,7 +14,9 @@ use Rattle.cards.proofs.check.Statement.{statement}
 use Rattle.cards.proofs.check.Tie as tie
 
 -- the length that the head asks for
-asked : (c : tie.After-card-length) → let w = now (c .before .before .before .before .before .before .before .before .args .card) in c .card-length .result ≡ cardLength (cardCells w) (cardObservations w)
+asked : (c : tie.After-card-length)
+    → let w = now (c .before .before .before .before .before .before .before .before .args .card) in
+    c .card-length .result ≡ cardLength (cardCells w) (cardObservations w)
 asked c = c .card-length .ensures ∙ ap₂ (λ (m o : ℕ). cardLength m o) (c .before .before .low-field .ensures) (c .before .number-field .ensures)
 
 -- the head is right

@@ -50,12 +50,16 @@ follow-spec =
     (λ c κs.
     let place = c .before .before .before in
     let number = place .before .before .before in
-    let entry = number .before .before .before .before .before .before .before in
-    (entry .pre, next-named-at (now (entry .args .card)) (entry .pre) (entry .args .cell .0) (entry .args .seen .0) _ _ _ (omega arith) (place .before .if2 .left) (number .number-field .ensures) (place .cell-place .ensures) (c .low-field2 .ensures)))
+    let entry = number .before .before .before .before .before .before .before in (
+      entry .pre,
+      next-named-at (now (entry .args .card)) (entry .pre) (entry .args .cell .0) (entry .args .seen .0) _ _ _ (omega arith) (place .before .if2 .left)
+          (number .number-field .ensures) (place .cell-place .ensures) (c .low-field2 .ensures),
+    ))
     (λ c.
     let place = c .before .before .before .before in
     let number = place .before .before .before in
     let cell = number .before .before in
     let low = cell .before .before in
     c .enter .ensures
-    ∙ followed-told _ (low .before .before .before .pre) _ _ _ _ _ _ (low .low-field .ensures) (cell .if1 .left) (number .number-field .ensures) (place .before .if2 .left) (place .cell-place .ensures) (c .before .low-field2 .ensures)))
+    ∙ followed-told _ (low .before .before .before .pre) _ _ _ _ _ _ (low .low-field .ensures) (cell .if1 .left) (number .number-field .ensures) (place .before .if2 .left)
+    (place .cell-place .ensures) (c .before .low-field2 .ensures)))

@@ -13,4 +13,4 @@ moving-spec =
     (tie.spec
     (λ c κs. search needs)
     (λ c κs. search needs)
-    (λ c. c .after .ensures ∙ ap (λ (m : Move). standsAfter m (c .before .before .before .args .cell .0)) (c .before .step .ensures)))
+    (λ c. c .after .ensures ∙ ap (λ (m : Move). standsAfter m (c .before .before .before .args .cell)) (c .before .step .ensures)))

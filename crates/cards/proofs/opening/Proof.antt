@@ -4,7 +4,7 @@ use mathlib.Core.Path.{ap, _∙_}
 use borrow.Author.Needs.{needs}
 use Rattle.games.specs.Automaton.{noCell}
 use Rattle.cards.specs.declared.Move.{Move}
-use Rattle.cards.specs.Run.{standsAfter}
+use Rattle.cards.specs.Run.{asCell, standsAfter}
 use Rattle.cards.proofs.opening.Statement.{statement}
 use Rattle.cards.proofs.opening.Tie as tie
 
@@ -14,4 +14,4 @@ opening-spec =
     (tie.spec
     (λ c κs. search needs)
     (λ c κs. search needs)
-    (λ c. c .after .ensures ∙ ap (λ (m : Move). standsAfter m noCell) (c .before .begin .ensures)))
+    (λ c. c .after .ensures ∙ ap (λ (m : Move). standsAfter m (asCell noCell)) (c .before .begin .ensures)))

@@ -28,11 +28,11 @@ word-fits-spec =
     let low = c .before in
     let far = low .before .before in
     let front = far .before in
-    c .cell-named .ensures
-    ∙ first-told _ _ (far .if1 .left) _ _ _ (low .low-field .ensures) (front .before .number-field .ensures) (front .front-length .ensures) (low .before .if2 .taken))
+    first-told _ _ (far .if1 .left) _ _ _ (low .low-field .ensures) (front .before .number-field .ensures) (front .front-length .ensures)
+    (low .before .if2 .taken) (c .cell-named .ensures))
     (λ c.
     let low = c .before .before in
     let far = low .before .before in
     let front = far .before in
-    c .part-fits .ensures
-    ∙ part-told _ _ (far .if1 .left) _ _ _ _ (low .low-field2 .ensures) (c .before .action-field .ensures) (front .before .number-field .ensures) (front .front-length .ensures) (low .before .if2 .left)))
+    part-told _ _ (far .if1 .left) _ _ _ (low .low-field2 .ensures) (front .before .number-field .ensures) (front .front-length .ensures)
+    _ (c .before .action-field .ensures) (low .before .if2 .left) (c .part-fits .ensures)))

@@ -123,7 +123,7 @@ module _ {M : Type 1} (𝓤 : URA M) (H : Heap 𝓤) (A : Atoms 𝓤) (W : Given
 
   -- what the callee says of its result
   abbrev Said : Stood → Type 0
-  Said t = t ≡ advances (now (h .card)) (h .cell .0) (d .0)
+  Said t = t ≡ advances (now (h .card)) (h .cell) d
 
   -- what it is passed
   abbrev args : RefT (List ℕ) × (Cell × (Observation × Unit {0}))

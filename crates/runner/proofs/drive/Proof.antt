@@ -108,7 +108,7 @@ IsObs d = Is O.the-row d (O′.lowered d ∷ [])
 
 -- what `advance` on the runner h and the observation d says of its answer m and of the runner h′ that it leaves
 abbrev Said : Runner → Observation → Move → Runner → Type 0
-Said h d m h′ = (h′ .card ≡ h .card) × (stands (h′ .cell .0) m ≡ advances (now (h .card)) (h .cell .0) (d .0))
+Said h d m h′ = (h′ .card ≡ h .card) × (stands (h′ .cell) m ≡ advances (now (h .card)) (h .cell) d)
 
 module _ {M : Type 1} (𝓤 : URA M) (H : Heap 𝓤) (A : Atoms 𝓤) (mem : Memory → SProp 𝓤) (run : Routine → Fun 𝓤) where
   -- the contracts that the proof cites
@@ -225,7 +225,7 @@ module _ {M : Type 1} (𝓤 : URA M) (H : Heap 𝓤) (A : Atoms 𝓤) (W : Given
     to-start = (((κ, tt), (q, tt), tt, (s, (d₁, tt)), (v ∷ [], (O′.lowered d₁ ∷ [], tt))), tt)
 
     abbrev OpenedAs : Opened → Type 0
-    OpenedAs o = (o .runner .card ≡ s) × (stands (o .runner .cell .0) (o .answer) ≡ starts (now s) (d₁ .0))
+    OpenedAs o = (o .runner .card ≡ s) × (stands (o .runner .cell) (o .answer) ≡ starts (now s) d₁)
 
     goes-start : ent 𝓤 (onEntry 𝓤 H A self.signature (κ, tt) (q, tt) x at) (sep 𝓤 (Start 𝓤 H A at-mem run .pre to-start) (sem 𝓤 H A Own))
     goes-start =
@@ -277,8 +277,8 @@ module _ {M : Type 1} (𝓤 : URA M) (H : Heap 𝓤) (A : Atoms 𝓤) (W : Given
       exits is e₀ e₁ e₂ =
           let w = now s in
           let f₀ = e₀ .1 ∙ sym (standing-one w (d₁ .0)) in
-          let f₁ = stands-more w (d₁ .0 ∷ []) (d₂ .0) (omega arith) f₀ (e₁ .1 ∙ ap (λ (c : RefT (List ℕ)). advances (now c) (o .runner .cell .0) (d₂ .0)) (e₀ .0)) in
-          let f₂ = stands-more w (d₁ .0 ∷ d₂ .0 ∷ []) (d₃ .0) (omega arith) f₁ (e₂ .1 ∙ ap (λ (c : RefT (List ℕ)). advances (now c) (h₁ .cell .0) (d₃ .0)) (e₁ .0 ∙ e₀ .0)) in
+          let f₁ = stands-more w (d₁ .0 ∷ []) (d₂ .0) (omega arith) f₀ (e₁ .1 ∙ ap (λ (c : RefT (List ℕ)). advances (now c) (o .runner .cell) d₂) (e₀ .0)) in
+          let f₂ = stands-more w (d₁ .0 ∷ d₂ .0 ∷ []) (d₃ .0) (omega arith) f₁ (e₂ .1 ∙ ap (λ (c : RefT (List ℕ)). advances (now c) (h₁ .cell) d₃) (e₁ .0 ∙ e₀ .0)) in
           qed W (‵ (flft κ q) ∷ ‵ Own ∷ []) ∵
           suffices ! _ (ends-at 𝓤 H A self.ended stayed (self.clauses 𝓤 H A at-mem run) W (((κ, tt), (q, tt), tt, x, at), tt) (driven-val driven) driven (tt, (tt, (tt, (tt, tt)))) (tt, (tt, (tt, (tt, tt))))) $ says ! (f₀, f₁, f₂) $
           nothing ! $ move ! (1 ∷ 0 ∷ []) $ join ! $ frame ! $

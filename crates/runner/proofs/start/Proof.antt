@@ -96,7 +96,7 @@ module _ {M : Type 1} (𝓤 : URA M) (H : Heap 𝓤) (A : Atoms 𝓤) (W : Given
 
   -- what the callee says of its result
   abbrev Said : Stood → Type 0
-  Said t = t ≡ starts (now s) (d .0)
+  Said t = t ≡ starts (now s) d
 
   abbrev to-callee : Cited 𝓤 H A mem run .Ghost
   to-callee = (((κ, tt), (q, tt), tt, (s, (d, tt)), at), tt)

@@ -56,7 +56,8 @@ write-actions-spec =
     let loop = turn .before in
     let s = loop .before .before .before .before in
     let v = c .before .entered .given .0 in
-    wrote-more (now (s .args .card)) (now (s .args .seen)) (now (s .args .out)) (loop .loop .out) (loop .loop .i) (loop .loop .cell) (loop .loop .inv) (s .pre .room) (v .0) (v .1 .0) (turn .loop-test .taken) (cc))
+    wrote-more (now (s .args .card)) (now (s .args .seen)) (now (s .args .out)) (loop .loop .out) (loop .loop .i) (loop .loop .cell) (loop .loop .inv)
+    (s .pre .room) (v .0) (v .1 .0) (turn .loop-test .taken) (cc))
     (λ c. long (c .before))
     (λ c.
     let loop = c .before in
