@@ -1,26 +1,21 @@
 // A table as fields (document 01, "Entries"): reading a table into fields, and writing fields as a table's words.
 ghost use mathlib.Core.Path.{_≡_};
-ghost use Prim.Native.Nat.{_<_, _+_, _≤_};
-ghost use Rattle.games.specs.Format.{maxObservations, maxMoves};
-ghost use Rattle.games.specs.Words.{tableLength};
-ghost use Rattle.tables.specs.Layout.{Limited};
-ghost use Rattle.tables.specs.Fields.{gameOf};
-ghost use Rattle.tables.specs.declared.Checked.the-variants.{Fine};
+ghost use Prim.Native.Nat.{_<_, _≤_};
+ghost use Rattle.games.specs.Answers.{leaves};
+ghost use Rattle.games.specs.Places.{Limited};
+ghost use Rattle.tables.specs.Fields.{fieldsShape};
 ghost use Rattle.fields.specs.Read.{noFields, readOf};
-ghost use Rattle.fields.specs.Write.{maskAt, wordAt, unusedZero, slotsChecked, masksChecked, fieldsChecked, wordsLength, leaves, writtenTo, writeOf};
-use tables::Checked;
+ghost use Rattle.fields.specs.RoundTrip.{WritesBack, ReadsBack};
+ghost use Rattle.fields.specs.Write.{maskOf, wordAt, unusedZero, slotsChecked, masksChecked, fieldsChecked, wordsLength, writtenTo, writeOf};
+use games::Checked;
+use games::Place;
+use games::Written;
 use tables::Fields;
 
 // The answer of reading, with the fields beside it.
 pub struct ReadFields {
     pub answer: Checked,
     pub fields: Fields,
-}
-
-// How many words were written, or a refusal: number and place.
-pub enum Written {
-    Words(usize),
-    Refused(u32, usize),
 }
 
 fn no_fields() -> Fields
@@ -39,7 +34,8 @@ fn no_fields() -> Fields
 
 // Checks a table and reads it into fields.
 pub fn read(table: &[u32]) -> ReadFields
-    ensures { λ r. ⌜ r ≡ readOf (now (table .entry)) ⌝ }
+    ensures answers { λ r. ⌜ r ≡ readOf (now (table .entry)) ⌝ }
+    ensures written_back { λ r. ⌜ WritesBack (now (table .entry)) r ⌝ }
 {
     match tables::check(table) {
         Checked::Refused(number, place) => ReadFields {
@@ -70,31 +66,30 @@ fn unused_zero(slots: &[u32], used: usize) -> bool
 
 // The mask of the word at a place from 1 up.
 fn mask_at(f: Fields, p: usize) -> u32
-    requires { ⌜ (1 ≤ p) × (f .observations ≤ maxObservations) × (p < 3 + f .observations + maxMoves) ⌝ }
-    ensures { λ r. ⌜ r ≡ maskAt (gameOf f) p ⌝ }
+    requires { ⌜ Limited (fieldsShape f) × (1 ≤ p) × (p < wordsLength f) ⌝ }
+    ensures { λ r. ⌜ r ≡ maskOf f p ⌝ }
 {
-    if p == 1 {
-        return f.start;
+    match games::place_at(tables::fields_shape(f), p) {
+        Place::Start => f.start,
+        Place::Bad => f.bad,
+        Place::Shown(seen) => {
+            let shown = f.shown;
+            shown[seen.0 as usize]
+        }
+        Place::Move(a, i) => {
+            let moves = f.moves;
+            moves[(a.0 * f.states + i.0) as usize]
+        }
     }
-    if p == 2 {
-        return f.bad;
-    }
-    let o = f.observations as usize;
-    if p < 3 + o {
-        let shown = f.shown;
-        return shown[p - 3];
-    }
-    let moves = f.moves;
-    moves[p - (3 + o)]
 }
 
 // Every used mask names states below n only, or the lowest place of a word whose mask doesn't.
 fn check_masks(f: Fields) -> Checked
-    requires { ⌜ Limited (f .states) (f .actions) (f .observations) ⌝ }
-    ensures { λ r. ⌜ r ≡ masksChecked (gameOf f) ⌝ }
+    requires { ⌜ Limited (fieldsShape f) ⌝ }
+    ensures { λ r. ⌜ r ≡ masksChecked f ⌝ }
 {
     let full = sets::single(f.states);
-    let words = words_of(f.states, f.actions, f.observations);
+    let words = games::table_length(tables::fields_shape(f));
     let mut p: usize = 1;
     while p < words {
         if full <= mask_at(f, p) {
@@ -105,33 +100,21 @@ fn check_masks(f: Fields) -> Checked
     Checked::Fine
 }
 
-// The words of a table.
-fn words_of(n: u32, a: u32, o: u32) -> usize
-    requires { ⌜ Limited n a o ⌝ }
-    ensures { λ r. ⌜ r ≡ tableLength n a o ⌝ }
-{
-    (3 + o + a * n) as usize
-}
-
 // Refusals 2 and 11.
 fn check_slots(f: Fields) -> Checked
     ensures { λ r. ⌜ r ≡ slotsChecked f ⌝ }
 {
-    let n = f.states;
-    let a = f.actions;
-    let o = f.observations;
-    if tables::limits_hold(n, a, o) {
-        let shown = f.shown;
-        let moves = f.moves;
-        let clean = unused_zero(&shown, o as usize) & unused_zero(&moves, (a * n) as usize);
-        if clean {
-            Checked::Fine
-        } else {
-            Checked::Refused(11, 0)
-        }
-    } else {
-        Checked::Refused(2, 0)
+    if !tables::limits_hold(tables::fields_shape(f)) {
+        return Checked::Refused(2, 0);
     }
+    let shown = f.shown;
+    let moves = f.moves;
+    let clean = unused_zero(&shown, f.observations as usize)
+        & unused_zero(&moves, (f.actions * f.states) as usize);
+    if !clean {
+        return Checked::Refused(11, 0);
+    }
+    Checked::Fine
 }
 
 // Refusals 2, 11, 5, 6 and 7.
@@ -149,24 +132,22 @@ fn check_fields(f: Fields) -> Checked
 
 // The word at a place, for fields whose masks are in order.
 fn word_at(f: Fields, p: usize) -> u32
-    requires { ⌜ Limited (f .states) (f .actions) (f .observations) × (masksChecked (gameOf f) ≡ Fine) × (p < wordsLength (gameOf f)) ⌝ }
-    ensures { λ r. ⌜ r ≡ wordAt (gameOf f) p ⌝ }
+    requires { ⌜ Limited (fieldsShape f) × (masksChecked f ≡ Checked.Fine) × (p < wordsLength f) ⌝ }
+    ensures { λ r. ⌜ r ≡ wordAt f p ⌝ }
 {
+    let s = tables::fields_shape(f);
     if p == 0 {
-        return tables::HEAD
-            + f.observations * games::HEAD_OBSERVATIONS_AT
-            + f.actions * games::HEAD_ACTIONS_AT
-            + f.states;
+        return tables::head_word(s);
     }
-    tables::bare_word(f.states, f.observations, p) + mask_at(f, p)
+    tables::bare_word(s, p) + mask_at(f, p)
 }
 
 // Refusal 10, or the words in front of `out`.
 fn write_words(f: Fields, out: &mut [u32]) -> Written
-    requires { ⌜ Limited (f .states) (f .actions) (f .observations) × (masksChecked (gameOf f) ≡ Fine) ⌝ }
-    ensures { λ r. ⌜ leaves r (now (out .exit)) ≡ writtenTo (gameOf f) (now (out .entry)) ⌝ }
+    requires { ⌜ Limited (fieldsShape f) × (masksChecked f ≡ Checked.Fine) ⌝ }
+    ensures { λ r. ⌜ leaves r (now (out .exit)) ≡ writtenTo f (now (out .entry)) ⌝ }
 {
-    let words = words_of(f.states, f.actions, f.observations);
+    let words = games::table_length(tables::fields_shape(f));
     if out.len() < words {
         return Written::Refused(10, words);
     }
@@ -180,7 +161,8 @@ fn write_words(f: Fields, out: &mut [u32]) -> Written
 
 // Writes the fields as a table's words into the front of `out`; a refusal leaves `out` as it was.
 pub fn write(f: Fields, out: &mut [u32]) -> Written
-    ensures { λ r. ⌜ leaves r (now (out .exit)) ≡ writeOf f (now (out .entry)) ⌝ }
+    ensures answers { λ r. ⌜ leaves r (now (out .exit)) ≡ writeOf f (now (out .entry)) ⌝ }
+    ensures read_back { λ r. ⌜ ReadsBack f r (now (out .exit)) ⌝ }
 {
     match check_fields(f) {
         Checked::Refused(number, place) => Written::Refused(number, place),

@@ -17,6 +17,10 @@ use Rattle.games.specs.declared.Shape.{Shape}
 use Rattle.games.specs.declared.Place.{Place}
 use Rattle.games.specs.declared.Place.the-variants.{Start, Bad, Shown, Move}
 
+-- a slot of the moves is that of an action and a state
+pub slot-within : (s : Shape) (j : ℕ) → 1 ≤ s .states → j < s .actions * s .states → Within s (move (j / s .states) (j % s .states))
+slot-within s j some h = (div-lt-iff-lt-mul {k = s .states} {x = j} {y = s .actions} some .1 h, mod-lt j some)
+
 module _ (s : Shape) (p : ℕ) where
   -- what stands at a place, one kind after the other
   pub at-start : p ≡ startPlace → placeAt s p ≡ Start
@@ -56,7 +60,7 @@ module _ (s : Shape) (p : ℕ) where
   pub place-within : 1 ≤ s .states → p < tableLength s → 1 ≤ p → Within s (placeAt s p)
   place-within some inside =
       by-place (Within s) (λ e. tt) (λ e. tt) (λ a b. omega arith)
-      (λ a. (div-lt-iff-lt-mul {k = s .states} {x = p - movesPlace s} {y = s .actions} some .1 (omega arith), mod-lt (p - movesPlace s) some))
+      (λ a. slot-within s (p - movesPlace s) some (omega arith))
 
 -- a set that the table has stands at a place from 1 up and below the table's length
 pub place-from : (s : Shape) (x : Place) → 1 ≤ placeOf s x

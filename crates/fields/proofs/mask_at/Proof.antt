@@ -1,64 +1,85 @@
--- `fields::mask_at` meets its contract: one law for each kind of place.
+-- `fields::mask_at` meets its contract: the field of what stands there; its slot exists, because the table has it.
 -- Assumes nothing.
-use mathlib.Core.Path.{sym}
+use mathlib.Core.Path.{_≡_, sym, ap, _∙_}
+use Prim.Native.Nat.{_+_, _*_, _<_}
+use native.Mathlib.Omega.{arith}
 use borrow.Author.Needs.{needs}
-use Rattle.fields.proofs.Laws.{field-start, field-bad, field-shown, field-move}
+use Rattle.games.specs.Format.{maxMoves}
+use Rattle.games.specs.Places.{placeAt, Within}
+use Rattle.games.specs.declared.Shape.{Shape}
+use Rattle.games.proofs.Places.{place-within}
+use Rattle.tables.specs.Fields.{fieldsShape, fieldAt}
+use Rattle.tables.proofs.Bounds.{length-short}
+use Rattle.fields.proofs.Laws.{shown-slot, move-slot}
 use Rattle.fields.proofs.mask_at.Statement.{statement}
 use Rattle.fields.proofs.mask_at.Tie as tie
 
-returns : tie.Need-returns
-returns c = sym (field-start (c .before .args .f) (c .before .args .p) (c .if1 .taken))
+-- what stands there
+there : (c : tie.After-place-at) → c .place-at .result ≡ placeAt (fieldsShape (c .before .before .args .f)) (c .before .before .args .p)
+there c = c .place-at .ensures ∙ ap (λ (s : Shape). placeAt s (c .before .before .args .p)) (c .before .fields-shape .ensures)
 
-returns-2 : tie.Need-returns-2
-returns-2 c = sym (field-bad (c .before .before .args .f) (c .before .before .args .p) (c .before .if1 .left) (c .if2 .taken))
+within : (c : tie.After-place-at) → Within (fieldsShape (c .before .before .args .f)) (c .place-at .result)
+within c =
+    let start = c .before .before in
+    rw (there c) (place-within (fieldsShape (start .args .f)) (start .args .p) (start .pre .0 .some-state) (start .pre .2) (start .pre .1))
 
-cast-o : tie.Need-cast-o
-cast-o c = search needs
+place-at-requires : tie.Need-place-at-requires
+place-at-requires c κs =
+    let start = c .before in
+    let short = length-short (fieldsShape (start .args .f)) (start .pre .0) in
+    rw (c .fields-shape .ensures) (omega (arith, short, start))
 
-add-if3 : tie.Need-add-if3
-add-if3 c = search needs
-
-sub-result : tie.Need-sub-result
-sub-result c = search needs
-
-mul-result : tie.Need-mul-result
-mul-result c = search needs
+-- the slot of an action and a state
+slot : (c : tie.After-a) → c .a .given .0 .0 .0 * c .before .before .before .before .args .f .states + c .a .given .0 .1 .0 .0 < maxMoves
+slot c =
+    let at = c .before .before in
+    let start = at .before .before in
+    move-slot (start .args .f) (start .pre .0) _ (within at) _ _ (c .a .given .1)
 
 array-read-result : tie.Need-array-read-result
-array-read-result c = search needs
+array-read-result c =
+    let seen = c .before .before .before in
+    let at = seen .before .before in
+    let start = at .before .before in
+    shown-slot (start .args .f) (start .pre .0) _ (within at) _ (seen .seen .given .1)
+
+returns : tie.Need-returns
+returns c = let at = c .before .before in ap (fieldAt (at .before .before .args .f)) (sym (c .enum-told .given .1) ∙ there at)
+
+returns-2 : tie.Need-returns-2
+returns-2 c = let at = c .before .before in ap (fieldAt (at .before .before .args .f)) (sym (c .enum-told2 .given .1) ∙ there at)
 
 returns-3 : tie.Need-returns-3
-returns-3 c = sym (field-shown (c .before .before .before .before .before .args .f) (c .before .before .before .before .before .args .p) (c .before .before .before .before .if1 .left) (c .before .before .before .if2 .left) (c .before .if3 .taken))
-
-add-result : tie.Need-add-result
-add-result c = search needs
-
-sub-result-2 : tie.Need-sub-result-2
-sub-result-2 c = search needs
-
-mul-result-2 : tie.Need-mul-result-2
-mul-result-2 c = search needs
-
-array-read-result-2 : tie.Need-array-read-result-2
-array-read-result-2 c = search needs
+returns-3 c =
+    let seen = c .before .before .before in
+    let at = seen .before .before in
+    ap (fieldAt (at .before .before .args .f)) (sym (seen .seen .given .1) ∙ there at)
 
 returns-4 : tie.Need-returns-4
-returns-4 c = sym (field-move (c .before .before .before .before .before .args .f) (c .before .before .before .before .before .args .p) (c .before .before .before .before .if1 .left) (c .before .before .before .if2 .left) (c .before .if3 .left))
+returns-4 c =
+    let moved = c .before .before .before .before .before in
+    let at = moved .before .before in
+    ap (fieldAt (at .before .before .args .f)) (sym (moved .a .given .1) ∙ there at)
 
 pub mask-at-spec : {M : Type 1} → statement M
 mask-at-spec =
     tie.close
     (tie.spec
+    (λ c κs. search needs)
+    place-at-requires
+    (λ c. search needs)
+    (λ c. search needs)
+    (λ c. search needs)
+    (λ c. search needs)
+    (λ c. search needs)
+    array-read-result
+    (λ c. search needs)
+    (λ c. omega (arith, slot (c .before .before .before .before)))
+    (λ c. omega (arith, slot (c .before .before .before .before .before)))
+    (λ c. omega (arith, slot (c .before .before .before .before .before)))
+    (λ c. omega (arith, slot (c .before .before .before .before .before)))
+    (λ c. slot (c .before .before .before .before .before))
     returns
     returns-2
-    cast-o
-    add-if3
-    sub-result
-    mul-result
-    array-read-result
     returns-3
-    add-result
-    sub-result-2
-    mul-result-2
-    array-read-result-2
     returns-4)

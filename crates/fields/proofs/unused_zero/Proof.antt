@@ -10,7 +10,8 @@ use lib.ListN.{length}
 use Rattle.sets.specs.Bounded.{all}
 use Rattle.sets.proofs.Bounded.{all-zero, all-more}
 use Rattle.sets.proofs.Logic.{and-intro}
-use Rattle.fields.proofs.Laws.{slotClean, unused-dirty, unused-clean}
+use Rattle.fields.specs.Write.{slotClean}
+use Rattle.fields.proofs.Laws.{unused-dirty, unused-clean}
 use Rattle.fields.proofs.unused_zero.Statement.{statement}
 use Rattle.fields.proofs.unused_zero.Tie as tie
 
@@ -20,31 +21,24 @@ Inv-loop slots used j₀ j = (j ≤ length slots) × (all j (slotClean used slot
 abbrev μ-loop : tie.MeasureT-loop
 μ-loop slots used j₀ j = length slots - j
 
-loop-holds : tie.Need-loop-holds Inv-loop μ-loop
-loop-holds c = (search needs, all-zero _)
-
-mul-clean : tie.Need-mul-clean Inv-loop μ-loop
-mul-clean c = search needs
-
-shared-slice-read-clean : tie.Need-shared-slice-read-clean Inv-loop μ-loop
-shared-slice-read-clean c = search needs
-
 returns : tie.Need-returns Inv-loop μ-loop
-returns c = sym (unused-dirty (c .before .before .before .before .args .used) (c .before .before .before .before .args .slots .now) (c .before .before .before .loop .j) (c .before .before .loop-test .taken) (not-true _ (c .if1 .taken)))
-
-add-j : tie.Need-add-j Inv-loop μ-loop
-add-j c = search needs
-
-loop-less : tie.Need-loop-less Inv-loop μ-loop
-loop-less c = search needs
+returns c =
+    let at = c .before .before .before in
+    let args = at .before .args in
+    sym (unused-dirty (args .used) (args .slots .now) (at .loop .j) (c .before .before .loop-test .taken) (not-true _ (c .if1 .taken)))
 
 loop-again : tie.Need-loop-again Inv-loop μ-loop
-loop-again c = (search needs, all-more (c .before .before .before .loop .j) (slotClean (c .before .before .before .before .args .used) (c .before .before .before .before .args .slots .now)) ∙ and-intro (c .before .before .before .loop .inv .1) (not-false _ (c .if1 .left)))
+loop-again c =
+    let at = c .before .before .before in
+    let args = at .before .args in
+    (search needs, all-more (at .loop .j) (slotClean (args .used) (args .slots .now)) ∙ and-intro (at .loop .inv .1) (not-false _ (c .if1 .left)))
 
 returns-2 : tie.Need-returns-2 Inv-loop μ-loop
 returns-2 c =
-    let e : c .before .loop .j ≡ length (c .before .before .args .slots .now) = omega arith in
-    sym (unused-clean (c .before .before .args .used) (c .before .before .args .slots .now) (rw e at (c .before .loop .inv .1)))
+    let at = c .before in
+    let args = at .before .args in
+    let e : at .loop .j ≡ length (args .slots .now) = omega arith in
+    sym (unused-clean (args .used) (args .slots .now) (rw e at (at .loop .inv .1)))
 
 pub unused-zero-spec : {M : Type 1} → statement M
 unused-zero-spec =
@@ -52,11 +46,11 @@ unused-zero-spec =
     (tie.spec
     Inv-loop
     μ-loop
-    loop-holds
-    mul-clean
-    shared-slice-read-clean
+    (λ c. (search needs, all-zero _))
+    (λ c. search needs)
+    (λ c. search needs)
     returns
-    add-j
-    loop-less
+    (λ c. search needs)
+    (λ c. search needs)
     loop-again
     returns-2)

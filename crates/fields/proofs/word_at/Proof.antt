@@ -1,62 +1,56 @@
 -- `fields::word_at` meets its contract: the sum fits, since the mask is below 2 ^ `maxStates`.
 -- Assumes nothing.
-use mathlib.Core.Path.{sym}
-use Prim.Native.Nat.{_-_}
+use mathlib.Core.Path.{_≡_, sym, ap, _∙_}
+use Prim.Native.Nat.{_+_, _≤_}
 use native.Mathlib.Omega.{arith}
 use borrow.Author.Needs.{needs}
 use lib.Pow.{pow-mono}
-use Rattle.tables.specs.Fields.{gameOf}
+use Rattle.games.specs.Format.{maxStates}
+use Rattle.games.specs.Places.{placeAt}
+use Rattle.games.specs.declared.Shape.{Shape}
+use Rattle.games.proofs.Places.{place-within}
+use Rattle.tables.specs.Fields.{fieldsShape}
+use Rattle.tables.specs.Layout.{headWord, bareWord}
+use Rattle.tables.proofs.Layouts.{bare-small}
 use Rattle.fields.proofs.Laws.{word-head, word-place, mask-low}
-use Rattle.tables.proofs.Bounds.{moves-below}
 use Rattle.fields.proofs.word_at.Statement.{statement}
 use Rattle.fields.proofs.word_at.Tie as tie
 
-mul-result : tie.Need-mul-result
-mul-result c = search needs
+-- past the head
+from-one : (c : tie.Else1) → 1 ≤ c .before .before .args .p
+from-one c = let some = c .if1 .left in omega arith
+
+-- the word of its place
+bare : (c : tie.After-bare-word) → c .bare-word .result ≡ bareWord (placeAt (fieldsShape (c .before .before .before .args .f)) (c .before .before .before .args .p))
+bare c = c .bare-word .ensures ∙ ap (λ (s : Shape). bareWord (placeAt s (c .before .before .before .args .p))) (c .before .before .fields-shape .ensures)
 
 add-result : tie.Need-add-result
-add-result c = search needs
-
-mul-result-2 : tie.Need-mul-result-2
-mul-result-2 c = search needs
-
-add-result-2 : tie.Need-add-result-2
-add-result-2 c = search needs
-
-add-result-3 : tie.Need-add-result-3
-add-result-3 c = search needs
-
-returns : tie.Need-returns
-unfolding gameOf
-returns c = sym (word-head (gameOf (c .before .before .before .before .args .f)) (c .before .before .before .before .args .p) (c .before .before .before .if1 .taken))
-
-bare-word-requires : tie.Need-bare-word-requires
-unfolding gameOf
-bare-word-requires c κs = omega (arith, moves-below (c .before .args .f .actions) (c .before .args .f .states) (omega arith) (omega arith))
-
-mask-at-requires : tie.Need-mask-at-requires
-unfolding gameOf
-mask-at-requires c κs = omega (arith, moves-below (c .before .before .args .f .actions) (c .before .before .args .f .states) (omega arith) (omega arith))
-
-add-result-4 : tie.Need-add-result-4
-unfolding gameOf
-add-result-4 c = omega (arith, mask-low (gameOf (c .before .before .before .args .f)) (c .before .before .before .pre .1) (c .before .before .before .args .p) (omega arith) (omega arith), pow-mono (c .before .before .before .pre .0 .most-states))
+add-result c =
+    let at = c .before in
+    let start = at .before .before .before in
+    let f = start .args .f in
+    let p = start .args .p in
+    let l = start .pre .0 in
+    let there = place-within (fieldsShape f) p (l .some-state) (start .pre .2) (from-one (at .before)) in
+    let low = mask-low f (start .pre .1) p (from-one (at .before)) (start .pre .2) in
+    omega (arith, c .mask-at .ensures, bare at, bare-small (fieldsShape f) l (placeAt (fieldsShape f) p) there, low, pow-mono {j = maxStates} (l .most-states))
 
 returns-2 : tie.Need-returns-2
-unfolding gameOf
-returns-2 c = rw (c .before .bare-word .ensures .0, c .mask-at .ensures) (sym (word-place (gameOf (c .before .before .before .args .f)) (c .before .before .before .args .p) (c .before .before .if1 .left)))
+returns-2 c =
+    let at = c .before in
+    let start = at .before .before .before in
+    rw (bare at, c .mask-at .ensures) (sym (word-place (start .args .f) (start .args .p) (at .before .if1 .left)))
 
 pub word-at-spec : {M : Type 1} → statement M
 word-at-spec =
     tie.close
     (tie.spec
-    mul-result
+    (λ c κs. search needs)
+    (λ c κs. rw (c .before .fields-shape .ensures) (c .before .before .pre .0))
+    (λ c.
+    let shape = c .before .before in
+    c .head-word .ensures ∙ ap headWord (shape .fields-shape .ensures) ∙ sym (word-head (shape .before .args .f) (shape .before .args .p) (c .before .if1 .taken)))
+    (λ c κs. let start = c .before .before in rw (c .before .fields-shape .ensures) (start .pre .0, from-one c, start .pre .2))
+    (λ c κs. let start = c .before .before .before in (start .pre .0, from-one (c .before), start .pre .2))
     add-result
-    mul-result-2
-    add-result-2
-    add-result-3
-    returns
-    bare-word-requires
-    mask-at-requires
-    add-result-4
     returns-2)

@@ -1,60 +1,56 @@
 -- `fields::write_words` meets its contract: before each turn the first p places hold words, the rest is as it was.
 -- Assumes nothing.
-use mathlib.Core.Path.{_≡_}
+use mathlib.Core.Path.{_≡_, ap, _∙_}
 use Prim.Native.Nat.{_≤_, _-_}
 use native.Mathlib.Omega.{arith}
 use borrow.Author.Needs.{needs}
 use lib.ListN.{length}
-use Rattle.tables.specs.Fields.{gameOf, filledBy}
-use Rattle.fields.specs.Write.{wordAt}
+use Rattle.sets.specs.Bounded.{filledBy}
+use Rattle.sets.proofs.Fills.{filled-none, filled-more}
+use Rattle.games.specs.Places.{tableLength}
+use Rattle.fields.specs.Write.{wordAt, wordsLength}
 use Rattle.fields.proofs.Laws.{written-none, written-done}
-use Rattle.tables.proofs.Fills.{filled-none, filled-more}
 use Rattle.fields.proofs.write_words.Statement.{statement}
 use Rattle.fields.proofs.write_words.Tie as tie
 
 abbrev Inv-loop : tie.InvT-loop
-Inv-loop f out₀ words p₀ out p = (p ≤ words) × (length out ≡ length out₀) × (out ≡ filledBy p (wordAt (gameOf f)) out₀)
+Inv-loop f out₀ words p₀ out p = (p ≤ words) × (length out ≡ length out₀) × (out ≡ filledBy p (wordAt f) out₀)
 
 abbrev μ-loop : tie.MeasureT-loop
 μ-loop f out₀ words p₀ out p = words - p
 
-words-of-requires : tie.Need-words-of-requires Inv-loop μ-loop
-words-of-requires c κs = c .before .pre .0
+-- how many words there are
+long : (c : tie.After-table-length Inv-loop μ-loop) → c .table-length .result ≡ wordsLength (c .before .before .before .args .f)
+long c = c .table-length .ensures ∙ ap tableLength (c .before .fields-shape .ensures)
 
 returns : tie.Need-returns Inv-loop μ-loop
-unfolding gameOf
-returns c = written-none (gameOf (c .before .before .before .args .f)) (c .before .before .before .args .out .now) (c .before .words-of .result) (c .before .words-of .ensures) (c .if1 .taken)
+returns c =
+    let words = c .before in
+    let args = words .before .before .before .args in
+    written-none (args .f) (args .out .now) (words .table-length .result) (long words) (c .if1 .taken)
 
 loop-holds : tie.Need-loop-holds Inv-loop μ-loop
-loop-holds c = (search needs, search needs, filled-none (wordAt (gameOf (c .before .before .before .args .f))) (c .before .before .before .args .out .now))
+loop-holds c = let args = c .before .before .before .before .args in (search needs, search needs, filled-none (wordAt (args .f)) (args .out .now))
 
 word-at-requires : tie.Need-word-at-requires Inv-loop μ-loop
-unfolding gameOf
-word-at-requires c κs = (c .before .before .before .before .before .pre .0, c .before .before .before .before .before .pre .1, omega arith)
-
-mul-out : tie.Need-mul-out Inv-loop μ-loop
-mul-out c = search needs
-
-slice-write-out : tie.Need-slice-write-out Inv-loop μ-loop
-slice-write-out c = search needs
-
-add-p : tie.Need-add-p Inv-loop μ-loop
-add-p c = search needs
-
-loop-less : tie.Need-loop-less Inv-loop μ-loop
-loop-less c = search needs
+word-at-requires c κs =
+    let words = c .before .before .before in
+    let start = words .before .before .before in
+    (start .pre .0, start .pre .1, omega (arith, long words))
 
 loop-again : tie.Need-loop-again Inv-loop μ-loop
-loop-again c = (search needs, search needs, rw (c .before .before .loop .inv .2, c .word-at .ensures) (filled-more (wordAt (gameOf (c .before .before .before .before .before .before .args .f))) (c .before .before .loop .p) (c .before .before .before .before .before .before .args .out .now) (omega arith)))
-
-same-length : tie.Need-same-length Inv-loop μ-loop
-same-length c = search needs
+loop-again c =
+    let at = c .before .before in
+    let args = at .before .before .before .before .before .args in
+    (search needs, search needs, rw (at .loop .inv .2, c .word-at .ensures) (filled-more (wordAt (args .f)) (at .loop .p) (args .out .now) (omega arith)))
 
 returns-2 : tie.Need-returns-2 Inv-loop μ-loop
-unfolding gameOf
 returns-2 c =
-    let e : c .before .loop .p ≡ c .before .before .before .words-of .result = omega arith in
-    written-done (gameOf (c .before .before .before .before .before .args .f)) (c .before .before .before .before .before .args .out .now) (c .before .loop .out) (c .before .before .before .words-of .result) (c .before .before .before .words-of .ensures) (omega arith) (rw e at (c .before .loop .inv .2))
+    let at = c .before in
+    let words = at .before .before in
+    let args = words .before .before .before .args in
+    let e : at .loop .p ≡ words .table-length .result = omega arith in
+    written-done (args .f) (args .out .now) (at .loop .out) (words .table-length .result) (long words) (omega arith) (rw e at (at .loop .inv .2))
 
 pub write-words-spec : {M : Type 1} → statement M
 write-words-spec =
@@ -62,14 +58,15 @@ write-words-spec =
     (tie.spec
     Inv-loop
     μ-loop
-    words-of-requires
+    (λ c κs. search needs)
+    (λ c κs. rw (c .fields-shape .ensures) (let most = c .before .before .pre .0 .most-states in omega arith))
     returns
     loop-holds
     word-at-requires
-    mul-out
-    slice-write-out
-    add-p
-    loop-less
+    (λ c. search needs)
+    (λ c. search needs)
+    (λ c. search needs)
+    (λ c. search needs)
     loop-again
-    same-length
+    (λ c. search needs)
     returns-2)
