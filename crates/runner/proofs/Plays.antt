@@ -1,5 +1,5 @@
--- The card of an automaton that meets the second demand is never refused on a play of its game under it: not where a runner is opened on
--- it and moved by the play's observations, and not where it is run over them.
+-- Words that enter a cell on every play of a game under a card are never refused there: not where a runner is opened on them and moved
+-- by the play's observations, and not where they are run over these.
 -- Assumes nothing.
 use mathlib.Core.Path.{_≡_, refl, sym, ap, ap₂, subst, _∙_}
 use mathlib.Core.Logic.{⊎-elim}
@@ -13,18 +13,16 @@ use lib.Seq.{take-append-le, take-length}
 use Rattle.games.specs.Game.{Game}
 use Rattle.games.specs.Play.{Play, begin, more, PlayOf, seen}
 use Rattle.games.specs.Automaton.{Automaton, cellAfter, actionAfter}
-use Rattle.games.specs.Words.{cardWords}
-use Rattle.games.specs.Demands.{UnderCard, Second}
+use Rattle.games.specs.Demands.{UnderCard}
 use Rattle.sets.specs.Bounded.{filledBy}
 use Rattle.sets.proofs.Fills.{filled-ext}
 use Rattle.games.specs.Answers.{leaves}
 use Rattle.games.specs.declared.Checked.the-variants.{Fine}
-use Rattle.cards.specs.Card.{checked, Fitting}
+use Rattle.cards.specs.Card.{checked}
 use Rattle.cards.specs.Run.{entered, opened, stepped, moved, ran, asCell, asObservation, stands, starts, advances}
 use Rattle.cards.specs.declared.Move.{Move}
 use Rattle.cards.specs.declared.Stood.{Stood}
-use Rattle.cards.proofs.Written.{written-checked}
-use Rattle.cards.proofs.Runs.{moved-entered, ran-one, ran-more, never-refused}
+use Rattle.cards.proofs.Runs.{moved-entered, ran-one, ran-more}
 use Rattle.runner.specs.declared.Ran.the-variants.{Done}
 use Rattle.runner.specs.Runs.{standingFrom, standing, moveAt, actionOf, further, ranUpTo, withActions, ranInto}
 use Rattle.runner.proofs.Laws.{run-done, into-fine}
@@ -98,41 +96,42 @@ unfolding seen
 some-seen (begin i o) = omega arith
 some-seen (more p b i o) = omega (arith, length-append (seen p) (o ∷ []))
 
--- document 01: played on any play of its table under the actions it gives, a solver's card never meets 12, 13 or 14
-module _ (g : Game) (A : Automaton) (S : Second g A) (F : Fitting A (g .actions) (g .observations)) where
-  -- the card, and what it does on observations
-  abbrev w : List ℕ
-  w = cardWords A (g .actions) (g .observations)
-
+-- words w that, on every play under a card, enter the cell that its automaton is in and give its action (`ran`)
+module _ (g : Game) (A : Automaton) (w : List ℕ) (enters : (p : Play) → PlayOf g p → UnderCard A p → Enters w (cellAfter A) (actionAfter A) (seen p)) where
   abbrev InCell : List ℕ → Type 0
   InCell h = Enters w (cellAfter A) (actionAfter A) h
 
-  -- the beginnings of a play are plays
-  beginning : (p : Play) → PlayOf g p → UnderCard A p → (k : ℕ) → 0 < k → k ≤ length (seen p) → InCell (take k (seen p))
+  abbrev Standing : List ℕ → Type 0
+  Standing h = Runs w (cellAfter A) (actionAfter A) h
+
+  -- the beginnings of a play are plays: what holds after every play holds after each of its observations
+  beginning : (P : List ℕ → Type 0) → ((p : Play) → PlayOf g p → UnderCard A p → P (seen p)) → (p : Play) → PlayOf g p → UnderCard A p → (k : ℕ) → 0 < k → k ≤ length (seen p) → P (take k (seen p))
   unfolding PlayOf UnderCard seen
-  beginning (begin i o) m u k s l =
+  beginning P after (begin i o) m u k s l =
       let e : 1 ≡ k = omega arith in
-      subst (λ (n : ℕ). InCell (take n (o ∷ []))) e (never-refused g A S F (begin i o) m u)
-  beginning (more p b i o) m u k s l =
+      subst (λ (n : ℕ). P (take n (o ∷ []))) e (after (begin i o) m u)
+  beginning P after (more p b i o) m u k s l =
       let h = seen p ++ (o ∷ []) in
       ⊎-elim
-      (λ (e : k ≡ length h). subst InCell (sym (ap (λ (n : ℕ). take n h) e ∙ take-length h)) (never-refused g A S F (more p b i o) m u))
+      (λ (e : k ≡ length h). subst P (sym (ap (λ (n : ℕ). take n h) e ∙ take-length h)) (after (more p b i o) m u))
       (λ (f : k < length h).
       let n : k ≤ length (seen p) = omega (arith, length-append (seen p) (o ∷ [])) in
-      subst InCell (sym (take-append-le k (seen p) (o ∷ []) n)) (beginning p (m .0) (u .0) k s n))
+      subst P (sym (take-append-le k (seen p) (o ∷ []) n)) (beginning P after p (m .0) (u .0) k s n))
       (eq-or-lt-of-le l)
 
-  -- opened with the play's first observation and moved by the others, the runner is not refused by the last. A play may stop after any
-  -- observation, so it is refused by none
-  pub runner-never-refused : (p : Play) → PlayOf g p → UnderCard A p → Runs w (cellAfter A) (actionAfter A) (seen p)
+  -- opened with the play's first observation and moved by the others, the runner is not refused by the last
+  stands-last : (p : Play) → PlayOf g p → UnderCard A p → Standing (seen p)
   unfolding PlayOf UnderCard seen
-  runner-never-refused (begin i o) m u = runs-one w (cellAfter A) (actionAfter A) o (never-refused g A S F (begin i o) m u)
-  runner-never-refused (more p b i o) m u =
-      runs-more w (cellAfter A) (actionAfter A) (seen p) o (some-seen p) (never-refused g A S F p (m .0) (u .0)) (never-refused g A S F (more p b i o) m u)
-      (runner-never-refused p (m .0) (u .0))
+  stands-last (begin i o) m u = runs-one w (cellAfter A) (actionAfter A) o (enters (begin i o) m u)
+  stands-last (more p b i o) m u =
+      runs-more w (cellAfter A) (actionAfter A) (seen p) o (some-seen p) (enters p (m .0) (u .0)) (enters (more p b i o) m u)
+      (stands-last p (m .0) (u .0))
 
-  -- the run over the play's observations takes them all
-  pub run-never-refused : (p : Play) → PlayOf g p → UnderCard A p → (d : List ℕ) → length (seen p) ≤ length d
+  -- so it is refused by none
+  pub runner-goes : (p : Play) → PlayOf g p → UnderCard A p → (k : ℕ) → 0 < k → k ≤ length (seen p) → Standing (take k (seen p))
+  runner-goes = beginning Standing stands-last
+
+  -- and where the words are a card, the run over the play's observations takes them all
+  pub run-goes : checked w ≡ Fine → (p : Play) → PlayOf g p → UnderCard A p → (d : List ℕ) → length (seen p) ≤ length d
       → ranInto w (seen p) d ≡ leaves (Done (length (seen p))) (filledBy (length (seen p)) (λ i. actionAfter A (take (suc i) (seen p))) d)
-  run-never-refused p m u d l =
-      run-enters w (cellAfter A) (actionAfter A) (seen p) (written-checked A (g .actions) (g .observations) F) (beginning p m u) d l
+  run-goes fine p m u d l = run-enters w (cellAfter A) (actionAfter A) (seen p) fine (beginning InCell enters p m u) d l
