@@ -10,7 +10,7 @@ use Rattle.sets.specs.Mask.{single}
 use Rattle.games.specs.Step.{good}
 use Rattle.games.specs.Words.{game}
 use Rattle.tables.specs.Check.{tooWide, checked}
-use Rattle.tables.specs.declared.Checked.the-variants.{Fine, Refused as Stopped}
+use Rattle.games.specs.declared.Checked.the-variants.{Fine, Refused as Stopped}
 use Rattle.judge.specs.Judge.{mostRounds, answered, judged}
 use Rattle.judge.specs.declared.Judged.the-variants.{Good, NotGood, Refused}
 

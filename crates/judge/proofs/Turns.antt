@@ -1,10 +1,9 @@
 -- The two turns: what each answer of the action's turn and of the observation's turn says of the step.
 -- Assumes nothing.
 use mathlib.Core.Path.{_≡_, refl, sym, ap, _∙_, subst}
-use mathlib.Core.Bool.{Bool, true, false, cond}
+use mathlib.Core.Bool.{Bool, true, false}
 use Prim.Native.Nat.{ℕ, zero, suc, _+_, _-_, _<_}
 use native.Mathlib.Numerals.{sub-one}
-use native.Mathlib.Omega.{arith}
 use borrow.Author.Tests.{eq-eqb, ne-eqb}
 use Rattle.sets.specs.Mask.{common}
 use Rattle.sets.specs.Bounded.{all, any}
@@ -16,6 +15,7 @@ use Rattle.games.specs.Step.{safe, enabledAt, post, after, meets, step, good}
 use Rattle.games.proofs.Steps.{step-intro, good-empty}
 use Rattle.tables.specs.Walk.{walked}
 use Rattle.tables.specs.declared.Walked.the-variants.{Blocked, Post}
+use Rattle.tables.proofs.Walks.{post-is, blocked-is}
 
 module _ (g : Game) where
   -- ---- the action's turn, with k rounds to go
@@ -62,27 +62,10 @@ module _ (g : Game) where
   abbrev pub goodIn : (rounds mask observation : ℕ) → Bool
   goodIn k u o = good g k (common u (g .shown o))
 
-  -- what the walk's two answers tell
-  walk-enabled : (s a u : ℕ) → walked g s a ≡ Post u → (enabledAt g s a ≡ true) × (post g s a ≡ u)
-  unfolding walked
-  walk-enabled s a u e = taken (enabledAt g s a) e
-    where
-      taken : (b : Bool) → cond b (Post (post g s a)) Blocked ≡ Post u → (b ≡ true) × (post g s a ≡ u)
-      taken true h = (refl, cc)
-      taken false h = absurd (let z : _≡_ {A = ℕ} 0 1 = cc in omega arith)
-
-  walk-blocked : (s a : ℕ) → walked g s a ≡ Blocked → enabledAt g s a ≡ false
-  unfolding walked
-  walk-blocked s a e = left (enabledAt g s a) e
-    where
-      left : (b : Bool) → cond b (Post (post g s a)) Blocked ≡ Blocked → b ≡ false
-      left true h = absurd (let z : _≡_ {A = ℕ} 0 1 = cc in omega arith)
-      left false h = refl
-
   -- a blocked action does not meet the step
   pub action-blocked : (F : Family) (s a : ℕ) → walked g s a ≡ Blocked → false ≡ meets g F s a
   unfolding meets
-  action-blocked F s a e = sym (and-false-left (all (g .observations) (λ o. F (after g s a o))) (walk-blocked s a e))
+  action-blocked F s a e = sym (and-false-left (all (g .observations) (λ o. F (after g s a o))) (blocked-is g s a e))
 
   -- the other turn, asked of those successors: b is the set that shows the observation, v the successors in it, r the answer
   pub asked : (k u o b v : ℕ) {r x : Bool} → b ≡ g .shown o → v ≡ common u b → r ≡ good g k v → r ≡ x → goodIn k u o ≡ x
@@ -96,15 +79,15 @@ module _ (g : Game) where
   pub observation-fails : (k s a u o : ℕ) → walked g s a ≡ Post u → o < g .observations → goodIn k u o ≡ false → false ≡ meets g (good g k) s a
   unfolding meets after
   observation-fails k s a u o e l m =
-      let h : goodIn k (post g s a) o ≡ false = subst (λ (v : ℕ). goodIn k v o ≡ false) (sym (walk-enabled s a u e .1)) m in
+      let h : goodIn k (post g s a) o ≡ false = subst (λ (v : ℕ). goodIn k v o ≡ false) (post-is g s a u e .1) m in
       sym (and-false-right (enabledAt g s a) (all-refuted (g .observations) (goodIn k (post g s a)) o l h))
 
   -- where all observations pass, the action meets the step
   pub all-observations : (k s a u : ℕ) → walked g s a ≡ Post u → all (g .observations) (goodIn k u) ≡ true → true ≡ meets g (good g k) s a
   unfolding meets after
   all-observations k s a u e h =
-      let w = walk-enabled s a u e in
-      sym (and-intro (w .0) (subst (λ (v : ℕ). all (g .observations) (goodIn k v) ≡ true) (sym (w .1)) h))
+      let w = post-is g s a u e in
+      sym (and-intro (w .0) (subst (λ (v : ℕ). all (g .observations) (goodIn k v) ≡ true) (w .1) h))
 
   -- and with no round after it they all do
   pub last-round : (k s a u : ℕ) → walked g s a ≡ Post u → k ≡ 0 → true ≡ meets g (good g k) s a

@@ -5,11 +5,10 @@ use mathlib.Core.List.{List}
 use Prim.Native.Nat.{ℕ}
 use lib.Dec.{ltb}
 use lib.ListN.{length}
+use Rattle.games.specs.Answers.{unless}
 use Rattle.games.specs.Step.{good}
 use Rattle.games.specs.Words.{game}
 use Rattle.tables.specs.Check.{tooWide, checked}
-use Rattle.tables.specs.declared.Checked.{Checked}
-use Rattle.tables.specs.declared.Checked.the-variants.{Fine, Refused as Stopped}
 use Rattle.judge.specs.declared.Judged.{Judged}
 use Rattle.judge.specs.declared.Judged.the-variants.{Good, NotGood, Refused}
 
@@ -24,11 +23,8 @@ answered w s k =
     (cond (tooWide (game w .states) s) (Refused 5 (length w))
     (cond (good (game w) k s) Good NotGood))
 
--- a refusal of the table checks, else the next answer
-abbrev pub afterCheck : Checked → Judged → Judged
-afterCheck Fine next = next
-afterCheck (Stopped number place) next = Refused number place
-
--- what the judge answers
+-- what the judge answers: table, 17, 5
 unfoldable pub judged : (table : List ℕ) (mask rounds : ℕ) → Judged
-judged w s k = afterCheck (checked w) (answered w s k)
+judged w s k =
+    unless (checked w) Refused
+    (answered w s k)

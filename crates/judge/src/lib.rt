@@ -4,11 +4,10 @@ ghost use Prim.Native.Nat.{_<_};
 ghost use Rattle.games.specs.Step.{good, meets};
 ghost use Rattle.games.specs.Words.{game};
 ghost use Rattle.tables.specs.Check.{checked};
-ghost use Rattle.tables.specs.declared.Checked.the-variants.{Fine};
 ghost use Rattle.judge.specs.Judge.{answered, judged};
 use games::Action;
+use games::Checked;
 use games::Observation;
-use tables::Checked;
 use tables::Walked;
 
 // Document 01: k up to 4.
@@ -23,7 +22,7 @@ pub enum Judged {
 
 // The set is good for k rounds: one action meets the step.
 fn action_turn(table: &[u32], s: u32, k: u32) -> bool
-    requires { ⌜ checked (now table) ≡ Fine ⌝ }
+    requires { ⌜ checked (now table) ≡ Checked.Fine ⌝ }
     ensures { λ r. ⌜ r ≡ good (game (now (table .entry))) k s ⌝ }
 {
     if k == 0 {
@@ -48,7 +47,7 @@ fn action_turn(table: &[u32], s: u32, k: u32) -> bool
 
 // The action is enabled at all members and, for every observation, the successors that show it are good for k rounds.
 fn observation_turn(table: &[u32], s: u32, a: Action, k: u32) -> bool
-    requires { ⌜ (checked (now table) ≡ Fine) × (a .0 < game (now table) .actions) ⌝ }
+    requires { ⌜ (checked (now table) ≡ Checked.Fine) × (a .0 < game (now table) .actions) ⌝ }
     ensures { λ r. ⌜ r ≡ meets (game (now (table .entry))) (good (game (now (table .entry))) k) s (a .0) ⌝ }
 {
     let Walked::Post(u) = tables::walk(table, s, a) else {
@@ -71,7 +70,7 @@ fn observation_turn(table: &[u32], s: u32, a: Action, k: u32) -> bool
 
 // Refusals 17 and 5, else the answer.
 fn answer(table: &[u32], mask: u32, k: u32) -> Judged
-    requires { ⌜ checked (now table) ≡ Fine ⌝ }
+    requires { ⌜ checked (now table) ≡ Checked.Fine ⌝ }
     ensures { λ r. ⌜ r ≡ answered (now (table .entry)) mask k ⌝ }
 {
     if MOST_ROUNDS < k {

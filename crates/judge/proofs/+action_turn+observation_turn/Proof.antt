@@ -1,5 +1,5 @@
--- The cycle of calls {action_turn, observation_turn}: a turn for the action with k rounds to go asks the observation's turn with k - 1, which
--- asks the action's turn with the same number. So the measures are 2k and 2k + 1. Assumes nothing.
+-- Before each turn of the loops no action so far meets the step, and each observation so far is good; k falls by one at each pair of calls.
+-- Assumes nothing.
 use mathlib.Core.Path.{_≡_, sym, _∙_}
 use mathlib.Core.Bool.{true, false}
 use Prim.Native.Nat.{ℕ, _+_, _-_, _≤_, _<_}
@@ -29,6 +29,7 @@ use Rattle.tables.proofs.walk.Reads as walk-reads
 use Rattle.judge.proofs.+action_turn+observation_turn.{statement}
 use Rattle.judge.proofs.+action_turn+observation_turn.Tie.{close}
 
+-- the action's turn with k rounds to go asks the observation's turn with k - 1, which asks the action's with as many: 2k and 2k + 1
 abbrev μ-action-turn : Measures 1 action-turn-kinds.ps ℕ
 μ-action-turn κs a = a .1 .1 .0 + a .1 .1 .0
 

@@ -1,19 +1,18 @@
--- `judge::answer` meets its contract.
+-- `judge::answer` meets its contract: 17, then 5, then the action's turn.
 -- Assumes nothing.
 use native.Mathlib.Omega.{arith}
 use borrow.Author.Needs.{needs}
 use Rattle.tables.proofs.Checks.{sized}
-use Rattle.games.specs.Words.{game}
+use Rattle.tables.proofs.Bounds.{few-states}
 use Rattle.judge.proofs.Answers.{too-many-rounds, names-no-state, is-good, not-good}
 use Rattle.judge.proofs.answer.Statement.{statement}
 use Rattle.judge.proofs.answer.Tie as tie
 
 single-requires : tie.Need-single-requires
-unfolding game
 single-requires c κs =
     let begun = c .before .before .before in
-    let z = sized (begun .args .table .now) (begun .pre) .limits .most-states in
-    omega (arith, c .states .ensures)
+    let w = begun .args .table .now in
+    omega (arith, c .states .ensures, few-states w (sized w (begun .pre)))
 
 pub answer-spec : {M : Type 1} → statement M
 answer-spec =

@@ -1,4 +1,4 @@
--- `judge::judge` meets its contract.
+-- `judge::judge` meets its contract: the table checks first, then the answer.
 -- Assumes nothing.
 use mathlib.Core.Path.{_∙_}
 use borrow.Author.Needs.{needs}
