@@ -6,5 +6,7 @@ pub mod Memory
 pub mod Losing
 pub mod Lasting
 pub mod Settling
+pub mod Starts
+pub mod Holding
 pub mod Winning
 pub mod Decided

@@ -21,36 +21,25 @@ use Rattle.games.specs.Game.{Game, Accepted}
 use Rattle.games.specs.Step.{safe, enabledAt, post, after, meets, step}
 use Rattle.games.specs.Words.{game}
 use Rattle.tables.specs.Layout.{Sized}
-use Rattle.tables.specs.Walk.{walked}
-use Rattle.tables.specs.declared.Walked.{Walked}
-use Rattle.tables.specs.declared.Walked.the-variants.{Blocked, Post}
+use Rattle.moves.specs.declared.Posted.{Posted}
+use Rattle.moves.specs.declared.Posted.the-variants.{Blocked, Post}
+use Rattle.moves.specs.Halves.{posted}
+use Rattle.moves.proofs.Posting.{posted-blocked, posted-post}
 use Rattle.search.specs.Stages.{shownIn}
 
-module _ (g : Game) (F : Family) (s a : ℕ) (r : Walked) (is : r ≡ walked g s a) where
-  pub walked-post : (u : ℕ) → r ≡ Post u → (enabledAt g s a ≡ true) × (post g s a ≡ u)
-  unfolding walked
-  walked-post u e =
-      ⊎-elim
-      (λ h. (h, let w : walked g s a ≡ Post (post g s a) = rw h in (cc)))
-      (λ h. let w : walked g s a ≡ Blocked = rw h in let z : _≡_ {A = ℕ} 0 1 = cc in absurd (omega arith))
-      (decided (enabledAt g s a))
-
+module _ (g : Game) (F : Family) (s a : ℕ) (r : Posted) (is : r ≡ posted g s a) where
   -- the action meets the step where the sets after it are good
   pub meets-shown : (u : ℕ) → r ≡ Post u → shownIn g F u ≡ meets g F s a
   unfolding meets after shownIn
   meets-shown u e =
-      let w = walked-post u e in
+      let w = posted-post g s a r is u e in
       sym
       (ap (λ (b : Bool). b && all (g .observations) (λ o. F (common (post g s a) (g .shown o)))) (w .0)
       ∙ ap (λ (v : ℕ). all (g .observations) (λ o. F (common v (g .shown o)))) (w .1))
 
   pub meets-blocked : r ≡ Blocked → false ≡ meets g F s a
-  unfolding walked meets
-  meets-blocked e =
-      sym
-      (and-false-left (all (g .observations) (λ o. F (after g s a o)))
-      (refuted (enabledAt g s a)
-      (λ h. let w : walked g s a ≡ Post (post g s a) = rw h in let z : _≡_ {A = ℕ} 0 1 = cc in absurd (omega arith))))
+  unfolding meets
+  meets-blocked e = sym (and-false-left (all (g .observations) (λ o. F (after g s a o))) (posted-blocked g s a r is e))
 
 -- a state of u with its observation at j decides
 module _ (g : Game) (F : Family) (u : ℕ) where

@@ -10,34 +10,29 @@ use lib.ListN.{length, getD, take, drop, length-append, length-drop, take-append
 use lib.Seq.{take-at, drop-drop, drop-append-add, length-take-le}
 use borrow.Rule.Slice.PartMut.{putMid, postOf, drop-put, same-len-mid, mid-len}
 use Rattle.sets.specs.Bounded.{gather}
-use Rattle.games.specs.Format.{maxCells, maxObservations}
+use Rattle.games.specs.Format.{maxCells, maxObservations, kindFirst, kindNext}
 use Rattle.games.specs.Game.{Game, Accepted}
 use Rattle.games.proofs.Winning.{cell-settled}
-use Rattle.tables.specs.Check.{checked}
-use Rattle.tables.specs.declared.Checked.the-variants.{Fine}
-use Rattle.tables.proofs.Checks.{sized}
-use Rattle.search.proofs.Turns.{sets-few}
 use Rattle.games.specs.Step.{after}
-use Rattle.games.specs.Verdict.{startSet, cells}
+use Rattle.games.specs.Verdict.{startSets, startSet, cells}
 use Rattle.games.specs.Automaton.{card, chosen, holding}
 use Rattle.games.specs.Words.{game, cardLength, cellWords, cardWords, word}
 use Rattle.cards.proofs.Extra.{gather-length}
 use Rattle.solver.specs.Writing.{SettledSet, frontWords, setWords}
 use Rattle.solver.specs.Solve.{cardOf}
-use Rattle.solver.proofs.Words.{cells-few}
 
 pub set-words-length : (g : Game) (s : ℕ) → length (setWords g s) ≡ 1 + g .observations
 unfolding setWords
 set-words-length g s =
     let n = g .observations in
-    let e = gather-length n 1 (λ j. word 11 (holding (cells g) (after g s (chosen g s) j)) j 0 ∷ []) (λ i l. refl) in
+    let e = gather-length n 1 (λ j. word kindNext (holding (cells g) (after g s (chosen g s) j)) j 0 ∷ []) (λ i l. refl) in
     omega (arith, e)
 
 pub front-length : (g : Game) → length (frontWords g) ≡ 1 + g .observations
 unfolding frontWords
 front-length g =
-    let n = g .observations in
-    let e = gather-length n 1 (λ j. word 9 (holding (cells g) (startSet g j)) j 0 ∷ []) (λ i l. refl) in
+    let n = startSets g in
+    let e = gather-length n 1 (λ j. word kindFirst (holding (cells g) (startSet g j)) j 0 ∷ []) (λ i l. refl) in
     omega (arith, e)
 
 -- the card is its front and the words of each cell
@@ -142,13 +137,6 @@ module _ (g : Game) (l : List ℕ) (listed : l ≡ cells g) (p : ℕ) (part-is :
       ∙ ap (λ (n : ℕ). drop n entry) words-needed)
 
 -- ---- bounds while the card is written
-
-pub observations-at-most : (w : List ℕ) → checked w ≡ Fine → game w .observations ≤ maxObservations
-unfolding game
-observations-at-most w h = sized w h .limits .most-observations
-
-pub cells-at-most : (w : List ℕ) → checked w ≡ Fine → (l : List ℕ) → l ≡ cells (game w) → length l ≤ maxCells
-cells-at-most w h l e = omega (arith, ap length e, cells-few (game w), sets-few w (sized w h))
 
 pub prefix-room : (g : Game) (l d : List ℕ) (o : ℕ) → o ≡ g .observations → cardLength (length l) (g .observations) ≤ length d → 1 + o ≤ length d
 prefix-room g l d o e h = omega arith

@@ -26,6 +26,7 @@ use Rattle.games.specs.Demands.{Follows, Second, Third}
 use Rattle.games.proofs.Steps.{good-empty}
 use Rattle.games.proofs.Lasting.{lowest-below}
 use Rattle.games.proofs.Settling.{cells-hold}
+use Rattle.games.proofs.Holding.{holding-named}
 use Rattle.games.proofs.Winning.{Covers, covering-wins, card-covers, cell-settled}
 use Rattle.games.proofs.Decided.{verdict-yes, yes-starts, decides}
 use Rattle.tables.specs.Check.{checked}
@@ -42,19 +43,7 @@ use Rattle.solver.specs.Solve.{workWords, Leaves, leaves, cardOf, byVerd
 use Rattle.solver.specs.declared.Answer.{Answer}
 use Rattle.solver.specs.declared.Answer.the-variants.{Yes as SaysYes, No as SaysNo, Refused}
 use Rattle.search.proofs.Turns.{sets-few}
-use Rattle.solver.proofs.Words.{cells-few, holdsAt}
-
--- the cell that holds a set is one of the list, or none
-holding-named : (l : List ℕ) (s : ℕ) → (holding l s < length l) ⊎ (holding l s ≡ noCell)
-unfolding holding
-holding-named l s = named (eqb s 0)
-  where
-    named : (b : Bool) → (cond b noCell (orElse (first (length l) (holdsAt l s)) noCell) < length l) ⊎ (cond b noCell (orElse (first (length l) (holdsAt l s)) noCell) ≡ noCell)
-    named true = inr refl
-    named false =
-        ⊎-elim (λ w. inr (ap (λ (f : Found). orElse f noCell) (w .0)))
-        (λ w. inl (subst (λ (f : Found). orElse f noCell < length l) (sym (w .1)) (w .2 .0)))
-        (first-cases (length l) (holdsAt l s))
+use Rattle.solver.proofs.Index.{cells-few}
 
 -- covering is seen only at cells and observations that are there
 covers-agree : (g : Game) (A B : Automaton) → Agree B A (g .observations) → Covers g A → Covers g B

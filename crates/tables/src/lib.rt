@@ -4,6 +4,8 @@ ghost use Prim.Native.Nat.{_<_, _+_, _≤_, _^_};
 ghost use lib.ListN.{length, getD};
 ghost use Rattle.games.specs.Words.{game, tableLength, headStates, headActions, headObservations};
 ghost use Rattle.games.specs.Format.{maxObservations, headValues};
+ghost use Rattle.games.specs.Game.{enabled as isEnabled};
+ghost use Rattle.games.specs.Verdict.{startSets, startSet};
 ghost use Rattle.tables.specs.Layout.{maxWords, Limited, Sized, bareWord};
 ghost use Rattle.tables.specs.Walk.{walked};
 ghost use Rattle.tables.specs.Fields.{masksFrom, filledBy, fieldsOf, gameOf};
@@ -128,6 +130,30 @@ pub fn successors(table: &[u32], a: Action, i: State) -> u32
 {
     let at = row(table[0], a.0) + i.0 as usize;
     table[at] % games::LOW_VALUES
+}
+
+// The action is enabled in the state.
+pub fn enabled(table: &[u32], a: Action, i: State) -> bool
+    requires { ⌜ Sized (now table) × (a .0 < game (now table) .actions) × (i .0 < game (now table) .states) ⌝ }
+    ensures { λ r. ⌜ r ≡ isEnabled (game (now (table .entry))) (i .0) (a .0) ⌝ }
+{
+    successors(table, a, i) != 0
+}
+
+// The number of start sets.
+pub fn start_sets(table: &[u32]) -> u32
+    requires { ⌜ Sized (now table) ⌝ }
+    ensures { λ r. ⌜ r ≡ startSets (game (now (table .entry))) ⌝ }
+{
+    observations(table)
+}
+
+// The states in which a play can begin with the observation.
+pub fn start_set(table: &[u32], seen: Observation) -> u32
+    requires { ⌜ Sized (now table) × (seen .0 < startSets (game (now table))) ⌝ }
+    ensures { λ r. ⌜ r ≡ startSet (game (now (table .entry))) (seen .0) ⌝ }
+{
+    start(table) & shown(table, seen)
 }
 
 // What a set comes to under an action.

@@ -1,3 +1,5 @@
+-- `moves::double` meets its contract. The loop's invariant: the first x entries stand again behind the first `size`, united with w.
+-- Assumes nothing.
 use borrow.Author.Needs.{needs}
 use mathlib.Core.Path.{refl}
 use Prim.Native.Nat.{_-_}
@@ -13,27 +15,6 @@ abbrev μ-loop : tie.MeasureT-loop
 
 loop-holds : tie.Need-loop-holds Inv-loop μ-loop
 loop-holds c = doubling-none (c .args .size) (c .args .w) (c .args .half .now)
-
-mul-half : tie.Need-mul-half Inv-loop μ-loop
-mul-half c = search needs
-
-slice-read-half : tie.Need-slice-read-half Inv-loop μ-loop
-slice-read-half c = search needs
-
-add-half : tie.Need-add-half Inv-loop μ-loop
-add-half c = search needs
-
-mul-half-2 : tie.Need-mul-half-2 Inv-loop μ-loop
-mul-half-2 c = search needs
-
-slice-write-half : tie.Need-slice-write-half Inv-loop μ-loop
-slice-write-half c = search needs
-
-add-x : tie.Need-add-x Inv-loop μ-loop
-add-x c = search needs
-
-loop-less : tie.Need-loop-less Inv-loop μ-loop
-loop-less c = search needs
 
 loop-again : tie.Need-loop-again Inv-loop μ-loop
 loop-again c =
@@ -57,13 +38,13 @@ double-spec =
     Inv-loop
     μ-loop
     loop-holds
-    mul-half
-    slice-read-half
-    add-half
-    mul-half-2
-    slice-write-half
-    add-x
-    loop-less
+    (λ c. search needs)
+    (λ c. search needs)
+    (λ c. search needs)
+    (λ c. search needs)
+    (λ c. search needs)
+    (λ c. search needs)
+    (λ c. search needs)
     loop-again
     same-length
     returns)

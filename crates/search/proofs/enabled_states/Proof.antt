@@ -1,3 +1,5 @@
+-- `search::enabled_states` meets its contract. The loop's invariant: the mask has just the states below i that are not bad and in which the action is enabled.
+-- Assumes nothing.
 use borrow.Author.Needs.{needs}
 use mathlib.Core.Logic.{⊎-elim}
 use mathlib.Core.Path.{_≡_, sym, subst}
@@ -30,15 +32,6 @@ loop-holds c =
 safely-enabled-requires : tie.Need-safely-enabled-requires Inv-loop μ-loop
 safely-enabled-requires c κs = let start = c .before .before .before .before in (start .pre .0, start .pre .1, omega arith)
 
-single-requires : tie.Need-single-requires Inv-loop μ-loop
-single-requires c κs = search needs
-
-add-i : tie.Need-add-i Inv-loop μ-loop
-add-i c = search needs
-
-loop-less : tie.Need-loop-less Inv-loop μ-loop
-loop-less c = search needs
-
 loop-again : tie.Need-loop-again Inv-loop μ-loop
 loop-again c =
     let at = c .before .before .before in
@@ -70,8 +63,8 @@ enabled-states-spec =
     states-requires
     loop-holds
     safely-enabled-requires
-    single-requires
-    add-i
-    loop-less
+    (λ c κs. search needs)
+    (λ c. search needs)
+    (λ c. search needs)
     loop-again
     returns)

@@ -1,3 +1,5 @@
+-- `search::meets_step` meets its contract. The loop's invariant: no action below a meets the step.
+-- Assumes nothing.
 use borrow.Author.Needs.{needs}
 use mathlib.Core.Bool.{false}
 use mathlib.Core.Path.{_≡_, _∙_}
@@ -21,7 +23,7 @@ abbrev μ-loop : tie.MeasureT-loop
 μ-loop table low high family s actions a₀ a = actions - a
 
 bad-requires : tie.Need-bad-requires Inv-loop μ-loop
-bad-requires c κs = sized (c .before .before .before .before .args .table .now) (c .before .before .before .before .pre .0)
+bad-requires c κs = let start = c .before .before .before .before in sized (start .args .table .now) (start .pre .0 .fine)
 
 returns : tie.Need-returns Inv-loop μ-loop
 returns c =
@@ -30,13 +32,10 @@ returns c =
     step-bad g (has (start .args .family .now)) (start .args .s) (rw (c .before .bad .ensures) at (c .if1 .taken))
 
 actions-requires : tie.Need-actions-requires Inv-loop μ-loop
-actions-requires c κs = let start = c .before .before .before .before .before .before in sized (start .args .table .now) (start .pre .0)
+actions-requires c κs = let start = c .before .before .before .before .before .before in sized (start .args .table .now) (start .pre .0 .fine)
 
 loop-holds : tie.Need-loop-holds Inv-loop μ-loop
 loop-holds c = (search needs, any-zero _)
-
-action-meets-requires : tie.Need-action-meets-requires Inv-loop μ-loop
-action-meets-requires c κs = search needs
 
 returns-2 : tie.Need-returns-2 Inv-loop μ-loop
 returns-2 c =
@@ -44,12 +43,6 @@ returns-2 c =
     let start = at .before .before .before .before .before .before .before .before in
     let g = game (start .args .table .now) in
     step-hit g (has (start .args .family .now)) (start .args .s) (rw (at .before .before .before .bad .ensures) at (at .before .before .if1 .left)) (at .loop .a) (omega arith) (cc)
-
-add-a : tie.Need-add-a Inv-loop μ-loop
-add-a c = search needs
-
-loop-less : tie.Need-loop-less Inv-loop μ-loop
-loop-less c = search needs
 
 loop-again : tie.Need-loop-again Inv-loop μ-loop
 loop-again c =
@@ -76,9 +69,9 @@ meets-step-spec =
     returns
     actions-requires
     loop-holds
-    action-meets-requires
+    (λ c κs. search needs)
     returns-2
-    add-a
-    loop-less
+    (λ c. search needs)
+    (λ c. search needs)
     loop-again
     returns-3)

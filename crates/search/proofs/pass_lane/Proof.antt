@@ -1,3 +1,5 @@
+-- `search::pass_lane` meets its contract. The loop's invariant: what is found meets the step, and what is neither found nor left does not.
+-- Assumes nothing.
 use borrow.Author.Needs.{needs}
 use Prim.Native.Nat.{_-_, _<_}
 use native.Mathlib.Omega.{arith}
@@ -23,7 +25,7 @@ abbrev μ-loop : tie.MeasureT-loop
 
 -- the lane is one of at most 64
 small : (c : lts.Start (meets-step-reads.Asked, meets-step-reads.Learnt, subsets-reads.Asked, subsets-reads.Learnt) reads.Pre reads.Post Inv-loop μ-loop) → c .args .lane < 64
-small c = omega (arith, c .pre .3, c .pre .1 .size, table-lanes (c .args .table .now) (sized (c .args .table .now) (c .pre .0)))
+small c = let w = c .args .table .now in omega (arith, c .pre .2, c .pre .1 .size, table-lanes w (sized w (c .pre .0 .fine)))
 
 -- the set that is tried
 top : (c : tie.In-loop Inv-loop μ-loop) → Highest (c .before .loop .left) (63 - leadingZeros 64 (c .before .loop .left))
@@ -32,13 +34,10 @@ top c = highest (c .before .loop .left) (c .before .loop .inv .narrow) (c .loop-
 mul-left : tie.Need-mul-left Inv-loop μ-loop
 mul-left c = omega (arith, small (c .before .before .before .before))
 
-shared-slice-read-left : tie.Need-shared-slice-read-left Inv-loop μ-loop
-shared-slice-read-left c = search needs
-
 loop-holds : tie.Need-loop-holds Inv-loop μ-loop
 loop-holds c =
     let start = c .before .before .before .before .before in
-    trying-none (game (start .args .table .now)) (start .args .family .now) (start .pre .1) (start .args .lane) (start .args .covered) (omega arith) (start .pre .4)
+    trying-none (game (start .args .table .now)) (start .args .family .now) (start .pre .1) (start .args .lane) (start .args .covered) (omega arith) (start .pre .3)
 
 sub-h : tie.Need-sub-h Inv-loop μ-loop
 sub-h c = few-zeros (c .before .loop .left) (c .before .loop .inv .narrow) (c .loop-test .taken)
@@ -51,8 +50,9 @@ add-meets-step c = omega (arith, small (c .before .before .before .before .befor
 
 meets-step-requires : tie.Need-meets-step-requires Inv-loop μ-loop
 meets-step-requires c κs =
-    let start = c .before .before .before .before .before .before .before in
-    (start .pre .0, start .pre .1 .size, start .pre .2, top-below (game (start .args .table .now)) (start .args .family .now) (start .pre .1) (start .args .lane) (c .before .loop .found) (c .before .loop .left) (c .before .loop .inv) _ (top c), start .pre .1 .down)
+    let at = c .before in
+    let start = at .before .before .before .before .before .before in
+    (start .pre .0, start .pre .1, top-below (game (start .args .table .now)) (start .args .family .now) (start .pre .1) (start .args .lane) (at .loop .found) (at .loop .left) (at .loop .inv) _ (top c))
 
 subsets-requires : tie.Need-subsets-requires Inv-loop μ-loop
 subsets-requires c κs = top (c .before .before) .small
@@ -70,12 +70,6 @@ loop-again c =
     let at = inl .before in
     let start = at .before .before .before .before .before .before in
     trying-hit (game (start .args .table .now)) (start .args .family .now) (start .pre .1) (start .args .lane) (at .loop .found) (at .loop .left) (at .loop .inv) _ (top inl) (c .subsets .result) (omega arith) (c .subsets .ensures) (cc)
-
-cast-left : tie.Need-cast-left Inv-loop μ-loop
-cast-left c = search needs
-
-shl-left : tie.Need-shl-left Inv-loop μ-loop
-shl-left c = search needs
 
 sub-left : tie.Need-sub-left Inv-loop μ-loop
 sub-left c =
@@ -114,7 +108,7 @@ pass-lane-spec =
     Inv-loop
     μ-loop
     mul-left
-    shared-slice-read-left
+    (λ c. search needs)
     loop-holds
     sub-h
     mul-meets-step
@@ -123,8 +117,8 @@ pass-lane-spec =
     subsets-requires
     loop-less
     loop-again
-    cast-left
-    shl-left
+    (λ c. search needs)
+    (λ c. search needs)
     sub-left
     loop-less-2
     loop-again-2

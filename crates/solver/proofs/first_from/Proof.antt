@@ -2,13 +2,13 @@ use borrow.Author.Needs.{needs}
 use Prim.Native.Nat.{_-_}
 use native.Mathlib.Omega.{arith}
 use lib.ListN.{length}
-use Rattle.solver.specs.Writing.{Passed}
-use Rattle.solver.proofs.Words.{passed-more}
+use Rattle.solver.specs.Writing.{AllBelow}
+use Rattle.solver.proofs.Index.{passed-more}
 use Rattle.solver.proofs.first_from.Statement.{statement}
 use Rattle.solver.proofs.first_from.Tie as tie
 
 abbrev Inv-loop : tie.InvT-loop
-Inv-loop cells from bound i₀ i = Passed cells bound i
+Inv-loop cells from bound i₀ i = AllBelow cells bound i
 
 abbrev μ-loop : tie.MeasureT-loop
 μ-loop cells from bound i₀ i = length cells - i

@@ -3,7 +3,7 @@ use mathlib.Core.Path.{sym, _∙_}
 use Prim.Native.Nat.{_-_, _≤_}
 use native.Mathlib.Omega.{arith}
 use Rattle.families.specs.Bits.{maxLanes}
-use Rattle.solver.proofs.Words.{Marking, marking-none, marking-more, marking-end}
+use Rattle.solver.proofs.Index.{Marking, marking-none, marking-more, marking-end}
 use Rattle.solver.proofs.mark_starts.Statement.{statement}
 use Rattle.solver.proofs.mark_starts.Tie as tie
 

@@ -4,7 +4,8 @@ use mathlib.Core.List.{_++_}
 use Prim.Native.Nat.{ℕ, _+_, _≤_, _-_}
 use lib.Seq.{length-take-le}
 use Rattle.games.specs.Format.{maxCells}
-use Rattle.solver.proofs.Carding.{Carded, carded-none, carded-room, carded-part, carded-more, carded-end, front-room, fronted-same, carded-whole, prefix-room, parts-few, observations-at-most, cells-at-most, cell-of}
+use Rattle.solver.proofs.Carding.{Carded, carded-none, carded-room, carded-part, carded-more, carded-end, front-room, fronted-same, carded-whole, prefix-room, parts-few, cell-of}
+use Rattle.solver.proofs.Words.{observations-few}
 use native.Mathlib.Omega.{arith}
 use lib.ListN.{length, drop}
 use Rattle.games.specs.Words.{game}
@@ -19,13 +20,13 @@ abbrev μ-loop : tie.MeasureT-loop
 μ-loop table low high family starts cells card₀ part c₀ card c = length cells - c
 
 observations-requires : tie.Need-observations-requires Inv-loop μ-loop
-observations-requires c κs = sized (c .before .before .before .before .before .before .before .args .table .now) (c .before .before .before .before .before .before .before .pre .0)
+observations-requires c κs = sized (c .before .before .before .before .before .before .before .args .table .now) (c .before .before .before .before .before .before .before .pre .0 .fine)
 
 cast-part : tie.Need-cast-part Inv-loop μ-loop
-cast-part c = omega (arith, c .observations .ensures, observations-at-most (c .before .before .before .before .before .before .before .before .args .table .now) (c .before .before .before .before .before .before .before .before .pre .0))
+cast-part c = omega (arith, c .observations .ensures, observations-few (c .before .before .before .before .before .before .before .before .args .table .now) (c .before .before .before .before .before .before .before .before .pre .0 .fine))
 
 add-part : tie.Need-add-part Inv-loop μ-loop
-add-part c = omega (arith, c .observations .ensures, observations-at-most (c .before .before .before .before .before .before .before .before .args .table .now) (c .before .before .before .before .before .before .before .before .pre .0))
+add-part c = omega (arith, c .observations .ensures, observations-few (c .before .before .before .before .before .before .before .before .args .table .now) (c .before .before .before .before .before .before .before .before .pre .0 .fine))
 
 slice-relend-prefix-write-front : tie.Need-slice-relend-prefix-write-front Inv-loop μ-loop
 slice-relend-prefix-write-front c = prefix-room (game (c .before .before .before .before .before .before .before .before .args .table .now)) (c .before .before .before .before .before .before .before .before .args .cells .now) (c .before .before .before .before .before .before .before .before .args .card .now) (c .observations .result) (c .observations .ensures) (c .before .before .before .before .before .before .before .before .pre .2)
@@ -36,21 +37,17 @@ slice-aggregate-write-front c = sym (length-take-le _ _ (prefix-room (game (c .b
 write-front-requires : tie.Need-write-front-requires Inv-loop μ-loop
 write-front-requires c κs =
     let start = c .before .before .before .before .before .before .before .before .before in
-    record {
-      fine = start .pre .0;
-      listed = start .pre .1;
-      room = length-take-le _ _ (prefix-room (game (start .args .table .now)) (start .args .cells .now) (start .args .card .now) (c .before .observations .result) (c .before .observations .ensures) (start .pre .2)) ∙ ap (λ (n : ℕ). 1 + n) (c .before .observations .ensures);
-    }
+    (start .pre .0, length-take-le _ _ (prefix-room (game (start .args .table .now)) (start .args .cells .now) (start .args .card .now) (c .before .observations .result) (c .before .observations .ensures) (start .pre .2)) ∙ ap (λ (n : ℕ). 1 + n) (c .before .observations .ensures))
 
 loop-holds : tie.Need-loop-holds Inv-loop μ-loop
 loop-holds c =
     let start = c .before .before .before .before .before .before .before .before .before .before .before .before in
     let obs = c .before .before .before .before in
     let wf = c .before .before in (
-      omega (arith, obs .observations .ensures, observations-at-most (start .args .table .now) (start .pre .0)),
-      cells-at-most (start .args .table .now) (start .pre .0) (start .args .cells .now) (start .pre .1),
-      carded-none (game (start .args .table .now)) (start .args .cells .now) (1 + obs .observations .result) (wf .write-front .last .1 .1 .0 ++ drop (1 + obs .observations .result) (start .args .card .now)) (ap (λ (n : ℕ). 1 + n) (obs .observations .ensures))
-          (front-room (game (start .args .table .now)) (start .args .cells .now) (start .pre .1) (1 + obs .observations .result) (ap (λ (n : ℕ). 1 + n) (obs .observations .ensures)) (start .args .card .now) (wf .write-front .last .1 .1 .0) (wf .write-front .ensures) (start .pre .2)),
+      omega (arith, obs .observations .ensures, observations-few (start .args .table .now) (start .pre .0 .fine)),
+      start .pre .0 .index .few,
+      carded-none (game (start .args .table .now)) (start .args .cells .now) (1 + obs .observations .result) (wf .write-front .last .1 .1 .1 .1 .0 ++ drop (1 + obs .observations .result) (start .args .card .now)) (ap (λ (n : ℕ). 1 + n) (obs .observations .ensures))
+          (front-room (game (start .args .table .now)) (start .args .cells .now) (start .pre .0 .are) (1 + obs .observations .result) (ap (λ (n : ℕ). 1 + n) (obs .observations .ensures)) (start .args .card .now) (wf .write-front .last .1 .1 .1 .1 .0) (wf .write-front .ensures) (start .pre .2)),
     )
 
 mul-at : tie.Need-mul-at Inv-loop μ-loop
@@ -85,10 +82,10 @@ write-cell-requires c κs =
     let lp = c .before .before .before in
     let start = lp .before .before .before .before .before .before .before .before .before .before .before .before .before in
     let w = start .args .table .now in (
-      record { fine = start .pre .0; listed = start .pre .1; room = carded-part (game (lp .before .before .before .before .before .before .before .before .before .before .before .before .before .args .table .now)) (lp .before .before .before .before .before .before .before .before .before .before .before .before .before .args .cells .now) (1 + lp .before .before .before .before .before .observations .result) _ (lp .loop .c) (lp .loop .card) (lp .loop .inv .2) (c .before .before .loop-test .taken) },
-      cell-of (game w) (accepted w (start .pre .0)) (start .args .cells .now) (start .pre .1) (lp .loop .c) (c .before .before .loop-test .taken),
-      start .pre .3,
-      start .pre .4,
+      start .pre .0,
+      start .pre .1,
+      cell-of (game w) (accepted w (start .pre .0 .fine)) (start .args .cells .now) (start .pre .0 .are) (lp .loop .c) (c .before .before .loop-test .taken),
+      carded-part (game (lp .before .before .before .before .before .before .before .before .before .before .before .before .before .args .table .now)) (lp .before .before .before .before .before .before .before .before .before .before .before .before .before .args .cells .now) (1 + lp .before .before .before .before .before .observations .result) _ (lp .loop .c) (lp .loop .card) (lp .loop .inv .2) (c .before .before .loop-test .taken),
     )
 
 add-c : tie.Need-add-c Inv-loop μ-loop
@@ -109,7 +106,7 @@ same-length c =
     let obs = lp .before .before .before .before .before in
     let wf = lp .before .before .before in
     lp .loop .inv .2 .same
-    ∙ fronted-same (game (start .args .table .now)) (start .args .cells .now) (start .pre .1) (1 + obs .observations .result) (ap (λ (n : ℕ). 1 + n) (obs .observations .ensures)) (start .args .card .now) (wf .write-front .last .1 .1 .0) (wf .write-front .ensures) (prefix-room (game (start .args .table .now)) (start .args .cells .now) (start .args .card .now) (obs .observations .result) (obs .observations .ensures) (start .pre .2))
+    ∙ fronted-same (game (start .args .table .now)) (start .args .cells .now) (start .pre .0 .are) (1 + obs .observations .result) (ap (λ (n : ℕ). 1 + n) (obs .observations .ensures)) (start .args .card .now) (wf .write-front .last .1 .1 .1 .1 .0) (wf .write-front .ensures) (prefix-room (game (start .args .table .now)) (start .args .cells .now) (start .args .card .now) (obs .observations .result) (obs .observations .ensures) (start .pre .2))
 
 returns : tie.Need-returns Inv-loop μ-loop
 returns c =
@@ -117,7 +114,7 @@ returns c =
     let start = lp .before .before .before .before .before .before .before .before .before .before .before .before .before in
     let obs = lp .before .before .before .before .before in
     let wf = lp .before .before .before in
-    carded-whole (game (start .args .table .now)) (start .args .cells .now) (start .pre .1) (1 + obs .observations .result) (ap (λ (n : ℕ). 1 + n) (obs .observations .ensures)) (start .args .card .now) (wf .write-front .last .1 .1 .0) (wf .write-front .ensures) (lp .loop .card) (carded-end (game (lp .before .before .before .before .before .before .before .before .before .before .before .before .before .args .table .now)) (lp .before .before .before .before .before .before .before .before .before .before .before .before .before .args .cells .now) (1 + lp .before .before .before .before .before .observations .result) _ (lp .loop .c) (lp .loop .card) (lp .loop .inv .2) (c .loop-test .left))
+    carded-whole (game (start .args .table .now)) (start .args .cells .now) (start .pre .0 .are) (1 + obs .observations .result) (ap (λ (n : ℕ). 1 + n) (obs .observations .ensures)) (start .args .card .now) (wf .write-front .last .1 .1 .1 .1 .0) (wf .write-front .ensures) (lp .loop .card) (carded-end (game (lp .before .before .before .before .before .before .before .before .before .before .before .before .before .args .table .now)) (lp .before .before .before .before .before .before .before .before .before .before .before .before .before .args .cells .now) (1 + lp .before .before .before .before .before .observations .result) _ (lp .loop .c) (lp .loop .card) (lp .loop .inv .2) (c .loop-test .left))
 
 pub write-card-spec : {M : Type 1} → statement M
 write-card-spec =
