@@ -1,7 +1,7 @@
 -- Laws of the run: each move by its case, and what a card's automaton is.
 -- Assumes nothing.
 use mathlib.Core.Path.{_≡_, refl, sym, ap, subst, _∙_}
-use mathlib.Core.Logic.{_⊎_, ⊎-elim}
+use mathlib.Core.Logic.{⊎-elim}
 use mathlib.Core.List.{List}
 use Prim.Native.Nat.{ℕ, _+_, _≤_, _<_}
 use native.Mathlib.Omega.{arith}
@@ -9,8 +9,8 @@ use lib.ListN.{length, getD}
 use borrow.Author.Tests.{eq-eqb, ne-eqb, le-leb, lt-leb}
 use Rattle.games.specs.Format.{lowValues}
 use Rattle.games.specs.Automaton.{Automaton, noCell}
-use Rattle.games.specs.Words.{lowField, actionField}
-use Rattle.cards.specs.declared.CardCheck.the-variants.{Fine, Refused as Wrong}
+use Rattle.games.specs.Fields.{lowField, actionField}
+use Rattle.games.specs.declared.Checked.the-variants.{Fine, Refused as Wrong}
 use Rattle.cards.specs.declared.Move.the-variants.{Refused}
 use Rattle.cards.specs.Card.{firstPlace, cellPlace, nextPlace, cardCells, cardObservations, automaton, checked, Named}
 use Rattle.cards.specs.Run.{entered, enters, begun, followed, opened, stepped}

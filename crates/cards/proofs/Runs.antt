@@ -10,11 +10,12 @@ use native.Mathlib.Omega.{arith}
 use lib.ListN.{length, getD, take, length-append}
 use lib.Seq.{take-suc, length-take-le}
 use Rattle.games.specs.Game.{Game}
-use Rattle.games.specs.Play.{Strategy, Play, begin, more as longer, PlayOf, Under, seen}
-use Rattle.games.specs.Automaton.{Automaton, noCell, cellFrom, cellAfter, actionAfter}
+use Rattle.games.specs.Play.{Play, begin, more as longer, PlayOf, seen}
+use Rattle.games.specs.Automaton.{Automaton, noCell, nextCell, cellFrom, cellAfter, actionAfter}
 use Rattle.games.specs.Words.{cardWords}
-use Rattle.games.specs.Demands.{Follows, Second}
-use Rattle.cards.specs.declared.CardCheck.the-variants.{Fine}
+use Rattle.games.specs.Demands.{UnderCard, Second}
+use Rattle.games.proofs.Winning.{next-cell}
+use Rattle.games.specs.declared.Checked.the-variants.{Fine}
 use Rattle.cards.specs.declared.Move.{Move}
 use Rattle.cards.specs.declared.Move.the-variants.{Refused}
 use Rattle.cards.specs.Card.{cardObservations, automaton, checked, Fitting, Named}
@@ -60,19 +61,23 @@ ran-take-more w h i p l =
 
 -- ---- the automaton's cell
 
-cell-from-more : (A : Automaton) (c : ℕ) (h : List ℕ) (j : ℕ) → cellFrom A c (h ++ (j ∷ [])) ≡ A .next (cellFrom A c h) j
+cell-from-more : (A : Automaton) (c : ℕ) (h : List ℕ) (j : ℕ) → cellFrom A c (h ++ (j ∷ [])) ≡ nextCell A (cellFrom A c h) j
 unfolding cellFrom
 cell-from-more A c [] j = refl
-cell-from-more A c (i ∷ h) j = cell-from-more A (A .next c i) h j
+cell-from-more A c (i ∷ h) j = cell-from-more A (nextCell A c i) h j
 
 pub cell-after-one : (A : Automaton) (j : ℕ) → cellAfter A (j ∷ []) ≡ A .begins j
 unfolding cellAfter cellFrom
 cell-after-one A j = refl
 
-pub cell-after-more : (A : Automaton) (h : List ℕ) (j : ℕ) → 0 < length h → cellAfter A (h ++ (j ∷ [])) ≡ A .next (cellAfter A h) j
+cell-after-more : (A : Automaton) (h : List ℕ) (j : ℕ) → 0 < length h → cellAfter A (h ++ (j ∷ [])) ≡ nextCell A (cellAfter A h) j
 unfolding cellAfter
 cell-after-more A [] j l = absurd (not-suc-le-zero l)
 cell-after-more A (i ∷ h) j l = cell-from-more A (A .begins i) h j
+
+-- from a cell it goes where the cell's next word says
+pub cell-after-cell : (A : Automaton) (h : List ℕ) (j : ℕ) → 0 < length h → cellAfter A h < A .size → cellAfter A (h ++ (j ∷ [])) ≡ A .next (cellAfter A h) j
+cell-after-cell A h j l c = cell-after-more A h j l ∙ next-cell A (cellAfter A h) j c
 
 pub action-after : (A : Automaton) (h : List ℕ) → actionAfter A h ≡ A .action (cellAfter A h)
 unfolding actionAfter
@@ -91,11 +96,13 @@ way-some (more {h} {j} v l n) = omega (arith, length-append h (j ∷ []))
 pub way-cell : {A : Automaton} {a o : ℕ} {h : List ℕ} → Fitting A a o → Way A o h → cellAfter A h < A .size
 way-cell {A} F (one {j} l n) = named-cell A (cellAfter A (j ∷ [])) (subst (Named A) (sym (cell-after-one A j)) (F .begins-named j l)) n
 way-cell {A} F (more {h} {j} v l n) =
-    named-cell A (cellAfter A (h ++ (j ∷ []))) (subst (Named A) (sym (cell-after-more A h j (way-some v))) (F .next-named (cellAfter A h) j (way-cell F v) l)) n
+    let c = way-cell F v in
+    named-cell A (cellAfter A (h ++ (j ∷ []))) (subst (Named A) (sym (cell-after-cell A h j (way-some v) c)) (F .next-named (cellAfter A h) j c l)) n
 
 -- ---- a checked card does what its automaton does
 
-pub ran-way : (w : List ℕ) {h : List ℕ} → checked w ≡ Fine → Way (automaton w) (cardObservations w) h → ran w h ≡ entered (cellAfter (automaton w) h) (actionAfter (automaton w) h)
+pub ran-way : (w : List ℕ) {h : List ℕ} → checked w ≡ Fine → Way (automaton w) (cardObservations w) h
+    → ran w h ≡ entered (cellAfter (automaton w) h) (actionAfter (automaton w) h)
 ran-way w e (one {j} l n) =
     let A = automaton w in
     let o = cardObservations w in
@@ -105,12 +112,13 @@ ran-way w e (one {j} l n) =
 ran-way w e (more {h} {j} v l n) =
     let A = automaton w in
     let o = cardObservations w in
+    let here = way-cell (fitting w e) v in
     ran-more w h j (way-some v)
     ∙ ap (λ (r : Move). moved w r j) (ran-way w e v)
     ∙ moved-entered w (cellAfter A h) (actionAfter A h) j
     ∙ stepped-fine w (cellAfter A h) j e
-    ∙ followed-enters A o (cellAfter A h) j (way-cell (fitting w e) v) l
-    ∙ ap (λ (c : ℕ). enters A c j) (sym (cell-after-more A h j (way-some v)))
+    ∙ followed-enters A o (cellAfter A h) j here l
+    ∙ ap (λ (c : ℕ). enters A c j) (sym (cell-after-cell A h j (way-some v) here))
     ∙ enters-cell A o (cellAfter A (h ++ (j ∷ []))) j n
     ∙ ap (entered (cellAfter A (h ++ (j ∷ [])))) (sym (action-after A (h ++ (j ∷ []))))
 
@@ -122,10 +130,12 @@ module _ (A B : Automaton) (a o : ℕ) (G : Agree B A o) (F : Fitting A a o) whe
   same-cell : {h : List ℕ} → Way A o h → cellAfter B h ≡ cellAfter A h
   same-cell (one {j} l n) = cell-after-one B j ∙ G .begins-same j l ∙ sym (cell-after-one A j)
   same-cell (more {h} {j} v l n) =
-      cell-after-more B h j (way-some v)
+      let here = way-cell F v in
+      let there = below (cellAfter A h) here in
+      cell-after-cell B h j (way-some v) (subst (λ (c : ℕ). c < B .size) (sym (same-cell v)) there)
       ∙ ap (λ (c : ℕ). B .next c j) (same-cell v)
-      ∙ G .next-same (cellAfter A h) j (below (cellAfter A h) (way-cell F v)) l
-      ∙ sym (cell-after-more A h j (way-some v))
+      ∙ G .next-same (cellAfter A h) j there l
+      ∙ sym (cell-after-cell A h j (way-some v) here)
 
   same-way : {h : List ℕ} → Way A o h → Way B o h
   same-way (one {j} l n) = one l (λ e. n (sym (same-cell (one {j = j} l n)) ∙ e))
@@ -148,17 +158,18 @@ written-runs A a o {h} F v =
 
 -- ---- on a play
 
-module _ (g : Game) (A : Automaton) (S : Second g A) (F : Fitting A (g .actions) (g .observations)) (ρ : Strategy g) (f : Follows ρ A) where
-  here : (p : Play) → PlayOf g p → Under ρ p → cellAfter A (seen p) ≡ noCell → ⊥
-  here p m u e = omega (arith, S .keeps ρ f p m u .cell-below, F .cells)
+module _ (g : Game) (A : Automaton) (S : Second g A) (F : Fitting A (g .actions) (g .observations)) where
+  here : (p : Play) → PlayOf g p → UnderCard A p → cellAfter A (seen p) ≡ noCell → ⊥
+  here p m u e = omega (arith, S .keeps p m u .cell-below, F .cells)
 
-  pub play-way : (p : Play) → PlayOf g p → Under ρ p → Way A (g .observations) (seen p)
-  unfolding PlayOf Under seen
+  pub play-way : (p : Play) → PlayOf g p → UnderCard A p → Way A (g .observations) (seen p)
+  unfolding PlayOf UnderCard seen
   play-way (begin i o) m u = one (m .1 .0) (here (begin i o) m u)
   play-way (longer p b i o) m u = more (play-way p (m .0) (u .0)) (m .3 .0) (here (longer p b i o) m u)
 
   -- document 01: played on any play of its table under the actions it gives, the card never meets 12, 13 or 14
-  pub never-refused : (p : Play) → PlayOf g p → Under ρ p → ran (cardWords A (g .actions) (g .observations)) (seen p) ≡ entered (cellAfter A (seen p)) (actionAfter A (seen p))
+  pub never-refused : (p : Play) → PlayOf g p → UnderCard A p
+      → ran (cardWords A (g .actions) (g .observations)) (seen p) ≡ entered (cellAfter A (seen p)) (actionAfter A (seen p))
   never-refused p m u = written-runs A (g .actions) (g .observations) F (play-way p m u)
 
 -- ---- before the opening: from cell 65,535 every step is refused, by 13, else by 12

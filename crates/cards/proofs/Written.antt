@@ -15,9 +15,10 @@ use Rattle.sets.specs.Bounded.{gather}
 use Rattle.sets.proofs.Logic.{decided, and-intro, or-left, or-right, true-not}
 use Rattle.games.specs.Format.{within, maxActions, maxObservations, maxSets, maxCells, lowValues, numberValues, actionValues, kindCard, kindFirst, kindCell, kindNext}
 use Rattle.games.specs.Automaton.{Automaton, noCell}
-use Rattle.games.specs.Words.{lowField, numberField, actionField, word, cardLength, cellWords, cardWords}
+use Rattle.games.specs.Fields.{lowField, numberField, actionField, word}
+use Rattle.games.specs.Words.{frontLength, partLength, cardLength, cellWords, cardWords}
 use Rattle.games.proofs.Limits.{within-limit}
-use Rattle.cards.specs.declared.CardCheck.the-variants.{Fine}
+use Rattle.games.specs.declared.Checked.the-variants.{Fine}
 use Rattle.cards.specs.Card.{headPlace, firstPlace, cellPlace, nextPlace, cardCells, cardObservations, cardActions, automaton, headFits, cellNamed, cellFits, wordFits, checked, Named, Fitting}
 use Rattle.sets.proofs.Bounded.{first-none}
 use Rattle.cards.proofs.Extra.{gather-length, gather-at}
@@ -83,12 +84,12 @@ module _ (A : Automaton) (a o : ℕ) where
   firsts-length : length firsts ≡ o
   firsts-length = let l : length firsts ≡ o * 1 = gather-length o 1 (λ j. word kindFirst (A .begins j) j 0 ∷ []) (λ i b. refl) in omega arith
 
-  cell-length : (c : ℕ) → length (cellWords A o c) ≡ 1 + o
+  cell-length : (c : ℕ) → length (cellWords A o c) ≡ partLength o
   unfolding cellWords
   cell-length c = omega (arith, nexts-length c)
 
-  cells-length : length cellsOf ≡ A .size * (1 + o)
-  cells-length = gather-length (A .size) (1 + o) (cellWords A o) (λ c l. cell-length c)
+  cells-length : length cellsOf ≡ A .size * partLength o
+  cells-length = gather-length (A .size) (partLength o) (cellWords A o) (λ c l. cell-length c)
 
   pub card-long : length (cardWords A a o) ≡ cardLength (A .size) o
   unfolding cardWords
@@ -109,26 +110,27 @@ module _ (A : Automaton) (a o : ℕ) where
   pub first-at : (j : ℕ) → j < o → getD (cardWords A a o) (firstPlace j) 0 ≡ word kindFirst (A .begins j) j 0
   first-at j l = tail-at j ∙ List·getD-append firsts cellsOf 0 j (omega (arith, firsts-length)) ∙ single (λ i. word kindFirst (A .begins i) i 0) j l
 
-  -- behind the first words
-  cells-at : (q : ℕ) → getD (cardWords A a o) (1 + o + q) 0 ≡ getD cellsOf q 0
+  -- behind the front
+  cells-at : (q : ℕ) → getD (cardWords A a o) (frontLength o + q) 0 ≡ getD cellsOf q 0
   cells-at q =
-      ap (λ (p : ℕ). getD (cardWords A a o) p 0) (let e : 1 + o + q ≡ 1 + (length firsts + q) = omega (arith, firsts-length) in e)
+      ap (λ (p : ℕ). getD (cardWords A a o) p 0) (let e : frontLength o + q ≡ 1 + (length firsts + q) = omega (arith, firsts-length) in e)
       ∙ tail-at (length firsts + q)
       ∙ getD-append-add firsts cellsOf q 0
 
-  part-at : (c r : ℕ) → c < A .size → r < 1 + o → getD (cardWords A a o) (1 + o + (c * (1 + o) + r)) 0 ≡ getD (cellWords A o c) r 0
-  part-at c r l k = cells-at (c * (1 + o) + r) ∙ gather-at (A .size) (1 + o) (cellWords A o) (λ i b. cell-length i) c r l k
+  -- word r of a cell's part
+  part-at : (c r p : ℕ) → c < A .size → r < partLength o → p ≡ cellPlace o c + r → getD (cardWords A a o) p 0 ≡ getD (cellWords A o c) r 0
+  part-at c r p l k f =
+      ap (λ (q : ℕ). getD (cardWords A a o) q 0) (let e : p ≡ frontLength o + (c * partLength o + r) = omega arith in e)
+      ∙ cells-at (c * partLength o + r)
+      ∙ gather-at (A .size) (partLength o) (cellWords A o) (λ i b. cell-length i) c r l k
 
   pub cell-at : (c : ℕ) → c < A .size → getD (cardWords A a o) (cellPlace o c) 0 ≡ word kindCell (A .set c) 0 (A .action c)
   unfolding cellWords
-  cell-at c l = ap (λ (p : ℕ). getD (cardWords A a o) p 0) (let e : cellPlace o c ≡ 1 + o + (c * (1 + o) + 0) = omega arith in e) ∙ part-at c 0 l (omega arith)
+  cell-at c l = part-at c 0 (cellPlace o c) l (omega arith) (omega arith)
 
   pub next-at : (c j : ℕ) → c < A .size → j < o → getD (cardWords A a o) (nextPlace o c j) 0 ≡ word kindNext (A .next c j) j 0
   unfolding cellWords
-  next-at c j l k =
-      ap (λ (p : ℕ). getD (cardWords A a o) p 0) (let e : nextPlace o c j ≡ 1 + o + (c * (1 + o) + suc j) = omega arith in e)
-      ∙ part-at c (suc j) l (omega arith)
-      ∙ single (λ i. word kindNext (A .next c i) i 0) j k
+  next-at c j l k = part-at c (suc j) (nextPlace o c j) l (omega arith) (omega arith) ∙ single (λ i. word kindNext (A .next c i) i 0) j k
 
 -- two automata with the same cells, sets and actions, and the same first and next cells for o observations
 pub record Agree (A B : Automaton) (o : ℕ) : Type 0 where
@@ -163,7 +165,7 @@ module _ (A : Automaton) (a o : ℕ) (F : Fitting A a o) where
       word-begins (cardWords A a o) j (omega (arith, written-observations))
       ∙ ap (cellNamed kindFirst (cardCells (cardWords A a o)) j) (first-at A a o j l)
       ∙ ap (λ (m : ℕ). cellNamed kindFirst m j (word kindFirst (A .begins j) j 0)) written-cells
-      ∙ named-right 9 (A .size) j (A .begins j) (cell-small (A .begins j) (F .begins-named j l)) (omega (arith, F .observations)) (F .begins-named j l)
+      ∙ named-right kindFirst (A .size) j (A .begins j) (cell-small (A .begins j) (F .begins-named j l)) (omega (arith, F .observations)) (F .begins-named j l)
 
   cell-word : (c : ℕ) → c < A .size → wordFits (cardWords A a o) (cellPlace o c) ≡ true
   cell-word c l =
@@ -181,31 +183,42 @@ module _ (A : Automaton) (a o : ℕ) (F : Fitting A a o) where
       ∙ ap (λ (p : ℕ). cellNamed kindNext (cardCells (cardWords A a o)) j (getD (cardWords A a o) (nextPlace p c j) 0)) written-observations
       ∙ ap (cellNamed kindNext (cardCells (cardWords A a o)) j) (next-at A a o c j l k)
       ∙ ap (λ (m : ℕ). cellNamed kindNext m j (word kindNext (A .next c j) j 0)) written-cells
-      ∙ named-right 11 (A .size) j (A .next c j) (cell-small (A .next c j) (F .next-named c j l k)) (omega (arith, F .observations)) (F .next-named c j l k)
+      ∙ named-right kindNext (A .size) j (A .next c j) (cell-small (A .next c j) (F .next-named c j l k)) (omega (arith, F .observations)) (F .next-named c j l k)
 
   -- every place is one of these
-  place-right : (p c r : ℕ) → p ≡ 1 + o + (c * (1 + o) + r) → c < A .size → r < 1 + o → wordFits (cardWords A a o) p ≡ true
+  place-right : (p c r : ℕ) → p ≡ cellPlace o c + r → c < A .size → r < partLength o → wordFits (cardWords A a o) p ≡ true
   place-right p c zero e l k = ap (wordFits (cardWords A a o)) (let f : p ≡ cellPlace o c = omega arith in f) ∙ cell-word c l
   place-right p c (suc j) e l k = ap (wordFits (cardWords A a o)) (let f : p ≡ nextPlace o c j = omega arith in f) ∙ next-word c j l (omega arith)
 
-  later-right : (i : ℕ) → i < A .size * (1 + o) → wordFits (cardWords A a o) (1 + o + i) ≡ true
+  later-right : (i : ℕ) → i < A .size * partLength o → wordFits (cardWords A a o) (frontLength o + i) ≡ true
   later-right i l =
-      place-right (1 + o + i) (i / (1 + o)) (i % (1 + o)) (ap (λ (k : ℕ). 1 + o + k) (sym (div-add-mod' i (1 + o)))) (div-lt-iff-lt-mul {k = 1 + o} {x = i} {y = A .size} (omega arith) .1 l) (mod-lt i {m = 1 + o} (omega arith))
+      let c = i / partLength o in
+      let r = i % partLength o in
+      place-right (frontLength o + i) c r
+      (let d : c * partLength o + r ≡ i = div-add-mod' i (partLength o) in omega arith)
+      (div-lt-iff-lt-mul {k = partLength o} {x = i} {y = A .size} (omega arith) .1 l)
+      (mod-lt i {m = partLength o} (omega arith))
 
-  early-right : (p : ℕ) → p < 1 + o → wordFits (cardWords A a o) p ≡ true
+  early-right : (p : ℕ) → p < frontLength o → wordFits (cardWords A a o) p ≡ true
   early-right zero l = word-head (cardWords A a o) 0 refl ∙ head-word
   early-right (suc j) l = ap (wordFits (cardWords A a o)) (let f : suc j ≡ firstPlace j = omega arith in f) ∙ first-word j (omega arith)
 
   pub every-word : (p : ℕ) → p < length (cardWords A a o) → wordFits (cardWords A a o) p ≡ true
   every-word p l =
-      ⊎-elim (λ e. early-right p (ltb-true p (1 + o) e))
-      (λ e. let k : 1 + o ≤ p = ltb-false p (1 + o) e in ap (wordFits (cardWords A a o)) (let f : p ≡ 1 + o + (p - (1 + o)) = omega arith in f) ∙ later-right (p - (1 + o)) (omega (arith, card-long A a o)))
-      (decided (ltb p (1 + o)))
+      ⊎-elim (λ e. early-right p (ltb-true p (frontLength o) e))
+      (λ e.
+      let k : frontLength o ≤ p = ltb-false p (frontLength o) e in
+      ap (wordFits (cardWords A a o)) (let f : p ≡ frontLength o + (p - frontLength o) = omega arith in f)
+      ∙ later-right (p - frontLength o) (omega (arith, card-long A a o)))
+      (decided (ltb p (frontLength o)))
 
   pub written-checked : checked (cardWords A a o) ≡ Fine
   written-checked =
-      only-words (cardWords A a o) (λ e. omega (arith, card-long A a o)) head-word written-long
-      ∙ passed-all (cardWords A a o) (length (cardWords A a o)) (record { within = omega arith; right = first-none (length (cardWords A a o)) (λ p. not (wordFits (cardWords A a o) p)) (λ p l. true-not (every-word p l)) }) (omega arith)
+      let w = cardWords A a o in
+      only-words w (λ e. omega (arith, card-long A a o)) head-word written-long
+      ∙ passed-all w (length w)
+      (record { within = omega arith; right = first-none (length w) (λ p. not (wordFits w p)) (λ p l. true-not (every-word p l)) })
+      (omega arith)
 
   -- the card means the automaton that it was written of
   pub written-agrees : Agree (automaton (cardWords A a o)) A o

@@ -2,19 +2,20 @@
 -- Assumes nothing.
 use mathlib.Core.Path.{_≡_}
 use mathlib.Core.Logic.{_⊎_}
-use mathlib.Core.Bool.{Bool, true, false, cond, not, _&&_, _||_}
+use mathlib.Core.Bool.{Bool, cond, not, _&&_, _||_}
 use mathlib.Core.List.{List}
-use Prim.Native.Nat.{ℕ, _+_, _*_, _-_, _/_, _%_, _≤_, _<_}
+use Prim.Native.Nat.{ℕ, _+_, _*_, _-_, _%_, _≤_, _<_}
 use lib.Dec.{eqb, ltb}
 use lib.ListN.{length, getD}
-use Rattle.sets.specs.Bounded.{Found, nothing, found, first}
+use Rattle.sets.specs.Bounded.{first, atFound}
 use Rattle.games.specs.Automaton.{Automaton, noCell}
 use Rattle.games.specs.Format.{within, maxActions, maxObservations, maxSets, maxCells, kindCard, kindFirst, kindCell, kindNext}
-use Rattle.games.specs.Words.{lowField, numberField, actionField, word, cardLength}
-use Rattle.cards.specs.declared.CardCheck.{CardCheck}
-use Rattle.cards.specs.declared.CardCheck.the-variants.{Fine, Refused}
+use Rattle.games.specs.Fields.{lowField, numberField, actionField, word}
+use Rattle.games.specs.Words.{frontLength, partLength, cardLength}
+use Rattle.games.specs.declared.Checked.{Checked}
+use Rattle.games.specs.declared.Checked.the-variants.{Fine, Refused}
 
--- the places of a card's words, for o observations: the head; the first cell by observation; a cell; its next cell by observation
+-- the places of a card's words, for o observations: the head; the first cell by observation; a cell's part; its next cell by observation
 abbrev pub headPlace : ℕ
 headPlace = 0
 
@@ -22,7 +23,7 @@ abbrev pub firstPlace : ℕ → ℕ
 firstPlace j = 1 + j
 
 abbrev pub cellPlace : (o c : ℕ) → ℕ
-cellPlace o c = 1 + o + c * (1 + o)
+cellPlace o c = frontLength o + c * partLength o
 
 abbrev pub nextPlace : (o c j : ℕ) → ℕ
 nextPlace o c j = cellPlace o c + 1 + j
@@ -65,9 +66,12 @@ cellNamed k m j x = eqb x (word k (lowField x) j 0) && (ltb (lowField x) m || eq
 unfoldable pub cellFits : (a : ℕ) → ℕ → Bool
 cellFits a x = eqb x (word kindCell (lowField x) 0 (actionField x)) && ltb (lowField x) maxSets && ltb (actionField x) a
 
--- the word number i behind the first words of a card for m cells, a actions and o observations: each cell has 1 + o of them
+-- the word number i behind the front of a card for m cells, a actions and o observations: each cell has a part, its own word and
+-- then its next words
 unfoldable pub partFits : (m a o i : ℕ) → ℕ → Bool
-partFits m a o i x = cond (eqb (i % (1 + o)) 0) (cellFits a x) (cellNamed kindNext m (i % (1 + o) - 1) x)
+partFits m a o i x =
+    let part = i % partLength o in
+    cond (eqb part 0) (cellFits a x) (cellNamed kindNext m (part - 1) x)
 
 -- the word at place p is right: the head, then a first word for each observation, then the words of the cells
 unfoldable pub wordFits : List ℕ → ℕ → Bool
@@ -75,19 +79,15 @@ wordFits w p =
     let o = cardObservations w in
     let x = getD w p 0 in
     cond (eqb p headPlace) (headFits x)
-    (cond (ltb p (firstPlace o)) (cellNamed kindFirst (cardCells w) (p - 1) x)
-    (partFits (cardCells w) (cardActions w) o (p - firstPlace o) x))
+    (cond (ltb p (frontLength o)) (cellNamed kindFirst (cardCells w) (p - 1) x)
+    (partFits (cardCells w) (cardActions w) o (p - frontLength o) x))
 
 -- the lowest wrong word stops the check
-abbrev pub wrongWord : Found → CardCheck
-wrongWord nothing = Fine
-wrongWord (found p) = Refused 13 p
-
-unfoldable pub wordsChecked : List ℕ → CardCheck
-wordsChecked w = wrongWord (first (length w) (λ p. not (wordFits w p)))
+unfoldable pub wordsChecked : List ℕ → Checked
+wordsChecked w = atFound (first (length w) (λ p. not (wordFits w p))) (Refused 13) Fine
 
 -- refusal 13: no word, or a wrong head, at place 0; the length; the lowest wrong word
-unfoldable pub checked : List ℕ → CardCheck
+unfoldable pub checked : List ℕ → Checked
 checked w =
     cond (eqb (length w) 0) (Refused 13 0)
     (cond (not (headFits (getD w headPlace 0))) (Refused 13 headPlace)

@@ -1,16 +1,14 @@
 -- Running a card over its words and a cell number (document 01, "Entries": Run; refusals 13, 12, 14).
 -- Assumes nothing.
-use mathlib.Core.Bool.{Bool, true, false, cond}
+use mathlib.Core.Bool.{cond}
 use mathlib.Core.List.{List, [], _∷_}
 use Prim.Native.Nat.{ℕ}
 use lib.Dec.{eqb, leb}
+use Rattle.games.specs.Answers.{unless}
 use Rattle.games.specs.Automaton.{Automaton, noCell}
-use Rattle.games.specs.declared.Cell.{Cell}
-use Rattle.games.specs.declared.Action.{Action}
-use Rattle.cards.specs.declared.CardCheck.{CardCheck}
-use Rattle.cards.specs.declared.CardCheck.the-variants.{Fine, Refused as Wrong}
 use Rattle.cards.specs.declared.Move.{Move}
 use Rattle.cards.specs.declared.Move.the-variants.{Entered, Refused}
+use Rattle.cards.specs.declared.Stood.{Stood}
 use Rattle.cards.specs.Card.{automaton, cardObservations, checked}
 
 -- the cell entered and its action
@@ -29,23 +27,38 @@ begun A o j = cond (leb o j) (Refused 12 j) (enters A (A .begins j) j)
 unfoldable pub followed : Automaton → (o c j : ℕ) → Move
 followed A o c j = cond (leb (A .size) c) (Refused 12 c) (cond (leb o j) (Refused 12 j) (enters A (A .next c j) j))
 
--- the card's own refusal comes first
-abbrev pub past : CardCheck → Move → Move
-past Fine r = r
-past (Wrong n p) r = Refused n p
-
--- opening a card with the first observation
+-- opening a card with the first observation; the card's own refusal comes first
 unfoldable pub opened : List ℕ → ℕ → Move
-opened w j = past (checked w) (begun (automaton w) (cardObservations w) j)
+opened w j = unless (checked w) Refused (begun (automaton w) (cardObservations w) j)
 
 -- a later observation in a cell
 unfoldable pub stepped : List ℕ → (c j : ℕ) → Move
-stepped w c j = past (checked w) (followed (automaton w) (cardObservations w) c j)
+stepped w c j = unless (checked w) Refused (followed (automaton w) (cardObservations w) c j)
 
 -- the cell that a move leads to: the one entered, or the one given where it was refused
 abbrev pub cellOr : Move → ℕ → ℕ
 cellOr (Entered c a) d = c .0
 cellOr (Refused n p) d = d
+
+-- ---- a runner
+
+-- a runner in cell c, whose last answer is m
+abbrev pub stands : ℕ → Move → Stood
+stands c m = record { cell = record { 0 = c }; answer = m }
+
+-- after an answer: in the cell entered, or in the one given where the answer is a refusal
+abbrev pub standsAfter : Move → ℕ → Stood
+standsAfter m c = stands (cellOr m c) m
+
+-- opened with the first observation; a refused opening gives cell 65,535
+abbrev pub starts : (card : List ℕ) (seen : ℕ) → Stood
+starts w j = standsAfter (opened w j) noCell
+
+-- moved from a cell by a later observation; a refused runner stays in its cell
+abbrev pub advances : (card : List ℕ) (cell seen : ℕ) → Stood
+advances w c j = standsAfter (stepped w c j) c
+
+-- ---- a list of observations
 
 -- one observation more: a step from the cell entered; a refusal stays
 unfoldable pub moved : List ℕ → Move → ℕ → Move

@@ -1,24 +1,27 @@
 // The words of a card (document 01, "Words"): its checks, and the run over words and a cell number.
 use games::Action;
 use games::Cell;
+use games::Checked;
 use games::Observation;
 ghost use mathlib.Core.Path.{_≡_};
-ghost use Prim.Native.Nat.{_<_, _≤_};
+ghost use Prim.Native.Nat.{_<_};
 ghost use lib.ListN.{length};
 ghost use Rattle.games.specs.Format.{lowValues, numberValues, actionValues, kindValues, kindCell};
-ghost use Rattle.games.specs.Words.{lowField, numberField, word, cardLength};
-ghost use Rattle.cards.specs.Card.{headFits, cellNamed, cellFits, partFits, wordFits, wordsChecked, checked, automaton, cardObservations, cellPlace, Named};
-ghost use Rattle.games.specs.Automaton.{noCell};
-ghost use Rattle.cards.specs.Run.{enters, begun, followed, opened, stepped, cellOr};
+ghost use Rattle.games.specs.Fields.{word};
+ghost use Rattle.cards.specs.Card.{headFits, cellNamed, cellFits, partFits, wordFits, wordsChecked, checked};
+ghost use Rattle.cards.specs.Card.{automaton, cardObservations, cellPlace, Named};
+ghost use Rattle.cards.specs.Run.{enters, begun, followed, opened, stepped, standsAfter, starts, advances};
 
-pub enum CardCheck {
-    Fine,
-    Refused(u32, usize),
-}
-
+// What an observation leads to: the cell entered and its action, or a refusal's number and place.
 pub enum Move {
     Entered(Cell, Action),
     Refused(u32, usize),
+}
+
+// The cell that a runner is in, and its last answer.
+pub struct Stood {
+    pub cell: Cell,
+    pub answer: Move,
 }
 
 // The word of a kind that names the cell to go to on an observation.
@@ -67,12 +70,12 @@ fn cell_fits(a: u32, x: u32) -> bool
     (x == games::word(games::KIND_CELL, low, 0, action)) & (low < games::MAX_SETS) & (action < a)
 }
 
-// The word number i behind the first words: each cell has one of its own and one for each observation.
+// The word number i behind the card's front: each cell has a part, its own word and one for each observation.
 fn part_fits(m: u32, a: u32, o: u32, i: usize, x: u32) -> bool
     requires { ⌜ o < numberValues ⌝ }
     ensures { λ r. ⌜ r ≡ partFits m a o i x ⌝ }
 {
-    let part = i % (1 + o as usize);
+    let part = i % games::part_length(o);
     if part == 0 {
         cell_fits(a, x)
     } else {
@@ -88,86 +91,78 @@ fn word_fits(card: &[u32], p: usize) -> bool
     let head = card[0];
     let x = card[p];
     let o = games::number_field(head);
-    let start = 1 + o as usize;
+    let front = games::front_length(o);
     if p == 0 {
         return head_fits(x);
     }
-    if p < start {
+    if p < front {
         cell_named(games::KIND_FIRST, games::low_field(head), (p - 1) as u32, x)
     } else {
         part_fits(
             games::low_field(head),
             games::action_field(head),
             o,
-            p - start,
+            p - front,
             x,
         )
     }
 }
 
-// The length that a head asks for.
-fn card_length(head: u32) -> usize
-    ensures { λ r. ⌜ r ≡ cardLength (lowField head) (numberField head) ⌝ }
-{
-    let m = games::low_field(head) as usize;
-    let o = games::number_field(head) as usize;
-    1 + o + m * (1 + o)
-}
-
 // The lowest wrong word stops the check.
-fn check_words(card: &[u32]) -> CardCheck
+fn check_words(card: &[u32]) -> Checked
     ensures { λ r. ⌜ r ≡ wordsChecked (now (card .entry)) ⌝ }
 {
     let mut p = 0;
     while p < card.len() {
         if !word_fits(card, p) {
-            return CardCheck::Refused(13, p);
+            return Checked::Refused(13, p);
         }
         p += 1;
     }
-    CardCheck::Fine
+    Checked::Fine
 }
 
 // Refusal 13: the head, the length, the words in order.
-pub fn check(card: &[u32]) -> CardCheck
+pub fn check(card: &[u32]) -> Checked
     ensures { λ r. ⌜ r ≡ checked (now (card .entry)) ⌝ }
 {
     if card.len() == 0 {
-        return CardCheck::Refused(13, 0);
+        return Checked::Refused(13, 0);
     }
     let head = card[0];
     if !head_fits(head) {
-        return CardCheck::Refused(13, 0);
+        return Checked::Refused(13, 0);
     }
-    if card.len() != card_length(head) {
-        return CardCheck::Refused(13, card.len());
+    let words = games::card_length(games::low_field(head), games::number_field(head));
+    if card.len() != words {
+        return Checked::Refused(13, card.len());
     }
     check_words(card)
 }
 
-pub fn cell_place(o: u32, c: u32) -> usize
-    requires { ⌜ (o < numberValues) × (c < lowValues) ⌝ }
-    ensures { λ r. ⌜ r ≡ cellPlace o c ⌝ }
+// Where a cell's part begins: behind the front and the parts of the cells before it.
+pub fn cell_place(o: u32, cell: Cell) -> usize
+    requires { ⌜ (o < numberValues) × (cell .0 < lowValues) ⌝ }
+    ensures { λ r. ⌜ r ≡ cellPlace o (cell .0) ⌝ }
 {
-    let each = 1 + o as usize;
-    each + c as usize * each
+    games::card_length(cell.0, o)
 }
 
 // The cell that the observation leads to, with its action, or 14.
 fn enter(card: &[u32], cell: Cell, seen: Observation) -> Move
-    requires { ⌜ (checked (now card) ≡ CardCheck.Fine) × Named (automaton (now card)) (cell .0) ⌝ }
+    requires { ⌜ (checked (now card) ≡ Checked.Fine) × Named (automaton (now card)) (cell .0) ⌝ }
     ensures { λ r. ⌜ r ≡ enters (automaton (now (card .entry))) (cell .0) (seen .0) ⌝ }
 {
     if cell.0 == games::NO_CELL {
         return Move::Refused(14, seen.0 as usize);
     }
-    let place = cell_place(games::number_field(card[0]), cell.0);
+    let place = cell_place(games::number_field(card[0]), cell);
     Move::Entered(cell, Action(games::action_field(card[place])))
 }
 
-// Opening a checked card.
-fn start(card: &[u32], seen: Observation) -> Move
-    requires { ⌜ checked (now card) ≡ CardCheck.Fine ⌝ }
+// Opening a checked card. It is no entry: a run checks its card once and calls this.
+pub fn start(card: &[u32], seen: Observation) -> Move
+    requires { ⌜ checked (now card) ≡ Checked.Fine ⌝ }
     ensures { λ r. ⌜ r ≡ begun (automaton (now (card .entry))) (cardObservations (now (card .entry))) (seen .0) ⌝ }
 {
     if games::number_field(card[0]) <= seen.0 {
@@ -177,9 +172,9 @@ fn start(card: &[u32], seen: Observation) -> Move
     enter(card, Cell(games::low_field(card[place])), seen)
 }
 
-// A step on a checked card.
-fn follow(card: &[u32], cell: Cell, seen: Observation) -> Move
-    requires { ⌜ checked (now card) ≡ CardCheck.Fine ⌝ }
+// A step on a checked card. It is no entry, as `start`.
+pub fn follow(card: &[u32], cell: Cell, seen: Observation) -> Move
+    requires { ⌜ checked (now card) ≡ Checked.Fine ⌝ }
     ensures { λ r. ⌜ r ≡ followed (automaton (now (card .entry))) (cardObservations (now (card .entry))) (cell .0) (seen .0) ⌝ }
 {
     if games::low_field(card[0]) <= cell.0 {
@@ -189,7 +184,7 @@ fn follow(card: &[u32], cell: Cell, seen: Observation) -> Move
     if o <= seen.0 {
         return Move::Refused(12, seen.0 as usize);
     }
-    let place = cell_place(o, cell.0) + 1 + seen.0 as usize;
+    let place = cell_place(o, cell) + 1 + seen.0 as usize;
     enter(card, Cell(games::low_field(card[place])), seen)
 }
 
@@ -198,8 +193,8 @@ pub fn begin(card: &[u32], seen: Observation) -> Move
     ensures { λ r. ⌜ r ≡ opened (now (card .entry)) (seen .0) ⌝ }
 {
     match check(card) {
-        CardCheck::Fine => start(card, seen),
-        CardCheck::Refused(number, place) => Move::Refused(number, place),
+        Checked::Fine => start(card, seen),
+        Checked::Refused(number, place) => Move::Refused(number, place),
     }
 }
 
@@ -208,27 +203,34 @@ pub fn step(card: &[u32], cell: Cell, seen: Observation) -> Move
     ensures { λ r. ⌜ r ≡ stepped (now (card .entry)) (cell .0) (seen .0) ⌝ }
 {
     match check(card) {
-        CardCheck::Fine => follow(card, cell, seen),
-        CardCheck::Refused(number, place) => Move::Refused(number, place),
+        Checked::Fine => follow(card, cell, seen),
+        Checked::Refused(number, place) => Move::Refused(number, place),
     }
 }
 
-// The cell that the opening leads to; none where it is refused.
-pub fn first_cell(card: &[u32], seen: Observation) -> Cell
-    ensures { λ r. ⌜ r .0 ≡ cellOr (opened (now (card .entry)) (seen .0)) noCell ⌝ }
+// Where a runner stands after an answer: in the cell entered; in the one given where the answer is a refusal.
+fn after(answer: Move, cell: Cell) -> Stood
+    ensures { λ r. ⌜ r ≡ standsAfter answer (cell .0) ⌝ }
 {
-    match begin(card, seen) {
-        Move::Entered(cell, _) => cell,
-        Move::Refused(_, _) => Cell(games::NO_CELL),
+    match answer {
+        Move::Entered(entered, _) => Stood {
+            cell: entered,
+            answer,
+        },
+        Move::Refused(_, _) => Stood { cell, answer },
     }
 }
 
-// The cell that a step leads to; the same where it is refused.
-pub fn next_cell(card: &[u32], cell: Cell, seen: Observation) -> Cell
-    ensures { λ r. ⌜ r .0 ≡ cellOr (stepped (now (card .entry)) (cell .0) (seen .0)) (cell .0) ⌝ }
+// The opening with the cell that it leads to; none where it is refused. The card is checked once.
+pub fn opening(card: &[u32], seen: Observation) -> Stood
+    ensures { λ r. ⌜ r ≡ starts (now (card .entry)) (seen .0) ⌝ }
 {
-    match step(card, cell, seen) {
-        Move::Entered(entered, _) => entered,
-        Move::Refused(_, _) => cell,
-    }
+    after(begin(card, seen), Cell(games::NO_CELL))
+}
+
+// A step with the cell that it leads to; the same cell where it is refused. The card is checked once.
+pub fn moving(card: &[u32], cell: Cell, seen: Observation) -> Stood
+    ensures { λ r. ⌜ r ≡ advances (now (card .entry)) (cell .0) (seen .0) ⌝ }
+{
+    after(step(card, cell, seen), cell)
 }

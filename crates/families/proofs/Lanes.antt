@@ -1,8 +1,8 @@
 -- Laws of lanes and their words.
 -- Assumes nothing.
-use mathlib.Core.Path.{_≡_, refl, sym, ap, ap₂, _∙_, subst}
+use mathlib.Core.Path.{_≡_, sym, ap, ap₂, _∙_, subst}
 use mathlib.Core.Logic.{⊎-elim}
-use mathlib.Core.Bool.{Bool, true, false, not, _&&_, _||_, and-comm, and-true, or-false, or-assoc}
+use mathlib.Core.Bool.{Bool, true, false, not, _&&_, _||_, and-comm, and-true}
 use mathlib.Core.List.{List}
 use Prim.Native.Nat.{ℕ, _+_, _-_, _*_, _/_, _%_, _^_, _≤_, _<_}
 use native.Mathlib.Nat.{one-mul, mod-eq-of-lt, add-comm, add-assoc}
@@ -17,7 +17,7 @@ use Rattle.games.specs.Format.{maxStates}
 use Rattle.families.specs.Bits.{laneStates, laneSets, highStates, lanes, has, hasWith, largerHas, wordWith, coveredBy}
 use Rattle.sets.proofs.Logic.{decided, clash, same-truth, and-left, and-right, and-intro, or-cases, or-left, or-right, false-not, and-false-left, true-not}
 use Rattle.sets.proofs.Bounded.{all-more, all-at, all-intro, any-zero, any-more, any-found, any-intro}
-use Rattle.sets.proofs.Mask.{member-zero, member-and, member-or, member-shift, member-low, member-rest, subset-intro, subset-member, subset-refl, subset-antisym, subset-add, add-lt, subset-parts, union-add, union-least, union-subset-left, union-subset-right, member-sub-same, sub-add}
+use Rattle.sets.proofs.Mask.{member-zero, member-and, member-or, member-shift, member-low, member-rest, subset-intro, subset-member, add-lt, subset-parts}
 
 -- a 1 shifted by fewer places than the word has
 pub shift-one : (w i : ℕ) → i < w → 1 * 2 ^ i % 2 ^ w ≡ 2 ^ i
@@ -26,12 +26,12 @@ shift-one w i h = rw one-mul (mod-eq-of-lt (pow-lt h))
 -- ---- a union made in a loop
 
 -- before the first turn
-pub unite-none : (n : ℕ) (f : ℕ → ℕ → Bool) (t : ℕ) → t < n → member 0 t ≡ any 0 (λ i. f i t)
-unite-none n f t h = member-zero t ∙ sym (any-zero (λ i. f i t))
+pub unite-none : (f : ℕ → Bool) (t : ℕ) → member 0 t ≡ any 0 f
+unite-none f t = member-zero t ∙ sym (any-zero f)
 
 -- one turn
-pub unite-more : (n : ℕ) (f : ℕ → ℕ → Bool) (i a b : ℕ) → ((t : ℕ) → t < n → member a t ≡ any i (λ i. f i t)) → ((t : ℕ) → t < n → member b t ≡ f i t) → (t : ℕ) → t < n → member (union a b) t ≡ any (i + 1) (λ i. f i t)
-unite-more n f i a b h k t l = member-or a b t ∙ ap₂ _||_ (h t l) (k t l) ∙ sym (any-more i (λ i. f i t))
+pub unite-more : (f : ℕ → Bool) (i a b t : ℕ) → member a t ≡ any i f → member b t ≡ f i → member (union a b) t ≡ any (i + 1) f
+unite-more f i a b t h k = member-or a b t ∙ ap₂ _||_ h k ∙ sym (any-more i f)
 
 -- ---- the subsets of a set, by the states that it lacks
 
@@ -65,50 +65,15 @@ lacks-end h t l =
 
 -- ---- the lane with a state more
 
--- a lane that has the state is itself the lane with it
-union-has : (lane i : ℕ) → member lane i ≡ true → union lane (2 ^ i) ≡ lane
-union-has lane i m =
-    subset-antisym (union lane (2 ^ i)) lane
-    (union-least lane (2 ^ i) lane (subset-refl lane)
-    (subst (λ (x : ℕ). subset (2 ^ i) x ≡ true) (union-add (lane - 2 ^ i) i (member-sub-same lane i m) ∙ sub-add lane i m) (union-subset-right (lane - 2 ^ i) (2 ^ i))))
-    (union-subset-left lane (2 ^ i))
+module _ (bits : List ℕ) (lane i t : ℕ) where
+  -- this lane has the state
+  pub with-own : lane / 2 ^ i % 2 ≡ 1 → member 0 t ≡ hasWith bits lane i t
+  with-own e = member-zero t ∙ sym (and-false-left (member (getD bits (lane + 2 ^ i) 0) t) (true-not (eq-eqb (lane / 2 ^ i % 2) 1 e)))
 
--- what is there already adds nothing
-or-own : (a b c : Bool) → c ≡ false → ((a || b) || a) ≡ (a || (b || c))
-or-own true b c e = refl
-or-own false b c e = or-false b ∙ sym (ap (λ (x : Bool). b || x) e ∙ or-false b)
-
-module _ (bits : List ℕ) (lane i : ℕ) where
-  -- this lane lacks the state
-  pub with-hit : (word : ℕ) → word ≡ getD bits (union lane (2 ^ i)) 0 → lane / 2 ^ i % 2 ≡ 0 → (t : ℕ) → member word t ≡ hasWith bits lane i t
-  with-hit word e q t =
-      let f : member lane i ≡ false = ne-eqb (lane / 2 ^ i % 2) 1 (λ d. omega arith) in
-      ap (λ (x : ℕ). member x t) (e ∙ ap (λ (x : ℕ). getD bits x 0) (union-add lane i f)) ∙ ap (λ (b : Bool). b && member (getD bits (lane + 2 ^ i) 0) t) (sym (false-not f))
-
-  -- it has the state
-  pub with-state : (lane / 2 ^ i % 2 ≡ 0 → ⊥) → (t : ℕ) → member 0 t ≡ hasWith bits lane i t
-  with-state q t =
-      member-zero t ∙ sym (and-false-left (member (getD bits (lane + 2 ^ i) 0) t) (true-not (eq-eqb (lane / 2 ^ i % 2) 1 (omega arith))))
-
--- ---- this lane and those with a state more
-
--- before the first turn
-pub above-none : (bits : List ℕ) (lane t : ℕ) → member (getD bits lane 0) t ≡ (member (getD bits lane 0) t || any 0 (λ i. hasWith bits lane i t))
-above-none bits lane t = sym (ap (λ (b : Bool). member (getD bits lane 0) t || b) (any-zero (λ i. hasWith bits lane i t)) ∙ or-false (member (getD bits lane 0) t))
-
--- one turn: the lane with the state is this one, or has a state more
-pub above-more : (bits : List ℕ) (lane i all t : ℕ) → member all t ≡ (member (getD bits lane 0) t || any i (λ i. hasWith bits lane i t)) →
-    member (union all (getD bits (union lane (2 ^ i)) 0)) t ≡ (member (getD bits lane 0) t || any (i + 1) (λ i. hasWith bits lane i t))
-above-more bits lane i all t e =
-    let own : Bool = member (getD bits lane 0) t in
-    let more : Bool = any i (λ i. hasWith bits lane i t) in
-    member-or all (getD bits (union lane (2 ^ i)) 0) t ∙ ap (λ (b : Bool). b || member (getD bits (union lane (2 ^ i)) 0) t) e
-    ∙ ⊎-elim
-    (λ m. ap (λ (x : ℕ). (own || more) || member (getD bits x 0) t) (union-has lane i m) ∙ or-own own more (hasWith bits lane i t) (and-false-left (member (getD bits (lane + 2 ^ i) 0) t) (true-not m)))
-    (λ m. ap (λ (x : ℕ). (own || more) || member (getD bits x 0) t) (union-add lane i m)
-    ∙ ap (λ (b : Bool). (own || more) || b) (sym (ap (λ (b : Bool). b && member (getD bits (lane + 2 ^ i) 0) t) (false-not m))) ∙ or-assoc own more (hasWith bits lane i t))
-    (decided (member lane i))
-    ∙ ap (λ (b : Bool). own || b) (sym (any-more i (λ i. hasWith bits lane i t)))
+  -- it lacks the state
+  pub with-other : (lane / 2 ^ i % 2 ≡ 1 → ⊥) → (word : ℕ) → word ≡ getD bits (lane + 2 ^ i) 0 → member word t ≡ hasWith bits lane i t
+  with-other q word e =
+      ap (λ (x : ℕ). member x t) e ∙ ap (λ (b : Bool). b && member (getD bits (lane + 2 ^ i) 0) t) (sym (false-not (ne-eqb (lane / 2 ^ i % 2) 1 q)))
 
 -- ---- the word shifted by one state
 
@@ -159,12 +124,6 @@ larger-found bits lane t l e =
 -- a set of the family with one state more is found
 pub larger-intro : (bits : List ℕ) (lane t j : ℕ) → t < laneSets → j < highStates → member lane j ≡ false → has bits (lane * laneSets + t + 2 ^ (laneStates + j)) ≡ true → largerHas bits lane t ≡ true
 larger-intro bits lane t j l h f e = any-intro highStates (λ i. hasWith bits lane i t) j h (and-intro (false-not f) (sym (has-high bits lane t j l) ∙ e))
-
--- what is found lies in a set of the family
-pub larger-sound : (bits : List ℕ) (lane t : ℕ) → t < laneSets → largerHas bits lane t ≡ true → (u : ℕ) × (has bits u ≡ true) × (subset (lane * laneSets + t) u ≡ true)
-larger-sound bits lane t l e =
-    let w = larger-found bits lane t l e in
-    (lane * laneSets + t + 2 ^ (laneStates + w .0), w .3, subset-add (lane * laneSets + t) (laneStates + w .0) (state-high lane t (w .0) l ∙ w .2))
 
 -- the same within a word
 pub covered-found : (bits : List ℕ) (lane t : ℕ) → t < laneSets → coveredBy (getD bits lane 0) t ≡ true → (i : ℕ) × (i < laneStates) × (member t i ≡ false) × (has bits (lane * laneSets + t + 2 ^ i) ≡ true)

@@ -88,6 +88,11 @@ upHas bits lane t = any (length bits) (λ m. subset lane m && member (getD bits 
 abbrev pub aboveHas : List ℕ → ℕ → ℕ → Bool
 aboveHas bits lane t = any (length bits) (λ m. subset lane m && lowHas (getD bits m 0) t)
 
+-- as many lanes as before, and a lane has the sets t that `gives` says
+pub record ByLane (gives : ℕ → ℕ → Bool) (old new : List ℕ) : Type 0 where
+  pub size : length new ≡ length old
+  pub each : (lane t : ℕ) → t < laneSets → member (getD new lane 0) t ≡ gives lane t
+
 -- the list's numbers with `base` added to each
 unfoldable pub raised : ℕ → List ℕ → List ℕ
 raised base [] = []

@@ -1,14 +1,15 @@
 // Families of sets of states as bits, 64 sets to a machine word (lane).
 ghost use mathlib.Core.Path.{_≡_};
-ghost use mathlib.Core.Bool.{not, _||_};
+ghost use mathlib.Core.Bool.{not};
 ghost use mathlib.Core.List.{_++_};
 ghost use Prim.Native.Nat.{ℕ, _+_, _*_, _/_, _^_, _≤_, _<_};
 ghost use lib.ListN.{length, getD, take, drop, replicate};
-ghost use Rattle.sets.specs.Mask.{member, union, subset};
+ghost use Rattle.sets.specs.Mask.{member, subset};
 ghost use Rattle.sets.specs.Bounded.{count as countOf, select};
 ghost use Rattle.sets.specs.Family.{listed, holds, isMaximal, maximal};
 ghost use Rattle.games.specs.Format.{maxStates};
-ghost use Rattle.families.specs.Bits.{laneStates, laneSets, highStates, maxLanes, lanes, has as isIn, sets, Bits, Closed, Holding, Lane, hasWith, largerHas, wordWith, coveredBy, lowHas, upHas, aboveHas, raised};
+ghost use Rattle.families.specs.Bits.{laneStates, laneSets, highStates, maxLanes, lanes, has as isIn, sets, Bits, Closed, Holding, Lane};
+ghost use Rattle.families.specs.Bits.{hasWith, largerHas, wordWith, coveredBy, lowHas, upHas, aboveHas, ByLane, raised};
 
 // The states below 6 tell the sets of a lane apart.
 const LANE_STATES: u32 = 6;
@@ -80,6 +81,21 @@ pub fn subsets(h: u32) -> u64
     all
 }
 
+// The lane with the state i of the lanes put in; no set where this lane has it or there is no such lane.
+fn with_state(bits: &[u64], lane: usize, i: u32) -> u64
+    requires { ⌜ Lane (now bits) lane × i < highStates ⌝ }
+    ensures { λ r. ⌜ ((t : ℕ) → member r t ≡ hasWith (now (bits .entry)) lane i t) ⌝ }
+{
+    if (lane >> i) % 2 == 1 {
+        return 0;
+    }
+    let with = lane + (1 << i);
+    if with < bits.len() {
+        return bits[with];
+    }
+    0
+}
+
 // What the lanes with one state more have, united.
 pub fn larger(bits: &[u64], lane: usize) -> u64
     requires { ⌜ Lane (now bits) lane ⌝ }
@@ -92,29 +108,6 @@ pub fn larger(bits: &[u64], lane: usize) -> u64
         i += 1;
     }
     all
-}
-
-// The lane with the state i of the lanes put in, which is this lane where it has it; no set where there is no such lane.
-fn lane_with(bits: &[u64], lane: usize, i: u32) -> u64
-    requires { ⌜ i < highStates ⌝ }
-    ensures { λ r. ⌜ r ≡ getD (now (bits .entry)) (union lane (2 ^ i)) 0 ⌝ }
-{
-    let with = lane | (1 << i);
-    if with < bits.len() {
-        return bits[with];
-    }
-    0
-}
-
-// The lane with the state i of the lanes put in; no set where this lane has it or there is no such lane.
-fn with_state(bits: &[u64], lane: usize, i: u32) -> u64
-    requires { ⌜ Lane (now bits) lane × i < highStates ⌝ }
-    ensures { λ r. ⌜ ((t : ℕ) → member r t ≡ hasWith (now (bits .entry)) lane i t) ⌝ }
-{
-    if (lane >> i) % 2 == 0 {
-        return lane_with(bits, lane, i);
-    }
-    0
 }
 
 // The sets of the word that lie in another of it with one state more.
@@ -154,7 +147,8 @@ fn tops(bits: &[u64], n: u32, lane: usize) -> u64
 // Writes the sets of a word from place k on, each with `base` added; the next place.
 fn unpack(word: u64, base: u32, k: usize, out: &mut [u32]) -> usize
     requires { ⌜ k + countOf laneSets (member word) ≤ length (now out) × base < 65536 ⌝ }
-    ensures { λ r. ⌜ (r ≡ k + countOf laneSets (member word)) × (now (out .exit) ≡ (take k (now (out .entry)) ++ raised base (select laneSets (member word))) ++ drop r (now (out .entry))) ⌝ }
+    ensures { λ r. ⌜ (r ≡ k + countOf laneSets (member word))
+        × (now (out .exit) ≡ (take k (now (out .entry)) ++ raised base (select laneSets (member word))) ++ drop r (now (out .entry))) ⌝ }
 {
     let mut rest = word;
     let mut at = k;
@@ -170,7 +164,8 @@ fn unpack(word: u64, base: u32, k: usize, out: &mut [u32]) -> usize
 // The maximal sets, as bits in `found`.
 pub fn maximal_bits(bits: &[u64], n: u32, found: &mut [u64])
     requires { ⌜ Closed n (now bits) × (length (now found) ≡ length (now bits)) ⌝ }
-    ensures { λ _. ⌜ (length (now (found .exit)) ≡ length (now (found .entry))) × (sets (now (found .exit)) ≡ maximal n (isIn (now (bits .entry)))) ⌝ }
+    ensures { λ _. ⌜ (length (now (found .exit)) ≡ length (now (found .entry)))
+        × (sets (now (found .exit)) ≡ maximal n (isIn (now (bits .entry)))) ⌝ }
 {
     let mut lane = 0;
     while lane < bits.len() {
@@ -210,7 +205,8 @@ pub fn write(bits: &[u64], out: &mut [u32]) -> usize
 // The maximal sets, ascending, in front of `out`; how many. `found` is work room.
 fn collect_with(bits: &[u64], n: u32, found: &mut [u64], out: &mut [u32]) -> usize
     requires { ⌜ Closed n (now bits) × (length (now found) ≡ length (now bits)) × 2 ^ n ≤ length (now out) ⌝ }
-    ensures { λ r. ⌜ (r ≡ length (maximal n (isIn (now (bits .entry))))) × (now (out .exit) ≡ maximal n (isIn (now (bits .entry))) ++ drop r (now (out .entry))) ⌝ }
+    ensures { λ r. ⌜ (r ≡ length (maximal n (isIn (now (bits .entry)))))
+        × (now (out .exit) ≡ maximal n (isIn (now (bits .entry))) ++ drop r (now (out .entry))) ⌝ }
 {
     maximal_bits(bits, n, found);
     write(found, out)
@@ -219,7 +215,8 @@ fn collect_with(bits: &[u64], n: u32, found: &mut [u64], out: &mut [u32]) -> usi
 // The same, with its work room.
 pub fn collect(bits: &[u64], n: u32, out: &mut [u32]) -> usize
     requires { ⌜ Closed n (now bits) × 2 ^ n ≤ length (now out) ⌝ }
-    ensures { λ r. ⌜ (r ≡ length (maximal n (isIn (now (bits .entry))))) × (now (out .exit) ≡ maximal n (isIn (now (bits .entry))) ++ drop r (now (out .entry))) ⌝ }
+    ensures { λ r. ⌜ (r ≡ length (maximal n (isIn (now (bits .entry)))))
+        × (now (out .exit) ≡ maximal n (isIn (now (bits .entry))) ++ drop r (now (out .entry))) ⌝ }
 {
     let end = bits.len();
     let mut found = [0u64; MAX_LANES];
@@ -240,7 +237,8 @@ fn clear(bits: &mut [u64])
 // The list's sets.
 fn insert(list: &[u32], n: u32, bits: &mut [u64])
     requires { ⌜ Holding n (now list) (now bits) × (now bits ≡ replicate (length (now bits)) 0) ⌝ }
-    ensures { λ _. ⌜ (length (now (bits .exit)) ≡ length (now (bits .entry))) × ((s : ℕ) → isIn (now (bits .exit)) s ≡ listed (now (list .entry)) s) ⌝ }
+    ensures { λ _. ⌜ (length (now (bits .exit)) ≡ length (now (bits .entry)))
+        × ((s : ℕ) → isIn (now (bits .exit)) s ≡ listed (now (list .entry)) s) ⌝ }
 {
     let mut i = 0;
     while i < list.len() {
@@ -266,7 +264,7 @@ fn lower(word: u64) -> u64
 
 // The subsets within each word. (A loop of its own, over words that are independent.)
 fn lower_all(bits: &mut [u64])
-    ensures { λ _. ⌜ (length (now (bits .exit)) ≡ length (now (bits .entry))) × ((lane t : ℕ) → t < laneSets → member (getD (now (bits .exit)) lane 0) t ≡ lowHas (getD (now (bits .entry)) lane 0) t) ⌝ }
+    ensures { λ _. ⌜ ByLane (λ lane t. lowHas (getD (now (bits .entry)) lane 0) t) (now (bits .entry)) (now (bits .exit)) ⌝ }
 {
     let mut lane = 0;
     while lane < bits.len() {
@@ -275,36 +273,22 @@ fn lower_all(bits: &mut [u64])
     }
 }
 
-// What this lane and the lanes with one state more have, united. (That a lane has the state is not tested: it is then this lane.)
-fn above(bits: &[u64], lane: usize) -> u64
-    requires { ⌜ Lane (now bits) lane ⌝ }
-    ensures { λ r. ⌜ ((t : ℕ) → member r t ≡ (member (getD (now (bits .entry)) lane 0) t || largerHas (now (bits .entry)) lane t)) ⌝ }
-{
-    let mut all = bits[lane];
-    let mut i = 0;
-    while i < HIGH_STATES {
-        all = all | lane_with(bits, lane, i);
-        i += 1;
-    }
-    all
-}
-
 // What the lanes that hold a lane have, from the highest lane down.
 fn spread(bits: &mut [u64])
     requires { ⌜ length (now bits) ≤ 2 ^ highStates ⌝ }
-    ensures { λ _. ⌜ (length (now (bits .exit)) ≡ length (now (bits .entry))) × ((lane t : ℕ) → member (getD (now (bits .exit)) lane 0) t ≡ upHas (now (bits .entry)) lane t) ⌝ }
+    ensures { λ _. ⌜ ByLane (upHas (now (bits .entry))) (now (bits .entry)) (now (bits .exit)) ⌝ }
 {
     let mut lane = bits.len();
     while 0 < lane {
         lane -= 1;
-        bits[lane] = above(bits, lane);
+        bits[lane] = bits[lane] | larger(bits, lane);
     }
 }
 
 // The subsets of the sets: within the words, then from lane to lane.
 fn close(bits: &mut [u64])
     requires { ⌜ length (now bits) ≤ 2 ^ highStates ⌝ }
-    ensures { λ _. ⌜ (length (now (bits .exit)) ≡ length (now (bits .entry))) × ((lane t : ℕ) → t < laneSets → member (getD (now (bits .exit)) lane 0) t ≡ aboveHas (now (bits .entry)) lane t) ⌝ }
+    ensures { λ _. ⌜ ByLane (aboveHas (now (bits .entry))) (now (bits .entry)) (now (bits .exit)) ⌝ }
 {
     lower_all(bits);
     spread(bits);

@@ -7,13 +7,13 @@ use Prim.Native.Nat.{ℕ, zero, suc, _-_}
 use native.Mathlib.Omega.{arith}
 use lib.ListN.{length}
 use Rattle.sets.proofs.Logic.{decided}
-use Rattle.sets.proofs.Bounded.{all-intro, all-fails}
 use Rattle.games.specs.Game.{Game, Accepted}
 use Rattle.games.specs.Play.{Strategy, Lasts}
 use Rattle.games.specs.Step.{good, settling}
-use Rattle.games.specs.Verdict.{Yes, No, startSet, startsIn, settled, cells, lostRound, verdict}
+use Rattle.games.specs.Verdict.{Yes, No, startsIn, settled, cells, lostRound, verdict}
 use Rattle.games.specs.Automaton.{card}
 use Rattle.games.specs.Demands.{Lost, Third, Second, Decides}
+use Rattle.games.proofs.Starts.{starts-all, starts-fail}
 use Rattle.games.proofs.Losing.{start-lost, lost-no-lasting}
 use Rattle.games.proofs.Lasting.{lasting}
 use Rattle.games.proofs.Settling.{Drops, lost-round}
@@ -42,11 +42,10 @@ module _ (g : Game) where
   module _ (A : Accepted g) where
     -- a round in which a start set drops out, and not before, meets the third demand
     pub drops-third : (k : ℕ) → Drops g k → Third g k
-    unfolding startsIn good
-    drops-third zero d =
-        absurd (true≢false (sym (all-intro (g .observations) (λ o. good g 0 (startSet g o)) (λ o l. refl)) ∙ d .drops))
+    unfolding good
+    drops-third zero d = absurd (true≢false (sym (starts-all g (good g 0) (λ o l. refl)) ∙ d .drops))
     drops-third (suc k) d =
-        let w = all-fails (g .observations) (λ o. good g (suc k) (startSet g o)) (d .drops) in
+        let w = starts-fail g (good g (suc k)) (d .drops) in
         let lost : (ρ : Strategy g) → Lost g ρ (suc k) = λ ρ. start-lost g A ρ (suc k) (w .0) (w .1) (w .2) in
         record {
           from-one = omega arith;
@@ -68,7 +67,7 @@ module _ (g : Game) where
     decides =
         record {
           yes-iff = (
-            λ y. let s = second (y .0) (y .1) (y .2) in (s .strategy, s .clear (s .strategy) (s .follows)),
+            λ y. let s = second (y .0) (y .1) (y .2) in (s .strategy .0, s .clear (s .strategy .0) (s .strategy .1)),
             λ w. ⊎-elim (λ h. (settling g, length (cells g), verdict-yes h))
                 (λ h. absurd (third (lostRound g) (verdict-no h) .no-strategy (w .0) (w .1 (lostRound g))))
                 (decided (startsIn g (settled g))),

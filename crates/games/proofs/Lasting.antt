@@ -9,14 +9,14 @@ use Prim.Native.Nat.{ℕ, suc, pred, _^_, _<_}
 use Rattle.sets.specs.Mask.{member}
 use Rattle.sets.specs.Bounded.{Found, orElse}
 use Rattle.sets.specs.Family.{Family}
-use Rattle.sets.proofs.Logic.{and-intro}
-use Rattle.sets.proofs.Bounded.{all-at, first-cases, first-some, first-found}
-use Rattle.sets.proofs.Mask.{member-and, member-below, common-lt-left}
+use Rattle.sets.proofs.Bounded.{first-cases, first-some, first-found}
+use Rattle.sets.proofs.Mask.{member-below}
 use Rattle.games.specs.Game.{Game, Accepted, Shows, enabled}
 use Rattle.games.specs.Play.{Strategy, Lasts}
 use Rattle.games.specs.Step.{after, meets, lowest, step, good}
 use Rattle.games.specs.Verdict.{startSet, startsIn}
 use Rattle.games.proofs.Steps.{safe-at, enabled-at, meets-enabled, meets-after, after-intro, after-below, step-safe, step-action}
+use Rattle.games.proofs.Starts.{start-below, start-member, starts-at}
 use Rattle.games.proofs.Memory.{memory, memory-lasts}
 
 module _ (g : Game) (A : Accepted g) where
@@ -47,18 +47,6 @@ module _ (g : Game) (A : Accepted g) where
 
     pub stepped-member : (j o : ℕ) → member (g .successors (lowest g F s) i) j ≡ true → Shows g j o → member (after g s (lowest g F s) o) j ≡ true
     stepped-member j o e shows = after-intro g s (lowest g F s) o i j (member-below (g .states) s i below m) m e (shows .1)
-
-  pub start-below : (o : ℕ) → startSet g o < 2 ^ g .states
-  unfolding startSet
-  start-below o = common-lt-left (g .states) (g .start) (g .shown o) (A .start-below)
-
-  pub start-member : (i o : ℕ) → member (g .start) i ≡ true → Shows g i o → member (startSet g o) i ≡ true
-  unfolding startSet
-  start-member i o m shows = member-and (g .start) (g .shown o) i ∙ and-intro m (shows .1)
-
-  pub starts-at : (F : Family) → startsIn g F ≡ true → (o : ℕ) → o < g .observations → F (startSet g o) ≡ true
-  unfolding startsIn
-  starts-at F h = all-at (g .observations) (λ o. F (startSet g o)) h
 
   -- rounds left, and the states possible
   record Memo : Type 0 where
@@ -107,6 +95,8 @@ module _ (g : Game) (A : Accepted g) where
       let ρ : Strategy g = record { pick = λ seen. action (memo seen); legal = λ seen. lowest-below (good g (pred (memo seen .left))) (memo seen .set) } in (
         ρ,
         memory-lasts (opening 0) opening follow g action Kept kept-survives kept-moves k
-            (λ i o m shows. record { left-is = refl; below = start-below o; is-good = starts-at (good g k) h o (shows .0); held = start-member i o m shows })
-            ρ (λ seen j i w. refl),
+            (λ i o m shows.
+            let w = start-member g i o m shows in
+            record { left-is = refl; below = start-below g A o; is-good = starts-at g (good g k) h o (w .0); held = w .1 })
+            ρ (λ p played acts. refl),
       )

@@ -1,12 +1,14 @@
 pub mod Limits
+pub mod Answers
+pub mod Places
 pub mod Stations
 pub mod Steps
 pub mod Plays
+pub mod Starts
 pub mod Memory
 pub mod Losing
 pub mod Lasting
 pub mod Settling
-pub mod Starts
 pub mod Holding
 pub mod Winning
 pub mod Decided

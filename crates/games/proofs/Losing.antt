@@ -1,23 +1,23 @@
 -- A set that isn't good for k rounds is lost under every strategy: the play is handed over.
 -- Assumes nothing.
 use mathlib.Core.Path.{_≡_, refl, sym, ap, _∙_, subst}
-use mathlib.Core.Logic.{_⊎_, ⊎-elim}
+use mathlib.Core.Logic.{_⊎_, ⊎-elim, inl, inr}
 use mathlib.Core.Bool.{true, false, true≢false}
 use mathlib.Core.List.{List, [], _∷_, _++_}
 use Prim.Native.Nat.{ℕ, zero, suc, _+_, _^_, _≤_, _<_}
 use native.Mathlib.Omega.{arith}
 use Rattle.sets.specs.Mask.{member}
 use Rattle.sets.specs.Bounded.{all, any}
-use Rattle.sets.proofs.Logic.{clash, and-left, and-right, and-false-cases}
+use Rattle.sets.proofs.Logic.{clash, and-false-cases}
 use Rattle.sets.proofs.Bounded.{all-fails, any-none}
-use Rattle.sets.proofs.Mask.{member-and, common-lt-left}
 use Rattle.games.specs.Game.{Game, Accepted, enabled}
-use Rattle.games.specs.Play.{Strategy, Play, begin, more, last, seen, rounds, PlayOf, Under, Survives, Lasts}
+use Rattle.games.specs.Play.{Strategy, Play, begin, more, last, seen, rounds, PlayOf, Under, Lasts}
 use Rattle.games.specs.Step.{safe, enabledAt, after, meets, step, good}
-use Rattle.games.specs.Verdict.{startSet}
+use Rattle.games.specs.Verdict.{startSets, startSet}
 use Rattle.games.specs.Demands.{Lost}
 use Rattle.games.proofs.Steps.{safe-fails, enabled-fails, after-found, after-shown, after-below}
-use Rattle.games.proofs.Plays.{upTo-whole, survives-last}
+use Rattle.games.proofs.Plays.{survives-last}
+use Rattle.games.proofs.Starts.{start-below, start-state}
 
 module _ (g : Game) (A : Accepted g) (ρ : Strategy g) where
   -- a play under the strategy that has shown h and is in state i in round r
@@ -29,19 +29,16 @@ module _ (g : Game) (A : Accepted g) (ρ : Strategy g) where
     pub stands : last play ≡ i
     pub comes : rounds play ≡ r
 
-  ends-here : (k r i : ℕ) (h : List ℕ) → r ≤ k → (w : Reaches h r i) → ((member (g .bad) i ≡ false) × (enabled g i (ρ .pick h) ≡ true) → ⊥) → Lost g ρ k
-  ends-here k r i h l w no-more =
+  ends-here : (k r i : ℕ) (h : List ℕ) → r ≤ k → (w : Reaches h r i) → (member (g .bad) i ≡ true) ⊎ (enabled g i (ρ .pick h) ≡ false) → Lost g ρ k
+  ends-here k r i h l w end =
       record {
         play = w .play;
         played = w .played;
         under = w .under;
         short = subst (λ (n : ℕ). n ≤ k) (sym (w .comes)) l;
-        ends = λ s.
-            let t : Survives g ρ (w .play) = subst (Survives g ρ) (upTo-whole (w .play)) s in
-            no-more (
-              subst (λ (j : ℕ). member (g .bad) j ≡ false) (w .stands) (t .0),
-              subst (λ (j : ℕ). enabled g j (ρ .pick h) ≡ true) (w .stands) (subst (λ (l : List ℕ). enabled g (last (w .play)) (ρ .pick l) ≡ true) (w .shows) (t .1)),
-            );
+        ends =
+            subst (λ (j : ℕ). (member (g .bad) j ≡ true) ⊎ (enabled g j (ρ .pick (seen (w .play))) ≡ false)) (sym (w .stands))
+            (subst (λ (l : List ℕ). (member (g .bad) i ≡ true) ⊎ (enabled g i (ρ .pick l) ≡ false)) (sym (w .shows)) end);
       }
 
   goes-on : (h : List ℕ) (r s o : ℕ) → o < g .observations → ((i : ℕ) → member s i ≡ true → Reaches h r i) → (j : ℕ) → member (after g s (ρ .pick h) o) j ≡ true → Reaches (h ++ (o ∷ [])) (suc r) j
@@ -66,9 +63,9 @@ module _ (g : Game) (A : Accepted g) (ρ : Strategy g) where
   this-or-next k n r h s l b reach no-good next =
       let a = ρ .pick h in
       ⊎-elim
-      (λ e. let w = safe-fails g s l e in ends-here n r (w .0) h b (reach (w .0) (w .2)) (λ t. clash (w .3) (t .0)))
+      (λ e. let w = safe-fails g s l e in ends-here n r (w .0) h b (reach (w .0) (w .2)) (inl (w .3)))
       (λ e. ⊎-elim
-      (λ f. let w = enabled-fails g s a f in ends-here n r (w .0) h b (reach (w .0) (w .2)) (λ t. clash (t .1) (w .3)))
+      (λ f. let w = enabled-fails g s a f in ends-here n r (w .0) h b (reach (w .0) (w .2)) (inr (w .3)))
       (λ f. let w = all-fails (g .observations) (λ o. good g k (after g s a o)) f in next (w .0) (w .1) (w .2))
       (and-false-cases (enabledAt g s a) (all (g .observations) (λ o. good g k (after g s a o))) (any-none (g .actions) (meets g (good g k) s) e a (ρ .legal h))))
       (and-false-cases (safe g s) (any (g .actions) (meets g (good g k) s)) no-good)
@@ -82,24 +79,15 @@ module _ (g : Game) (A : Accepted g) (ρ : Strategy g) where
       (λ o m e. loses k n (suc r) (h ++ (o ∷ [])) (after g s (ρ .pick h) o) (after-below g A s (ρ .pick h) o m) (omega arith) (goes-on h r s o m reach) e)
 
   -- where a start set isn't good for k, a play of at most k rounds is lost
-  pub start-lost : (k o : ℕ) → o < g .observations → good g k (startSet g o) ≡ false → Lost g ρ k
-  unfolding startSet good seen last rounds PlayOf Under
+  pub start-lost : (k o : ℕ) → o < startSets g → good g k (startSet g o) ≡ false → Lost g ρ k
+  unfolding good seen last rounds PlayOf Under
   start-lost zero o l e = absurd (true≢false e)
   start-lost (suc k) o l e =
-      loses k (suc k) 1 (o ∷ []) (startSet g o) (common-lt-left (g .states) (g .start) (g .shown o) (A .start-below)) (omega arith)
-      (λ i m.
-      let both = sym (member-and (g .start) (g .shown o) i) ∙ m in
-      record {
-        play = begin i o;
-        played =
-            (and-left (member (g .start) i) (member (g .shown o) i) both, (l, and-right (member (g .start) i) (member (g .shown o) i) both));
-        under = tt;
-        shows = refl;
-        stands = refl;
-        comes = refl;
-      })
+      loses k (suc k) 1 (o ∷ []) (startSet g o) (start-below g A o) (omega arith)
+      (λ i m. record { play = begin i o; played = start-state g i o l m; under = tt; shows = refl; stands = refl; comes = refl })
       e
 
   pub lost-no-lasting : (k : ℕ) → Lost g ρ k → Lasts g ρ k → ⊥
   lost-no-lasting k w h =
-      w .ends (subst (Survives g ρ) (sym (upTo-whole (w .play))) (survives-last g ρ k h (w .play) (w .played) (w .under) (w .short)))
+      let s = survives-last g ρ k h (w .play) (w .played) (w .under) (w .short) in
+      ⊎-elim (λ e. clash e (s .0)) (λ e. clash (s .1) e) (w .ends)

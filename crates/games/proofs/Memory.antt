@@ -1,6 +1,7 @@
 -- One theorem on strategies with memory: it serves the lasting strategy, the winning one and every card.
 -- A memory state is entered by the first observation and changed by each later one, and gives an action. Where a relation between rounds
--- left, memory and state holds at the start, is kept by the moves and grants survival, the strategy lasts.
+-- left, memory and state holds at the start, is kept by the moves and grants survival, it holds on every play whose actions are those
+-- that the memory gives, and a strategy that picks these on such plays lasts.
 -- Assumes nothing.
 use mathlib.Core.Path.{_≡_, refl, sym, _∙_, subst}
 use mathlib.Core.Bool.{true, false}
@@ -33,25 +34,39 @@ module _ {M : Type 0} (idle : M) (first : ℕ → M) (next : M → ℕ → M) wh
       let w = seen-some p in
       subst (λ (l : List ℕ). memory (l ++ (o ∷ [])) ≡ next (memory l) o) (sym (w .2)) (from-more (first (w .0)) (w .1) o)
 
-  module _ (g : Game) (act : M → ℕ) (Inv : ℕ → M → ℕ → Type 0)
-      (survives : (j : ℕ) (m : M) (i : ℕ) → Inv (suc j) m i → (member (g .bad) i ≡ false) × (enabled g i (act m) ≡ true))
-      (moves : (j : ℕ) (m : M) (i i′ o : ℕ) → Inv (suc j) m i → member (g .successors (act m) i) i′ ≡ true → Shows g i′ o → Inv j (next m o) i′)
-      (k : ℕ) (begins : (i o : ℕ) → member (g .start) i ≡ true → Shows g i o → Inv k (first o) i)
-      (ρ : Strategy g) (follows : (h : List ℕ) (j i : ℕ) → Inv (suc j) (memory h) i → ρ .pick h ≡ act (memory h)) where
-    -- the relation holds on every play under the strategy, with the rounds that are left
-    pub holds-on : (p : Play) → PlayOf g p → Under ρ p → (j : ℕ) → rounds p + j ≡ suc k → Inv j (memory (seen p)) (last p)
-    unfolding PlayOf Under seen last rounds memory from
-    holds-on (begin i o) h u j e = subst (λ (n : ℕ). Inv n (first o) i) (omega arith) (begins i o (h .0) (h .1))
-    holds-on (more p a i o) h u j e =
-        let inv : Inv (suc j) (memory (seen p)) (last p) = holds-on p (h .0) (u .0) (suc j) (omega arith) in
-        let same : a ≡ act (memory (seen p)) = u .1 ∙ follows (seen p) j (last p) inv in
-        subst (λ (m : M). Inv j m i) (sym (memory-more p o))
-        (moves j (memory (seen p)) (last p) i o inv (subst (λ (b : ℕ). member (g .successors b (last p)) i ≡ true) same (h .2)) (h .3))
+  module _ (g : Game) (act : M → ℕ) where
+    -- each action of the play is the one that the memory gives there
+    unfoldable pub Acts : Play → Type 0
+    Acts (begin i o) = Unit {0}
+    Acts (more p a i o) = Acts p × (a ≡ act (memory (seen p)))
 
-    pub memory-lasts : Lasts g ρ k
-    memory-lasts =
-        lasts-by-last g ρ k
-        (λ p h u l.
-        let inv : Inv (suc (k - rounds p)) (memory (seen p)) (last p) = holds-on p h u (suc (k - rounds p)) (omega arith) in
-        let s = survives (k - rounds p) (memory (seen p)) (last p) inv in
-        (s .0, subst (λ (a : ℕ). enabled g (last p) a ≡ true) (sym (follows (seen p) (k - rounds p) (last p) inv)) (s .1)))
+    module _ (Inv : ℕ → M → ℕ → Type 0)
+        (survives : (j : ℕ) (m : M) (i : ℕ) → Inv (suc j) m i → (member (g .bad) i ≡ false) × (enabled g i (act m) ≡ true))
+        (moves : (j : ℕ) (m : M) (i i′ o : ℕ) → Inv (suc j) m i → member (g .successors (act m) i) i′ ≡ true → Shows g i′ o → Inv j (next m o) i′)
+        (k : ℕ) (begins : (i o : ℕ) → member (g .start) i ≡ true → Shows g i o → Inv k (first o) i) where
+      -- the relation holds on every such play, with the rounds that are left
+      pub holds-on : (p : Play) → PlayOf g p → Acts p → (j : ℕ) → rounds p + j ≡ suc k → Inv j (memory (seen p)) (last p)
+      unfolding PlayOf Acts seen last rounds memory from
+      holds-on (begin i o) h u j e = subst (λ (n : ℕ). Inv n (first o) i) (omega arith) (begins i o (h .0) (h .1))
+      holds-on (more p a i o) h u j e =
+          let inv : Inv (suc j) (memory (seen p)) (last p) = holds-on p (h .0) (u .0) (suc j) (omega arith) in
+          subst (λ (m : M). Inv j m i) (sym (memory-more p o))
+          (moves j (memory (seen p)) (last p) i o inv (subst (λ (b : ℕ). member (g .successors b (last p)) i ≡ true) (u .1) (h .2)) (h .3))
+
+      -- a strategy that picks, on these plays, what the memory gives lasts k rounds
+      module _ (ρ : Strategy g) (agrees : (p : Play) → PlayOf g p → Acts p → ρ .pick (seen p) ≡ act (memory (seen p))) where
+        pub under-acts : (p : Play) → PlayOf g p → Under ρ p → Acts p
+        unfolding PlayOf Under Acts
+        under-acts (begin i o) h u = tt
+        under-acts (more p a i o) h u =
+            let acts = under-acts p (h .0) (u .0) in
+            (acts, u .1 ∙ agrees p (h .0) acts)
+
+        pub memory-lasts : Lasts g ρ k
+        memory-lasts =
+            lasts-by-last g ρ k
+            (λ p h u l.
+            let acts = under-acts p h u in
+            let inv : Inv (suc (k - rounds p)) (memory (seen p)) (last p) = holds-on p h acts (suc (k - rounds p)) (omega arith) in
+            let s = survives (k - rounds p) (memory (seen p)) (last p) inv in
+            (s .0, subst (λ (a : ℕ). enabled g (last p) a ≡ true) (sym (agrees p h acts)) (s .1)))

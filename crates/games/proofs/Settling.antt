@@ -11,10 +11,10 @@ use borrow.Author.Tests.{not-true, not-false, leb-true, leb-false}
 use lib.Dec.{leb}
 use lib.Pow.{pow-pos}
 use Rattle.sets.specs.Bounded.{Found, orElse, count}
-use Rattle.sets.specs.Family.{maximal, holds}
+use Rattle.sets.specs.Family.{holds}
 use Rattle.sets.proofs.Logic.{decided, refuted, false-not}
 use Rattle.sets.proofs.Bounded.{count-le, count-strict, count-pos, first-cases, first-some, first-found}
-use Rattle.sets.proofs.Family.{same-at, same-intro, same-witness, represents, maximal-ext}
+use Rattle.sets.proofs.Family.{same-at, same-intro, same-witness, represents}
 use Rattle.games.specs.Game.{Game, Accepted}
 use Rattle.games.specs.Step.{step, good, antichain, fixed, settling}
 use Rattle.games.specs.Verdict.{startsIn, settled, cells, lostRound}
@@ -37,13 +37,6 @@ module _ (g : Game) (A : Accepted g) where
   pub antichain-holds : (k s : ℕ) → s < 2 ^ g .states → holds (antichain g k) s ≡ good g k s
   unfolding antichain
   antichain-holds k s l = represents (g .states) (good g k) (λ s t m p h. good-subset g k s t h p) s l
-
-  -- the list for k + 1 is the step of the list for k
-  pub antichain-step : (k : ℕ) → antichain g (suc k) ≡ maximal (g .states) (step g (holds (antichain g k)))
-  unfolding antichain good
-  antichain-step k =
-      maximal-ext (g .states) (step g (good g k)) (step g (holds (maximal (g .states) (good g k))))
-      (λ s l. step-ext g A (good g k) (holds (maximal (g .states) (good g k))) (λ t m. sym (antichain-holds k t m)) s)
 
   pub fixed-at : (t : ℕ) → fixed g t ≡ true → (s : ℕ) → s < 2 ^ g .states → good g t s ≡ good g (suc t) s
   unfolding fixed

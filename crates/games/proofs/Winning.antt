@@ -1,5 +1,5 @@
--- Where the start sets are settled, the card wins: the strategies that follow it keep every play clear, and on every play under them
--- it is in a cell whose set holds the state.
+-- Where the start sets are settled, the card wins: on every play under it it is in a cell whose set holds the state, and the strategies
+-- that pick what it gives there keep every play clear.
 -- Assumes nothing.
 use mathlib.Core.Path.{_≡_, refl, sym, ap, _∙_, subst}
 use mathlib.Core.Logic.{_⊎_, ⊎-elim}
@@ -7,38 +7,40 @@ use mathlib.Core.Bool.{Bool, true, false, cond}
 use mathlib.Core.List.{List, [], _∷_}
 use Prim.Native.Nat.{ℕ, suc, _^_, _<_}
 use native.Mathlib.Omega.{arith}
-use lib.Dec.{eqb, ltb}
+use lib.Dec.{ltb}
 use lib.ListN.{length, getD}
-use borrow.Author.Tests.{ne-eqb, lt-ltb, ltb-true}
-use Rattle.sets.specs.Mask.{member, subset}
-use Rattle.sets.specs.Bounded.{Found, first, orElse}
-use Rattle.sets.specs.Family.{holds}
-use Rattle.sets.proofs.Logic.{decided, clash}
-use Rattle.sets.proofs.Bounded.{first-some, first-found}
-use Rattle.sets.proofs.Mask.{member-zero, subset-member}
-use Rattle.sets.proofs.Family.{at-mem, mem-at, holds-found, mem-maximal}
+use borrow.Author.Tests.{lt-ltb, ltb-true}
+use Rattle.sets.specs.Mask.{member}
+use Rattle.sets.proofs.Logic.{decided}
+use Rattle.sets.proofs.Family.{at-mem, mem-maximal}
 use Rattle.games.specs.Game.{Game, Accepted, Shows, enabled}
-use Rattle.games.specs.Play.{Strategy, last, seen, rounds}
+use Rattle.games.specs.Play.{Play, begin, more, PlayOf, last, seen, rounds}
 use Rattle.games.specs.Step.{after, lowest, step, antichain}
 use Rattle.games.specs.Verdict.{startSet, startsIn, settled, cells}
-use Rattle.games.specs.Automaton.{Automaton, noCell, cellFrom, cellAfter, actionAfter, holding, chosen, card}
-use Rattle.games.specs.Demands.{Follows, Second}
+use Rattle.games.specs.Automaton.{Automaton, noCell, nextCell, cellFrom, cellAfter, actionAfter, chosen, card}
+use Rattle.games.specs.Demands.{UnderCard, Keeps, Second}
 use Rattle.games.proofs.Steps.{after-below}
-use Rattle.games.proofs.Memory.{from, memory, holds-on, memory-lasts}
-use Rattle.games.proofs.Lasting.{lowest-below, stepped-survives, stepped-in, stepped-member, start-below, start-member, starts-at}
+use Rattle.games.proofs.Memory.{from, memory, Acts, holds-on, memory-lasts}
+use Rattle.games.proofs.Starts.{start-below, start-member, starts-at}
+use Rattle.games.proofs.Lasting.{lowest-below, stepped-survives, stepped-in, stepped-member}
 use Rattle.games.proofs.Settling.{settled-step, cells-hold}
 use Rattle.games.proofs.Holding.{Held, held-by}
 
 -- the memory theorem's memory, where it is an automaton's cell
-from-cell : (B : Automaton) (c : ℕ) (h : List ℕ) → from noCell (B .begins) (B .next) c h ≡ cellFrom B c h
+from-cell : (B : Automaton) (c : ℕ) (h : List ℕ) → from noCell (B .begins) (nextCell B) c h ≡ cellFrom B c h
 unfolding from cellFrom
 from-cell B c [] = refl
-from-cell B c (o ∷ h) = from-cell B (B .next c o) h
+from-cell B c (o ∷ h) = from-cell B (nextCell B c o) h
 
-pub memory-cell : (B : Automaton) (h : List ℕ) → memory noCell (B .begins) (B .next) h ≡ cellAfter B h
+pub memory-cell : (B : Automaton) (h : List ℕ) → memory noCell (B .begins) (nextCell B) h ≡ cellAfter B h
 unfolding memory cellAfter
 memory-cell B [] = refl
 memory-cell B (o ∷ h) = from-cell B (B .begins o) h
+
+-- in a cell the automaton goes where its next word says
+pub next-cell : (B : Automaton) (c o : ℕ) → c < B .size → nextCell B c o ≡ B .next c o
+unfolding nextCell
+next-cell B c o l = rw (lt-ltb c (B .size) l)
 
 -- an automaton whose cells cover the plays: a start state is held by the first cell named; at a member of a cell's set the action survives,
 -- and each successor is held by the next cell named
@@ -58,20 +60,44 @@ module _ (g : Game) (A : Accepted g) (B : Automaton) (C : Covers g B) where
   unfolding In
   in-survives j c i w = C .survives c i (w .0) (w .1)
 
-  in-moves : (j c i i′ o : ℕ) → In (suc j) c i → member (g .successors (B .action c) i) i′ ≡ true → Shows g i′ o → In j (B .next c o) i′
+  in-moves : (j c i i′ o : ℕ) → In (suc j) c i → member (g .successors (B .action c) i) i′ ≡ true → Shows g i′ o → In j (nextCell B c o) i′
   unfolding In
-  in-moves j c i i′ o w e shows = C .next-in c i i′ o (w .0) (w .1) e shows
+  in-moves j c i i′ o w e shows =
+      subst (λ (d : ℕ). (d < B .size) × (member (B .set d) i′ ≡ true)) (sym (next-cell B c o (w .0))) (C .next-in c i i′ o (w .0) (w .1) e shows)
 
   in-begins : (k i o : ℕ) → member (g .start) i ≡ true → Shows g i o → In k (B .begins o) i
   unfolding In
   in-begins k i o m shows = C .begins-in i o m shows
 
-  -- in a cell the strategy that follows picks the cell's action
-  follows-memory : (ρ : Strategy g) → Follows ρ B → (h : List ℕ) (j i : ℕ) → In (suc j) (memory noCell (B .begins) (B .next) h) i → ρ .pick h ≡ B .action (memory noCell (B .begins) (B .next) h)
+  -- the card's action is the memory's
+  memory-action : (h : List ℕ) → actionAfter B h ≡ B .action (memory noCell (B .begins) (nextCell B) h)
+  unfolding actionAfter
+  memory-action h = ap (B .action) (sym (memory-cell B h))
+
+  card-acts : (p : Play) → UnderCard B p → Acts noCell (B .begins) (nextCell B) g (B .action) p
+  unfolding UnderCard Acts
+  card-acts (begin i o) u = tt
+  card-acts (more p a i o) u = (card-acts p (u .0), u .1 ∙ memory-action (seen p))
+
+  acts-card : (p : Play) → Acts noCell (B .begins) (nextCell B) g (B .action) p → UnderCard B p
+  unfolding UnderCard Acts
+  acts-card (begin i o) u = tt
+  acts-card (more p a i o) u = (acts-card p (u .0), u .1 ∙ sym (memory-action (seen p)))
+
+  covering-keeps : (p : Play) → PlayOf g p → UnderCard B p → Keeps g B p
   unfolding In actionAfter
-  follows-memory ρ f h j i w =
-      let e = memory-cell B h in
-      f h (C .gives (cellAfter B h) (subst (λ (c : ℕ). c < B .size) e (w .0))) ∙ ap (B .action) (sym e)
+  covering-keeps p played under =
+      let w : In 1 (memory noCell (B .begins) (nextCell B) (seen p)) (last p) =
+      holds-on noCell (B .begins) (nextCell B) g (B .action) In in-survives in-moves (rounds p) (in-begins (rounds p)) p played (card-acts p under) 1 (omega arith) in
+      let v : In 1 (cellAfter B (seen p)) (last p) = subst (λ (c : ℕ). In 1 c (last p)) (memory-cell B (seen p)) w in
+      let s = C .survives (cellAfter B (seen p)) (last p) (v .0) (v .1) in
+      record {
+        cell-below = v .0;
+        held = v .1;
+        not-bad = s .0;
+        action-below = C .gives (cellAfter B (seen p)) (v .0);
+        action-enabled = s .1;
+      }
 
   legal-pick : ℕ → ℕ
   legal-pick a = cond (ltb a (g .actions)) a 0
@@ -83,18 +109,19 @@ module _ (g : Game) (A : Accepted g) (B : Automaton) (C : Covers g B) where
       (λ h. subst (λ (b : Bool). cond b a 0 < g .actions) (sym h) (A .some-action)) (decided (ltb a (g .actions)))
 
   pub covering-wins : Second g B
-  unfolding In actionAfter legal-pick
+  unfolding legal-pick
   covering-wins =
       record {
-        strategy = record { pick = λ h. legal-pick (actionAfter B h); legal = λ h. pick-legal (actionAfter B h) };
-        follows = λ h l. ap (λ (b : Bool). cond b (actionAfter B h) 0) (lt-ltb (actionAfter B h) (g .actions) l);
-        clear = λ ρ f k.
-            memory-lasts noCell (B .begins) (B .next) g (B .action) In in-survives in-moves k (in-begins k) ρ (follows-memory ρ f);
-        keeps = λ ρ f p played under.
-            let w : In 1 (memory noCell (B .begins) (B .next) (seen p)) (last p) =
-            holds-on noCell (B .begins) (B .next) g (B .action) In in-survives in-moves (rounds p) (in-begins (rounds p)) ρ (follows-memory ρ f) p played under 1 (omega arith) in
-            let v : In 1 (cellAfter B (seen p)) (last p) = subst (λ (c : ℕ). In 1 c (last p)) (memory-cell B (seen p)) w in
-            record { cell-below = v .0; held = v .1; action-below = C .gives (cellAfter B (seen p)) (v .0) };
+        keeps = covering-keeps;
+        strategy = (
+          record { pick = λ h. legal-pick (actionAfter B h); legal = λ h. pick-legal (actionAfter B h) },
+          λ p played under.
+              let a = actionAfter B (seen p) in
+              ap (λ (b : Bool). cond b a 0) (lt-ltb a (g .actions) (covering-keeps p played under .action-below)),
+        );
+        clear = λ ρ agrees k.
+            memory-lasts noCell (B .begins) (nextCell B) g (B .action) In in-survives in-moves k (in-begins k) ρ
+            (λ p played acts. agrees p played (acts-card p acts) ∙ memory-action (seen p));
       }
 
 module _ (g : Game) (A : Accepted g) where
@@ -118,8 +145,8 @@ module _ (g : Game) (A : Accepted g) where
 
   start-held : startsIn g (settled g) ≡ true → (i o : ℕ) → member (g .start) i ≡ true → Shows g i o → Held (cells g) (startSet g o) i
   start-held won i o m shows =
-      held-by (cells g) (startSet g o) i
-      (cells-hold g A (startSet g o) (start-below g A o) ∙ starts-at g A (settled g) won o (shows .0)) (start-member g A i o m shows)
+      let w = start-member g i o m shows in
+      held-by (cells g) (startSet g o) i (cells-hold g A (startSet g o) (start-below g A o) ∙ starts-at g (settled g) won o (w .0)) (w .1)
 
   pub card-covers : startsIn g (settled g) ≡ true → Covers g (card g)
   unfolding card chosen

@@ -4,7 +4,7 @@ use mathlib.Core.Path.{_≡_}
 use mathlib.Core.Bool.{Bool, true, false, cond}
 use mathlib.Core.List.{List, [], _∷_}
 use Prim.Native.Nat.{ℕ, _-_}
-use lib.Dec.{eqb}
+use lib.Dec.{eqb, ltb}
 use lib.ListN.{length, getD}
 use Rattle.sets.specs.Mask.{subset}
 use Rattle.sets.specs.Bounded.{first, orElse}
@@ -25,10 +25,14 @@ pub record Automaton : Type 0 where
   pub begins : ℕ → ℕ
   pub next : ℕ → ℕ → ℕ
 
+-- the cell that an observation leads to; from no cell it leads to none
+unfoldable pub nextCell : Automaton → (cell observation : ℕ) → ℕ
+nextCell A c o = cond (ltb c (A .size)) (A .next c o) noCell
+
 -- the cell that it is in after the observations: from a cell, and from the opening
 unfoldable pub cellFrom : Automaton → ℕ → List ℕ → ℕ
 cellFrom A c [] = c
-cellFrom A c (o ∷ h) = cellFrom A (A .next c o) h
+cellFrom A c (o ∷ h) = cellFrom A (nextCell A c o) h
 
 unfoldable pub cellAfter : Automaton → List ℕ → ℕ
 cellAfter A [] = noCell

@@ -1,4 +1,7 @@
 pub mod Format
+pub mod Answers
+pub mod Fields
+pub mod Places
 pub mod Game
 pub mod Play
 pub mod Step

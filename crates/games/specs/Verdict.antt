@@ -11,7 +11,7 @@ use Rattle.games.specs.Game.{Game}
 use Rattle.games.specs.Step.{good, antichain, settling}
 
 -- the sets before the first action, and their number: for each observation, the start states showing it
-abbrev pub startSets : Game → ℕ
+unfoldable pub startSets : Game → ℕ
 startSets g = g .observations
 
 unfoldable pub startSet : Game → ℕ → ℕ

@@ -1,9 +1,12 @@
-// What document 01's tables and cards have in common: its four columns of numbers, its limits, and the fields of a word.
+// What document 01's tables and cards have in common: its four columns of numbers, the answers of checks and writers, its limits, the
+// fields of a word, the places of a table's words and the lengths of a card's parts.
 // Limits, bit positions and kinds stand here alone, and for the definitions in specs/Format.antt.
 ghost use mathlib.Core.Path.{_≡_};
-ghost use Prim.Native.Nat.{_<_};
-ghost use Rattle.games.specs.Format.{within as isWithin, lowValues, numberValues, actionValues, kindValues};
-ghost use Rattle.games.specs.Words.{lowField, numberField, actionField, word as wordOf};
+ghost use Prim.Native.Nat.{_<_, _≤_};
+ghost use Rattle.games.specs.Format.{within as isWithin, lowValues, numberValues, actionValues, kindValues, headValues};
+ghost use Rattle.games.specs.Fields.{lowField, numberField, actionField, word as wordOf};
+ghost use Rattle.games.specs.Places.{maxPlace, shapeOf, placeAt, placeOf, movesPlace, tableLength};
+ghost use Rattle.games.specs.Words.{frontLength, partLength, cardLength};
 
 // Document 01's four columns: state, action, reading and cell numbers. One can't be passed as another.
 pub struct State(pub u32);
@@ -13,6 +16,18 @@ pub struct Action(pub u32);
 pub struct Observation(pub u32);
 
 pub struct Cell(pub u32);
+
+// What a check answers: fine, or a refusal's number and place.
+pub enum Checked {
+    Fine,
+    Refused(u32, usize),
+}
+
+// What a writer answers: how many words stand in front of the buffer, or a refusal's number and place.
+pub enum Written {
+    Words(usize),
+    Refused(u32, usize),
+}
 
 // The most states, actions and observations.
 pub const MAX_STATES: u32 = 12;
@@ -102,4 +117,106 @@ pub fn word(kind: u32, low: u32, number: u32, action: u32) -> u32
     ensures { λ r. ⌜ r ≡ wordOf kind low number action ⌝ }
 {
     kind * KIND_AT + action * ACTION_AT + number * NUMBER_AT + low
+}
+
+// The numbers of a table's head: states, actions and observations.
+pub struct Shape {
+    pub states: u32,
+    pub actions: u32,
+    pub observations: u32,
+}
+
+pub fn shape_of(head: u32) -> Shape
+    ensures { λ r. ⌜ r ≡ shapeOf head ⌝ }
+{
+    Shape {
+        states: head % HEAD_VALUES,
+        actions: head / HEAD_ACTIONS_AT % HEAD_VALUES,
+        observations: head / HEAD_OBSERVATIONS_AT % HEAD_VALUES,
+    }
+}
+
+// What stands at a place of a table behind its head: the start set, the bad set, the states that show an observation, the
+// successors that an action gives a state.
+pub enum Place {
+    Start,
+    Bad,
+    Shown(Observation),
+    Move(Action, State),
+}
+
+// The places of the start set and of the bad set, and where the observations' sets begin.
+const START_PLACE: usize = 1;
+
+const BAD_PLACE: usize = 2;
+
+const SHOWN_PLACE: usize = 3;
+
+// Where the moves begin.
+fn moves_place(s: Shape) -> usize
+    ensures { λ r. ⌜ r ≡ movesPlace s ⌝ }
+{
+    SHOWN_PLACE + s.observations as usize
+}
+
+// What stands at a place.
+pub fn place_at(s: Shape, p: usize) -> Place
+    requires { ⌜ (1 ≤ s .states) × (1 ≤ p) × (p < maxPlace) ⌝ }
+    ensures { λ r. ⌜ r ≡ placeAt s p ⌝ }
+{
+    if p == START_PLACE {
+        return Place::Start;
+    }
+    if p == BAD_PLACE {
+        return Place::Bad;
+    }
+    let from = moves_place(s);
+    if p < from {
+        return Place::Shown(Observation((p - SHOWN_PLACE) as u32));
+    }
+    let slot = (p - from) as u32;
+    Place::Move(Action(slot / s.states), State(slot % s.states))
+}
+
+// Where it stands.
+pub fn place_of(s: Shape, x: Place) -> usize
+    requires { ⌜ s .states < headValues ⌝ }
+    ensures { λ r. ⌜ r ≡ placeOf s x ⌝ }
+{
+    match x {
+        Place::Start => START_PLACE,
+        Place::Bad => BAD_PLACE,
+        Place::Shown(seen) => SHOWN_PLACE + seen.0 as usize,
+        Place::Move(a, i) => moves_place(s) + a.0 as usize * s.states as usize + i.0 as usize,
+    }
+}
+
+// The words of a table.
+pub fn table_length(s: Shape) -> usize
+    requires { ⌜ s .states < headValues ⌝ }
+    ensures { λ r. ⌜ r ≡ tableLength s ⌝ }
+{
+    moves_place(s) + s.actions as usize * s.states as usize
+}
+
+// The words of a card's front, head and first words, for o observations.
+pub fn front_length(o: u32) -> usize
+    ensures { λ r. ⌜ r ≡ frontLength o ⌝ }
+{
+    1 + o as usize
+}
+
+// The words of a cell's part: its own and its next words.
+pub fn part_length(o: u32) -> usize
+    ensures { λ r. ⌜ r ≡ partLength o ⌝ }
+{
+    1 + o as usize
+}
+
+// The words of a card of m cells; for a cell's number, where its part begins.
+pub fn card_length(m: u32, o: u32) -> usize
+    requires { ⌜ (m ≤ lowValues) × (o < numberValues) ⌝ }
+    ensures { λ r. ⌜ r ≡ cardLength m o ⌝ }
+{
+    front_length(o) + m as usize * part_length(o)
 }

@@ -10,13 +10,13 @@ use lib.Dec.{ltb}
 use lib.ListN.{length, getD, List·getD-eq-default}
 use borrow.Author.Tests.{ltb-true, ltb-false}
 use Rattle.sets.specs.Mask.{member}
-use Rattle.sets.specs.Family.{holds, maximal, join, meet}
+use Rattle.sets.specs.Family.{holds, maximal}
 use Rattle.sets.proofs.Logic.{decided, and-left, and-right, and-intro, or-cases, or-left, or-right}
 use Rattle.sets.proofs.Mask.{member-and, member-or}
 use Rattle.sets.proofs.Family.{DownBelow, Within, holds-down, maximal-ext, join-maximal, meet-maximal}
 use Rattle.families.specs.Bits.{laneSets, has, Bits, Closed}
 use Rattle.families.proofs.Closing.{bits-closed}
-use Rattle.lists.specs.Merging.{gathered, Merged, held, Masks}
+use Rattle.lists.specs.Merging.{gathered, Merged, held, combined, Masks}
 
 -- the word is that of the two families at the place
 abbrev pub Merges : Bool → List ℕ → List ℕ → ℕ → ℕ → Type 0
@@ -39,7 +39,7 @@ held-down n false k l s t h f c =
     ⊎-elim (λ a. or-left (holds l t) (holds-down k s t a c)) (λ a. or-right (holds k t) (holds-down l s t a c)) (or-cases (holds k s) (holds l s) f)
 
 -- the maximal sets of what is held are the result
-held-maximal : (n : ℕ) (m : Bool) (k l : List ℕ) → Within n k → Within n l → maximal n (held m k l) ≡ cond m (meet n) (join n) k l
+held-maximal : (n : ℕ) (m : Bool) (k l : List ℕ) → Within n k → Within n l → maximal n (held m k l) ≡ combined m n k l
 held-maximal n true k l bk bl = sym (meet-maximal n k l bk bl)
 held-maximal n false k l bk bl = sym (join-maximal n k l bk bl)
 
@@ -73,5 +73,5 @@ module _ (n : ℕ) (m : Bool) (k l r : List ℕ) (b : Bits n (held m k l) r) (w 
   held-closed = bits-closed n (held m k l) r (w .width) b (held-down n m k l)
 
   -- and their maximal sets are the result
-  pub held-result : maximal n (has r) ≡ cond m (meet n) (join n) k l
+  pub held-result : maximal n (has r) ≡ combined m n k l
   held-result = maximal-ext n (has r) (held m k l) (b .at) ∙ held-maximal n m k l (w .first) (w .second)

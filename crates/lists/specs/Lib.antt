@@ -1,4 +1,3 @@
 pub mod Lists
 pub mod Plain
 pub mod Merging
-pub mod Checks

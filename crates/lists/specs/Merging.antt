@@ -6,7 +6,7 @@ use mathlib.Core.List.{List, List·Memᴰ}
 use Prim.Native.Nat.{ℕ, _^_, _≤_, _<_}
 use lib.ListN.{length, getD}
 use Rattle.sets.specs.Mask.{common, union}
-use Rattle.sets.specs.Family.{Family, holds}
+use Rattle.sets.specs.Family.{Family, holds, join as joinOf, meet as meetOf}
 use Rattle.games.specs.Format.{maxStates}
 
 -- the sets of both words for meet, of either for join
@@ -21,6 +21,10 @@ pub record Merged (meet : Bool) (a b r : List ℕ) : Type 0 where
 -- the sets that both lists hold for meet, that either holds for join
 abbrev pub held : Bool → List ℕ → List ℕ → Family
 held meet k l s = cond meet (holds k s && holds l s) (holds k s || holds l s)
+
+-- the list made of two: their meet or their join
+abbrev pub combined : Bool → ℕ → List ℕ → List ℕ → List ℕ
+combined meet n = cond meet (meetOf n) (joinOf n)
 
 -- the lists have only masks of n states
 pub record Masks (n : ℕ) (k l : List ℕ) : Type 0 where

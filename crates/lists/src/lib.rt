@@ -1,35 +1,15 @@
 // Join and meet of two lists of sets (document 01, "Lists").
 ghost use mathlib.Core.Path.{_≡_};
-ghost use mathlib.Core.Bool.{cond};
 ghost use Prim.Native.Nat.{ℕ, _≤_};
 ghost use lib.ListN.{length, take};
-ghost use Rattle.sets.specs.Family.{join as joinOf, meet as meetOf};
 ghost use Rattle.families.specs.Bits.{maxLanes, lanes, sets, Bits};
-ghost use Rattle.lists.specs.Lists.{leaves, fitted, outcome, joined, met};
+ghost use Rattle.games.specs.Answers.{leaves};
+ghost use Rattle.games.specs.declared.Written.the-variants.{Words};
+ghost use Rattle.lists.specs.Lists.{fitted, outcome, joined, met};
 ghost use Rattle.lists.specs.Plain.{OfEither, OfBoth, MaximalOf};
-ghost use Rattle.lists.specs.Merging.{gathered, Merged, held, Masks};
-ghost use Rattle.lists.specs.Checks.{firstBeyond};
+ghost use Rattle.lists.specs.Merging.{gathered, Merged, held, combined, Masks};
 use games::MAX_STATES;
-
-// The length of the result, which stands in front of `out`; or a refusal's number and place.
-pub enum Answer {
-    Words(usize),
-    Refused(u32, usize),
-}
-
-// The index of the first mask that is `end` or more; the length where there is none.
-fn first_beyond(list: &[u32], end: u32) -> usize
-    ensures { λ r. ⌜ r ≡ firstBeyond (now (list .entry)) end ⌝ }
-{
-    let mut i = 0;
-    while i < list.len() {
-        if end <= list[i] {
-            return i;
-        }
-        i += 1;
-    }
-    i
-}
+use games::Written;
 
 // The common part for meet, the union for join.
 fn gather(meet: bool, a: u64, b: u64) -> u64
@@ -61,15 +41,15 @@ fn hold(meet: bool, n: u32, first: &[u32], second: &[u32], a: &mut [u64], b: &mu
 }
 
 // The sets in front of `out`, ascending; refused where there are more than places.
-fn fit(bits: &[u64], out: &mut [u32]) -> Answer
+fn fit(bits: &[u64], out: &mut [u32]) -> Written
     requires { ⌜ length (now bits) ≤ maxLanes ⌝ }
     ensures { λ r. ⌜ leaves r (now (out .exit)) ≡ fitted (sets (now (bits .entry))) (now (out .entry)) ⌝ }
 {
     let words = families::size(bits);
     if out.len() < words {
-        return Answer::Refused(15, words);
+        return Written::Refused(15, words);
     }
-    Answer::Words(families::write(bits, out))
+    Written::Words(families::write(bits, out))
 }
 
 // The result in front of `out`, where it fits. `a` and `b` are work room.
@@ -81,9 +61,9 @@ fn find(
     a: &mut [u64],
     b: &mut [u64],
     out: &mut [u32],
-) -> Answer
+) -> Written
     requires { ⌜ Masks n (now first) (now second) × (length (now a) ≡ lanes n) × (length (now b) ≡ lanes n) ⌝ }
-    ensures { λ r. ⌜ leaves r (now (out .exit)) ≡ fitted (cond meet (meetOf n) (joinOf n) (now (first .entry)) (now (second .entry))) (now (out .entry)) ⌝ }
+    ensures { λ r. ⌜ leaves r (now (out .exit)) ≡ fitted (combined meet n (now (first .entry)) (now (second .entry))) (now (out .entry)) ⌝ }
 {
     hold(meet, n, first, second, a, b);
     families::maximal_bits(a, n, b);
@@ -91,9 +71,9 @@ fn find(
 }
 
 // The same, with its work room.
-fn deliver(meet: bool, n: u32, first: &[u32], second: &[u32], out: &mut [u32]) -> Answer
+fn deliver(meet: bool, n: u32, first: &[u32], second: &[u32], out: &mut [u32]) -> Written
     requires { ⌜ Masks n (now first) (now second) ⌝ }
-    ensures { λ r. ⌜ leaves r (now (out .exit)) ≡ fitted (cond meet (meetOf n) (joinOf n) (now (first .entry)) (now (second .entry))) (now (out .entry)) ⌝ }
+    ensures { λ r. ⌜ leaves r (now (out .exit)) ≡ fitted (combined meet n (now (first .entry)) (now (second .entry))) (now (out .entry)) ⌝ }
 {
     let end = families::lane_count(n);
     let mut a = [0u64; families::MAX_LANES];
@@ -102,36 +82,38 @@ fn deliver(meet: bool, n: u32, first: &[u32], second: &[u32], out: &mut [u32]) -
 }
 
 // Join or meet: checks, then the result.
-fn combine(meet: bool, n: u32, first: &[u32], second: &[u32], out: &mut [u32]) -> Answer
-    ensures { λ r. ⌜ leaves r (now (out .exit)) ≡ outcome (cond meet (meetOf n) (joinOf n)) n (now (first .entry)) (now (second .entry)) (now (out .entry)) ⌝ }
+fn combine(meet: bool, n: u32, first: &[u32], second: &[u32], out: &mut [u32]) -> Written
+    ensures { λ r. ⌜ leaves r (now (out .exit)) ≡ outcome (combined meet n) n (now (first .entry)) (now (second .entry)) (now (out .entry)) ⌝ }
 {
     if !games::within(n, MAX_STATES) {
-        return Answer::Refused(2, 0);
+        return Written::Refused(2, 0);
     }
     let end = sets::single(n);
-    let i = first_beyond(first, end);
+    let i = sets::first_from(first, 0, end);
     if i < first.len() {
-        return Answer::Refused(5, i);
+        return Written::Refused(5, i);
     }
-    let j = first_beyond(second, end);
+    let j = sets::first_from(second, 0, end);
     if j < second.len() {
-        return Answer::Refused(5, first.len() + j);
+        return Written::Refused(5, first.len() + j);
     }
     deliver(meet, n, first, second, out)
 }
 
 // The maximal sets of both lists.
-pub fn join(n: u32, first: &[u32], second: &[u32], out: &mut [u32]) -> Answer
+pub fn join(n: u32, first: &[u32], second: &[u32], out: &mut [u32]) -> Written
     ensures { λ r. ⌜ leaves r (now (out .exit)) ≡ joined n (now (first .entry)) (now (second .entry)) (now (out .entry)) ⌝ }
-    ensures plain { λ r. ⌜ ((w : ℕ) → r ≡ Answer.Words w → MaximalOf (OfEither (now (first .entry)) (now (second .entry))) (take w (now (out .exit)))) ⌝ }
+    ensures plain { λ r. ⌜ ((w : ℕ) → r ≡ Words w
+        → MaximalOf (OfEither (now (first .entry)) (now (second .entry))) (take w (now (out .exit)))) ⌝ }
 {
     combine(false, n, first, second, out)
 }
 
 // The maximal common parts of one set from each list.
-pub fn meet(n: u32, first: &[u32], second: &[u32], out: &mut [u32]) -> Answer
+pub fn meet(n: u32, first: &[u32], second: &[u32], out: &mut [u32]) -> Written
     ensures { λ r. ⌜ leaves r (now (out .exit)) ≡ met n (now (first .entry)) (now (second .entry)) (now (out .entry)) ⌝ }
-    ensures plain { λ r. ⌜ ((w : ℕ) → r ≡ Answer.Words w → MaximalOf (OfBoth (now (first .entry)) (now (second .entry))) (take w (now (out .exit)))) ⌝ }
+    ensures plain { λ r. ⌜ ((w : ℕ) → r ≡ Words w
+        → MaximalOf (OfBoth (now (first .entry)) (now (second .entry))) (take w (now (out .exit)))) ⌝ }
 {
     combine(true, n, first, second, out)
 }

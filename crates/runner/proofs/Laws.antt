@@ -2,6 +2,7 @@
 -- Assumes nothing.
 use mathlib.Core.Path.{_≡_, refl, sym, ap, ap₂, subst, _∙_}
 use mathlib.Core.Logic.{_⊎_, inl, inr, ⊎-elim}
+use mathlib.Core.Bool.{Bool, cond}
 use mathlib.Core.List.{List}
 use Prim.Native.Nat.{ℕ, zero, suc, _+_, _≤_, _<_}
 use native.Mathlib.Nat.{not-suc-le-zero, eq-or-lt-of-le, le-of-suc-le-suc}
@@ -9,25 +10,36 @@ use native.Mathlib.Numerals.{add-one}
 use native.Mathlib.Omega.{arith}
 use lib.ListN.{length, getD, take, set}
 use borrow.Author.Tests.{eq-eqb, ne-eqb, lt-ltb, le-ltb}
+use Rattle.games.specs.Answers.{Leaves, leaves}
 use Rattle.games.specs.declared.Cell.{Cell}
 use Rattle.games.specs.declared.Action.{Action}
-use Rattle.tables.specs.Fields.{filledBy}
-use Rattle.tables.proofs.Fills.{filled-none, filled-more, length-filled}
+use Rattle.sets.proofs.Fills.{filled-none, filled-more, length-filled}
 use Rattle.cards.specs.declared.Move.{Move}
 use Rattle.cards.specs.declared.Move.the-variants.{Entered, Refused}
-use Rattle.cards.specs.Run.{entered, opened, stepped, moved, ran}
+use Rattle.games.specs.declared.Checked.the-variants.{Fine, Refused as Wrong}
+use Rattle.cards.specs.Card.{automaton, cardObservations, checked}
+use Rattle.cards.specs.Run.{entered, begun, followed, opened, stepped, moved, ran}
+use Rattle.cards.proofs.Running.{opened-fine, stepped-fine}
 use Rattle.cards.proofs.Runs.{moved-entered, ran-take-one, ran-take-more}
 use Rattle.runner.specs.declared.Ran.{Ran}
 use Rattle.runner.specs.declared.Ran.the-variants.{Done, Refused as Stopped}
-use Rattle.runner.specs.Runs.{moveAt, moveOn, actionOf, further, ranUpTo, leaves, writes, ranInto}
+use Rattle.runner.specs.Runs.{moveAt, moveOn, actionOf, further, ranUpTo, withActions, Writable, written, writes, ranInto}
 
 -- ---- the next move, by the observations taken
 
-pub opens : (w : List ℕ) (i c j : ℕ) {m : Move} → i ≡ 0 → m ≡ opened w j → m ≡ moveOn w i c j
+opens : (w : List ℕ) (i c j : ℕ) {m : Move} → i ≡ 0 → m ≡ opened w j → m ≡ moveOn w i c j
 opens w i c j e f = rw (eq-eqb i 0 e) f
 
-pub steps : (w : List ℕ) (i c j : ℕ) {m : Move} → (i ≡ 0 → ⊥) → m ≡ stepped w c j → m ≡ moveOn w i c j
+steps : (w : List ℕ) (i c j : ℕ) {m : Move} → (i ≡ 0 → ⊥) → m ≡ stepped w c j → m ≡ moveOn w i c j
 steps w i c j n f = rw (ne-eqb i 0 n) f
+
+-- the same on a checked card
+module _ (w : List ℕ) (i c j : ℕ) {m : Move} (fine : checked w ≡ Fine) where
+  pub opens-fine : i ≡ 0 → m ≡ begun (automaton w) (cardObservations w) j → m ≡ moveOn w i c j
+  opens-fine e f = opens w i c j e (f ∙ sym (opened-fine w j fine))
+
+  pub steps-fine : (i ≡ 0 → ⊥) → m ≡ followed (automaton w) (cardObservations w) c j → m ≡ moveOn w i c j
+  steps-fine n f = steps w i c j n (f ∙ sym (stepped-fine w c j fine))
 
 further-done : (r : Ran) (m : Move) (j : ℕ) → further r m ≡ Done j → (i : ℕ) × (r ≡ Done i) × (j ≡ i + 1)
 further-done (Done i) (Entered c a) j e = (i, refl, (cc))
@@ -112,14 +124,11 @@ module _ (w h : List ℕ) where
       let d = further-done (ranUpTo w h k) (moveAt w h k) j e in
       d .2 ∙ ap (λ (n : ℕ). n + 1) (done-all k (d .0) (d .1)) ∙ add-one k
 
-  pub taken-all : (k j : ℕ) → ranUpTo w h k ≡ Done j → ranUpTo w h k ≡ Done k
-  taken-all k j e = e ∙ ap Done (done-all k j e)
-
   -- ---- what is written
 
   pub record Wrote (d₀ d : List ℕ) (i c : ℕ) : Type 0 where
     pub at : At i c
-    pub front : d ≡ filledBy i actionAt d₀
+    pub front : d ≡ withActions w h i d₀
 
   pub wrote-none : (d : List ℕ) (c : ℕ) → Wrote d d 0 c
   wrote-none d c = record { at = at-none c; front = filled-none actionAt d }
@@ -134,28 +143,46 @@ module _ (w h : List ℕ) where
       front = ap₂ (λ (x : List ℕ) (v : ℕ). set x i v) (s .front) (action-is i c (s .at) l r a e) ∙ filled-more actionAt i d₀ (omega arith);
     }
 
-    pub wrote-all : length h ≤ i → d ≡ filledBy (length h) actionAt d₀
+    pub wrote-all : length h ≤ i → d ≡ withActions w h (length h) d₀
     wrote-all l =
         let e : i ≡ length h = omega (arith, s .at .within) in
-        subst (λ (n : ℕ). d ≡ filledBy n actionAt d₀) e (s .front)
+        subst (λ (n : ℕ). d ≡ withActions w h n d₀) e (s .front)
 
   -- ---- the outcome
 
   module _ (d : List ℕ) where
-    pub too-short : length d < length h → leaves (Stopped 15 (length h) 0) d ≡ ranInto w h d
+    pub run-refused : (number place i : ℕ) → ranUpTo w h (length h) ≡ Stopped number place i → leaves (Stopped number place i) d ≡ writes w h d
+    unfolding writes
+    run-refused number place i e = sym (ap (written w h d) e)
+
+    -- a run that took k observations, by whether there is room
+    room-for : ℕ → Bool → Leaves Ran (List ℕ)
+    room-for k b = cond b (leaves (Stopped 15 k k) d) (leaves (Done k) (withActions w h k d))
+
+    pub run-short : (k : ℕ) → ranUpTo w h (length h) ≡ Done k → length d < k → leaves (Stopped 15 k k) d ≡ writes w h d
+    unfolding writes room-for
+    run-short k e l = sym (ap (written w h d) e ∙ ap (room-for k) (lt-ltb (length d) k l))
+
+    pub run-done : (k : ℕ) (o : List ℕ) → ranUpTo w h (length h) ≡ Done k → k ≤ length d → o ≡ withActions w h (length h) d → leaves (Done k) o ≡ writes w h d
+    unfolding writes room-for
+    run-done k o e l f =
+        sym (ap (written w h d) e ∙ ap (room-for k) (le-ltb (length d) k l)
+        ∙ ap (λ (n : ℕ). leaves (Done k) (withActions w h n d)) (done-all (length h) k e)
+        ∙ ap (leaves (Done k)) (sym f))
+
+    -- the pass that writes may come
+    pub writable : (k : ℕ) → checked w ≡ Fine → ranUpTo w h (length h) ≡ Done k → k ≤ length d → Writable w h d
+    writable k c e l = record {
+      right = c;
+      taken = e ∙ ap Done (done-all (length h) k e);
+      room = subst (λ (n : ℕ). n ≤ length d) (done-all (length h) k e) l;
+    }
+
+    -- the card is checked first
+    pub into-wrong : (number place : ℕ) → checked w ≡ Wrong number place → ranInto w h d ≡ leaves (Stopped number place 0) d
     unfolding ranInto
-    too-short l = rw (ranInto, lt-ltb (length d) (length h) l)
+    into-wrong number place e = rw (ranInto, e)
 
-    module _ (room : length h ≤ length d) where
-      pub fits : ranInto w h d ≡ writes w h d (ranUpTo w h (length h))
-      unfolding ranInto
-      fits = rw (ranInto, le-ltb (length d) (length h) room)
-
-      pub run-refused : (number place i : ℕ) → ranUpTo w h (length h) ≡ Stopped number place i → leaves (Stopped number place i) d ≡ ranInto w h d
-      run-refused number place i e = sym (fits ∙ ap (writes w h d) e)
-
-      pub run-done : (k : ℕ) (o : List ℕ) → ranUpTo w h (length h) ≡ Done k → o ≡ filledBy (length h) actionAt d → leaves (Done k) o ≡ ranInto w h d
-      run-done k o e f =
-          sym (fits ∙ ap (writes w h d) e
-          ∙ ap (λ (n : ℕ). leaves (Done k) (filledBy n actionAt d)) (done-all (length h) k e)
-          ∙ ap (leaves (Done k)) (sym f))
+    pub into-fine : checked w ≡ Fine → ranInto w h d ≡ writes w h d
+    unfolding ranInto
+    into-fine e = rw (ranInto, e)

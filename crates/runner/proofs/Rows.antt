@@ -5,11 +5,14 @@ use mathlib.Core.List.{List, [], _∷_}
 use Prim.Native.Nat.{ℕ}
 use lib.ListN.{set}
 use Rattle.sets.specs.Bounded.{first, gather}
+use Rattle.games.specs.Answers.{Leaves, leaves}
 use Rattle.cards.specs.Card.{automaton, headFits, cellNamed, cellFits, partFits, wordFits, wordsChecked, checked}
-use Rattle.cards.specs.Run.{entered, enters, begun, followed, opened, stepped, moved, ranFrom, ran}
+use Rattle.cards.specs.Run.{entered, enters, begun, followed, opened, stepped, moved, ranFrom, ran, stands}
+use Rattle.cards.specs.declared.Stood.{Stood}
 use Rattle.cards.specs.declared.Move.the-variants.{Refused}
+use Rattle.runner.specs.declared.Ran.{Ran}
 use Rattle.runner.specs.declared.Ran.the-variants.{Done, Refused as Stopped}
-use Rattle.runner.specs.Runs.{Standing, stands, standingFrom, standing, ranUpTo, Outcome, leaves, ranInto}
+use Rattle.runner.specs.Runs.{standingFrom, standing, ranUpTo, writes, ranInto}
 
 abbrev cardA : List ℕ
 cardA = 0x8021_0002 ∷ 0x9000_0000 ∷ 0xa000_0001 ∷ 0xb000_0001 ∷ 0xa010_0002 ∷ 0xb000_0000 ∷ []
@@ -19,11 +22,11 @@ cardC = 0x8022_0002 ∷ 0x9000_0000 ∷ 0x9001_0001 ∷ 0xa000_0001 ∷ 0xb000_f
 
 -- a card and observations; the buffer, and how the run leaves it; the runner
 abbrev pub Row : Type 0
-Row = record { card : List ℕ; seen : List ℕ; out : List ℕ; run : Outcome; runner : Standing }
+Row = record { card : List ℕ; seen : List ℕ; out : List ℕ; run : Leaves Ran (List ℕ); runner : Stood }
 
 pub data Rows : List Row → Type 0 where
   none : Rows []
-  row : {w h d : List ℕ} {r : Outcome} {s : Standing} {l : List Row} → ranInto w h d ≡ r → standing w h ≡ s → Rows l → Rows (record { card = w; seen = h; out = d; run = r; runner = s } ∷ l)
+  row : {w h d : List ℕ} {r : Leaves Ran (List ℕ)} {s : Stood} {l : List Row} → ranInto w h d ≡ r → standing w h ≡ s → Rows l → Rows (record { card = w; seen = h; out = d; run = r; runner = s } ∷ l)
 
 -- the buffer of each row
 abbrev room : List ℕ
@@ -41,10 +44,19 @@ rows =
     -- a refused opening: the step after it is refused too
     ∷ record { card = cardC; seen = 2 ∷ 0 ∷ []; out = room; run = leaves (Stopped 12 2 0) room; runner = stands 65535 (Refused 12 65535) }
     ∷ record { card = set cardA 0 0x8021_0003; seen = 0 ∷ []; out = room; run = leaves (Stopped 13 6 0) room; runner = stands 65535 (Refused 13 6) }
-    -- five observations, four words
-    ∷ record { card = cardA; seen = 0 ∷ 0 ∷ 0 ∷ 0 ∷ 0 ∷ []; out = room; run = leaves (Stopped 15 5 0) room; runner = stands 0 (entered 0 0) }
+    -- a wrong card is told first, with no observation, and with a buffer that is short
+    ∷ record { card = set cardA 0 0x8021_0003; seen = []; out = room; run = leaves (Stopped 13 6 0) room; runner = stands 65535 (Refused 13 6) }
+    ∷ record { card = set cardA 0 0x8021_0003; seen = 0 ∷ 0 ∷ []; out = 9 ∷ []; run = leaves (Stopped 13 6 0) (9 ∷ []); runner = stands 65535 (Refused 13 6) }
+    -- no observation: nothing is taken
+    ∷ record { card = cardA; seen = []; out = []; run = leaves (Done 0) []; runner = stands 65535 (Refused 12 65535) }
+    -- a short buffer is told after the observations: here the second cannot occur
+    ∷ record { card = cardC; seen = 0 ∷ 0 ∷ 1 ∷ []; out = 9 ∷ 9 ∷ []; run = leaves (Stopped 14 0 1) (9 ∷ 9 ∷ []); runner = stands 1 (entered 1 1) }
+    -- five observations, four words: all were taken before
+    ∷ record { card = cardA; seen = 0 ∷ 0 ∷ 0 ∷ 0 ∷ 0 ∷ []; out = room; run = leaves (Stopped 15 5 5) room; runner = stands 0 (entered 0 0) }
     ∷ []
 
 pub every-row : Rows rows
-unfolding rows ranInto ranUpTo standing standingFrom ran ranFrom moved opened stepped begun followed enters automaton checked wordsChecked wordFits headFits cellNamed cellFits partFits first gather
-every-row = row refl refl (row refl refl (row refl refl (row refl refl (row refl refl (row refl refl (row refl refl none))))))
+unfolding rows ranInto writes ranUpTo standing standingFrom ran ranFrom moved opened stepped begun followed enters automaton checked wordsChecked wordFits headFits cellNamed cellFits partFits first gather
+every-row =
+    row refl refl (row refl refl (row refl refl (row refl refl (row refl refl (row refl refl
+    (row refl refl (row refl refl (row refl refl (row refl refl (row refl refl none))))))))))

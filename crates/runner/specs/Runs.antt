@@ -1,47 +1,32 @@
 -- What a runner does, and what a run over a list of observations answers and writes (document 01, "Entries": Run).
 -- Assumes nothing.
-use mathlib.Core.Bool.{Bool, cond}
+use mathlib.Core.Path.{_≡_}
+use mathlib.Core.Bool.{cond}
 use mathlib.Core.List.{List, [], _∷_}
-use Prim.Native.Nat.{ℕ, zero, suc, _+_}
+use Prim.Native.Nat.{ℕ, zero, suc, _+_, _≤_}
 use lib.Dec.{eqb, ltb}
 use lib.ListN.{length, take}
+use Rattle.sets.specs.Bounded.{filledBy}
+use Rattle.games.specs.Answers.{unless, Leaves, leaves}
+use Rattle.games.specs.declared.Checked.the-variants.{Fine}
 use Rattle.games.specs.Automaton.{noCell}
-use Rattle.tables.specs.Fields.{filledBy}
-use Rattle.cards.specs.Run.{opened, stepped, cellOr, ran}
+use Rattle.cards.specs.Card.{checked}
+use Rattle.cards.specs.Run.{opened, stepped, ran, stands, starts, advances}
+use Rattle.cards.specs.declared.Stood.{Stood}
 use Rattle.cards.specs.declared.Move.{Move}
 use Rattle.cards.specs.declared.Move.the-variants.{Entered, Refused}
-use Rattle.runner.specs.declared.Stood.{Stood}
 use Rattle.runner.specs.declared.Ran.{Ran}
 use Rattle.runner.specs.declared.Ran.the-variants.{Done, Refused as Stopped}
 
 -- ---- the runner
 
--- the cell that a runner is in, and its last answer
-pub record Standing : Type 0 where
-  pub cell : ℕ
-  pub answer : Move
-
-abbrev pub stands : ℕ → Move → Standing
-stands c m = record { cell = c; answer = m }
-
-abbrev pub stood : Stood → Standing
-stood s = stands (s .cell .0) (s .answer)
-
--- opened with the first observation; a refused opening gives cell 65,535
-abbrev pub starts : (card : List ℕ) (seen : ℕ) → Standing
-starts w j = stands (cellOr (opened w j) noCell) (opened w j)
-
--- moved from a cell by a later observation; a refused runner stays in its cell
-abbrev pub advances : (card : List ℕ) (cell seen : ℕ) → Standing
-advances w c j = stands (cellOr (stepped w c j) c) (stepped w c j)
-
 -- moved by a list of observations
-unfoldable pub standingFrom : (card : List ℕ) → Standing → List ℕ → Standing
+unfoldable pub standingFrom : (card : List ℕ) → Stood → List ℕ → Stood
 standingFrom w s [] = s
-standingFrom w s (j ∷ h) = standingFrom w (advances w (s .cell) j) h
+standingFrom w s (j ∷ h) = standingFrom w (advances w (s .cell .0) j) h
 
 -- opened with the first observation of a list and moved by the others; before the first it is in no cell, as `ran` has it
-unfoldable pub standing : (card seen : List ℕ) → Standing
+unfoldable pub standing : (card seen : List ℕ) → Stood
 standing w [] = stands noCell (ran w [])
 standing w (j ∷ h) = standingFrom w (starts w j) h
 
@@ -71,19 +56,25 @@ unfoldable pub ranUpTo : (card seen : List ℕ) → ℕ → Ran
 ranUpTo w h zero = Done 0
 ranUpTo w h (suc k) = further (ranUpTo w h k) (moveAt w h k)
 
--- the answer, and the buffer `out` as it is left
-pub record Outcome : Type 0 where
-  pub answer : Ran
-  pub out : List ℕ
+-- the actions after the first k observations, in front of the buffer
+abbrev pub withActions : (card seen : List ℕ) → ℕ → List ℕ → List ℕ
+withActions w h k d = filledBy k (λ i. actionOf (moveAt w h i)) d
 
-abbrev pub leaves : Ran → List ℕ → Outcome
-leaves r d = record { answer = r; out = d }
+-- what the pass that writes asks: the card is one, the run takes every observation, and there is a word for each
+pub record Writable (card seen out : List ℕ) : Type 0 where
+  pub right : checked card ≡ Fine
+  pub taken : ranUpTo card seen (length seen) ≡ Done (length seen)
+  pub room : length seen ≤ length out
 
--- where all are taken, their actions stand in front; a refusal leaves the buffer as it was
-abbrev pub writes : (card seen out : List ℕ) → Ran → Outcome
-writes w h d (Done k) = leaves (Done k) (filledBy k (λ i. actionOf (moveAt w h i)) d)
-writes w h d (Stopped number place i) = leaves (Stopped number place i) d
+-- a run that was not refused on the way: 15 where there is no word for each observation; else their actions stand in front
+abbrev pub written : (card seen out : List ℕ) → Ran → Leaves Ran (List ℕ)
+written w h d (Done k) = cond (ltb (length d) k) (leaves (Stopped 15 k k) d) (leaves (Done k) (withActions w h k d))
+written w h d (Stopped number place i) = leaves (Stopped number place i) d
 
--- 15: there is no word for each observation, and none is taken; else the run
-unfoldable pub ranInto : (card seen out : List ℕ) → Outcome
-ranInto w h d = cond (ltb (length d) (length h)) (leaves (Stopped 15 (length h) 0) d) (writes w h d (ranUpTo w h (length h)))
+-- the run of a checked card: 12 and 14 on the way, then 15
+unfoldable pub writes : (card seen out : List ℕ) → Leaves Ran (List ℕ)
+writes w h d = written w h d (ranUpTo w h (length h))
+
+-- 13 first, whatever the observations; a refusal leaves the buffer as it was
+unfoldable pub ranInto : (card seen out : List ℕ) → Leaves Ran (List ℕ)
+ranInto w h d = unless (checked w) (λ number place. leaves (Stopped number place 0) d) (writes w h d)

@@ -2,14 +2,17 @@
 // or has a local of a runner is proved by a walk of its MIR, by hand, so there are three: two over the covered steps of `cards`, and
 // `drive`, which has plain parameters and needs no walk in its callers. `run` needs no runner.
 use cards::Move;
+use cards::Stood;
 use games::Cell;
+use games::Checked;
 use games::Observation;
 ghost use mathlib.Core.Path.{_≡_};
 ghost use mathlib.Core.List.{[], _∷_};
-ghost use Prim.Native.Nat.{_≤_};
 ghost use lib.ListN.{length};
-ghost use Rattle.tables.specs.Fields.{filledBy};
-ghost use Rattle.runner.specs.Runs.{stands, starts, advances, stood, standing, moveAt, moveOn, actionOf, ranUpTo, leaves, ranInto};
+ghost use Rattle.games.specs.Answers.{leaves};
+ghost use Rattle.cards.specs.Card.{checked};
+ghost use Rattle.cards.specs.Run.{stands, starts, advances};
+ghost use Rattle.runner.specs.Runs.{standing, moveOn, ranUpTo, withActions, Writable, writes, ranInto};
 
 pub struct Runner<'c> {
     pub card: &'c [u32],
@@ -26,8 +29,9 @@ pub struct Opened<'c> {
 pub fn start<'c>(card: &'c [u32], seen: Observation) -> Opened<'c>
     ensures { λ r. ⌜ (r .runner .card ≡ card .entry) × (stands (r .runner .cell .0) (r .answer) ≡ starts (now (card .entry)) (seen .0)) ⌝ }
 {
-    let cell = cards::first_cell(card, seen);
-    let answer = cards::begin(card, seen);
+    let stood = cards::opening(card, seen);
+    let cell = stood.cell;
+    let answer = stood.answer;
     Opened {
         runner: Runner { card, cell },
         answer,
@@ -36,19 +40,12 @@ pub fn start<'c>(card: &'c [u32], seen: Observation) -> Opened<'c>
 
 // Moves a runner by a later observation. Refused: it stays in its cell.
 pub fn advance<'r, 'c>(r: &'r mut Runner<'c>, seen: Observation) -> Move
-    ensures { λ m. ⌜ (now (r .exit) .card ≡ now (r .entry) .card) × (stands (now (r .exit) .cell .0) m ≡ advances (now (now (r .entry) .card)) (now (r .entry) .cell .0) (seen .0)) ⌝ }
+    ensures { λ m. ⌜ (now (r .exit) .card ≡ now (r .entry) .card)
+        × (stands (now (r .exit) .cell .0) m ≡ advances (now (now (r .entry) .card)) (now (r .entry) .cell .0) (seen .0)) ⌝ }
 {
-    let card = r.card;
-    let cell = r.cell;
-    let answer = cards::step(card, cell, seen);
-    r.cell = cards::next_cell(card, cell, seen);
-    answer
-}
-
-// The cell that a runner is in, and its last answer.
-pub struct Stood {
-    pub cell: Cell,
-    pub answer: Move,
+    let stood = cards::moving(r.card, r.cell, seen);
+    r.cell = stood.cell;
+    stood.answer
 }
 
 // A runner after its first, second and third observation.
@@ -59,8 +56,11 @@ pub struct Driven {
 }
 
 // Opens a runner with the first observation and moves it by two more. A refused runner stays in its cell, and goes on from there.
+// It is a harness and no entry: the rows and the walk show by it that a runner lives in a local and is lent twice.
 pub fn drive(card: &[u32], first: Observation, second: Observation, third: Observation) -> Driven
-    ensures { λ r. ⌜ (stood (r .begun) ≡ standing (now (card .entry)) (first .0 ∷ [])) × (stood (r .moved) ≡ standing (now (card .entry)) (first .0 ∷ second .0 ∷ [])) × (stood (r .last) ≡ standing (now (card .entry)) (first .0 ∷ second .0 ∷ third .0 ∷ [])) ⌝ }
+    ensures { λ r. ⌜ (r .begun ≡ standing (now (card .entry)) (first .0 ∷ []))
+        × (r .moved ≡ standing (now (card .entry)) (first .0 ∷ second .0 ∷ []))
+        × (r .last ≡ standing (now (card .entry)) (first .0 ∷ second .0 ∷ third .0 ∷ [])) ⌝ }
 {
     let opened = start(card, first);
     let mut r = opened.runner;
@@ -87,19 +87,21 @@ pub enum Ran {
     Refused(u32, usize, usize),
 }
 
-// The move on the next observation; the first opens the card.
+// The move of a checked card on the next observation; the first opens it.
 fn move_on(card: &[u32], taken: usize, cell: Cell, seen: Observation) -> Move
+    requires { ⌜ checked (now card) ≡ Checked.Fine ⌝ }
     ensures { λ r. ⌜ r ≡ moveOn (now (card .entry)) taken (cell .0) (seen .0) ⌝ }
 {
     if taken == 0 {
-        cards::begin(card, seen)
+        cards::start(card, seen)
     } else {
-        cards::step(card, cell, seen)
+        cards::follow(card, cell, seen)
     }
 }
 
-// Runs the card and writes nothing: refusals 13, 12 and 14.
+// Runs a checked card and writes nothing: refusals 12 and 14.
 fn try_run(card: &[u32], seen: &[u32]) -> Ran
+    requires { ⌜ checked (now card) ≡ Checked.Fine ⌝ }
     ensures { λ r. ⌜ r ≡ ranUpTo (now (card .entry)) (now (seen .entry)) (length (now (seen .entry))) ⌝ }
 {
     let mut cell: u32 = games::NO_CELL;
@@ -118,8 +120,8 @@ fn try_run(card: &[u32], seen: &[u32]) -> Ran
 
 // The actions of a run that is not refused.
 fn write_actions(card: &[u32], seen: &[u32], out: &mut [u32])
-    requires { ⌜ (length (now seen) ≤ length (now out)) × (ranUpTo (now card) (now seen) (length (now seen)) ≡ Ran.Done (length (now seen))) ⌝ }
-    ensures { λ _. ⌜ now (out .exit) ≡ filledBy (length (now (seen .entry))) (λ i. actionOf (moveAt (now (card .entry)) (now (seen .entry)) i)) (now (out .entry)) ⌝ }
+    requires { ⌜ Writable (now card) (now seen) (now out) ⌝ }
+    ensures { λ _. ⌜ now (out .exit) ≡ withActions (now (card .entry)) (now (seen .entry)) (length (now (seen .entry))) (now (out .entry)) ⌝ }
 {
     let mut cell: u32 = games::NO_CELL;
     let mut i: usize = 0;
@@ -135,19 +137,30 @@ fn write_actions(card: &[u32], seen: &[u32], out: &mut [u32])
     }
 }
 
-// Runs a card over observations, and writes the action after each into the front of `out`. A refused run leaves `out` as it was.
-pub fn run(card: &[u32], seen: &[u32], out: &mut [u32]) -> Ran
-    ensures { λ r. ⌜ leaves r (now (out .exit)) ≡ ranInto (now (card .entry)) (now (seen .entry)) (now (out .entry)) ⌝ }
+// Runs a checked card: a first pass that writes nothing (12, 14), then 15, then the pass that writes.
+fn run_checked(card: &[u32], seen: &[u32], out: &mut [u32]) -> Ran
+    requires { ⌜ checked (now card) ≡ Checked.Fine ⌝ }
+    ensures { λ r. ⌜ leaves r (now (out .exit)) ≡ writes (now (card .entry)) (now (seen .entry)) (now (out .entry)) ⌝ }
 {
-    let words = seen.len();
-    if out.len() < words {
-        return Ran::Refused(15, words, 0);
-    }
     match try_run(card, seen) {
         Ran::Refused(number, place, taken) => Ran::Refused(number, place, taken),
         Ran::Done(taken) => {
+            if out.len() < taken {
+                return Ran::Refused(15, taken, taken);
+            }
             write_actions(card, seen, out);
             Ran::Done(taken)
         }
+    }
+}
+
+// Runs a card over observations, and writes the action after each into the front of `out`. The card is checked once, whatever the
+// observations. A refused run leaves `out` as it was.
+pub fn run(card: &[u32], seen: &[u32], out: &mut [u32]) -> Ran
+    ensures { λ r. ⌜ leaves r (now (out .exit)) ≡ ranInto (now (card .entry)) (now (seen .entry)) (now (out .entry)) ⌝ }
+{
+    match cards::check(card) {
+        Checked::Refused(number, place) => Ran::Refused(number, place, 0),
+        Checked::Fine => run_checked(card, seen, out),
     }
 }

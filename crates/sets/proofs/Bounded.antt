@@ -8,7 +8,7 @@ use Prim.Native.Nat.{ℕ, zero, suc, _+_, _≤_, _<_, zero-le}
 use native.Mathlib.Nat.{le-refl, le-step, le-trans, le-antisymm, le-of-suc-le-suc, lt-of-not-le, not-suc-le-zero, eq-or-lt-of-le}
 use native.Mathlib.Numerals.{add-one}
 use native.Mathlib.Omega.{arith}
-use lib.ListN.{length, length-append, set, drop, getD}
+use lib.ListN.{length, length-append, getD}
 use Rattle.sets.specs.Bounded.{all, any, nothing, found, first, count, select}
 use Rattle.sets.specs.Family.{Ascending, none, more}
 use Rattle.sets.proofs.Logic.{decided, clash, refuted, same-truth, and-left, and-right, and-intro, and-false-cases, or-cases, or-false-left, or-false-right}
@@ -131,14 +131,6 @@ first-kept-suc n p i e = rw (first, e)
 pub first-skip : (n : ℕ) (p : ℕ → Bool) → first n p ≡ nothing → p n ≡ false → first (n + 1) p ≡ nothing
 first-skip n p e f = rw add-one (first-skip-suc n p e f)
 
--- the turn that stops at n
-pub first-hit : (n : ℕ) (p : ℕ → Bool) → first n p ≡ nothing → p n ≡ true → first (n + 1) p ≡ found n
-first-hit n p e f = rw add-one (first-hit-suc n p e f)
-
--- what was found stays found
-pub first-kept : (n : ℕ) (p : ℕ → Bool) (i : ℕ) → first n p ≡ found i → first (n + 1) p ≡ found i
-first-kept n p i e = rw add-one (first-kept-suc n p i e)
-
 -- i is the lowest number below n that passes
 abbrev pub Lowest : ℕ → (ℕ → Bool) → ℕ → Type 0
 Lowest n p i = (i < n) × (p i ≡ true) × ((j : ℕ) → j < i → p j ≡ false)
@@ -186,10 +178,6 @@ first-none n p h = ⊎-elim (λ w. w .0) (λ w. clash (w .2 .1) (h (w .0) (w .2 
 -- a loop that has found none below i stops at i
 pub first-stop : (n : ℕ) (p : ℕ → Bool) (i : ℕ) → i < n → first i p ≡ nothing → p i ≡ true → first n p ≡ found i
 first-stop n p i l e t = first-is n p i l t (first-nothing i p e)
-
--- what is found below a bound is found below a larger one
-pub first-wider : (n m : ℕ) (p : ℕ → Bool) (i : ℕ) → n ≤ m → first n p ≡ found i → first m p ≡ found i
-first-wider n m p i l e = let w = first-found n p i e in first-is m p i (le-trans (w .0) l) (w .1) (w .2)
 
 -- tests equal below the bound
 pub first-ext : (n : ℕ) (p q : ℕ → Bool) → ((i : ℕ) → i < n → p i ≡ q i) → first n p ≡ first n q
@@ -421,29 +409,7 @@ select-lowest n (suc m) p q l t f low other =
     (decided (p m)))
     (eq-or-lt-of-le (le-of-suc-le-suc l))
 
--- ---- a loop that stores the numbers that pass in the front of d
-
-store : (l d : List ℕ) (v : ℕ) → length l < length d → set (l ++ drop (length l) d) (length l) v ≡ l ++ (v ∷ []) ++ drop (suc (length l)) d
-store [] [] v h = absurd (not-suc-le-zero h)
-store [] (x ∷ d) v h = refl
-store (a ∷ l) [] v h = absurd (not-suc-le-zero h)
-store (a ∷ l) (x ∷ d) v h = ap (λ (t : List ℕ). a ∷ t) (store l d v (le-of-suc-le-suc h))
-
--- before the first turn
-pub collect-none : (p : ℕ → Bool) (d : List ℕ) → d ≡ select 0 p ++ drop (count 0 p) d
-unfolding select count
-collect-none p d = refl
-
--- the turn that stores n
-pub collect-hit : (n : ℕ) (p : ℕ → Bool) (d : List ℕ) → p n ≡ true → count n p < length d → set (select n p ++ drop (count n p) d) (count n p) n ≡ select (n + 1) p ++ drop (count n p + 1) d
-collect-hit n p d e h =
-    subst (λ (k : ℕ). set (select n p ++ drop k d) k n ≡ select n p ++ (n ∷ []) ++ drop (suc k) d) (select-length n p)
-    (store (select n p) d n (subst (λ (k : ℕ). k < length d) (sym (select-length n p)) h))
-    ∙ ap₂ (λ (l : List ℕ) (k : ℕ). l ++ drop k d) (sym (select-hit n p e)) (sym (add-one (count n p)))
-
--- the turn that passes n by
-pub collect-skip : (n : ℕ) (p : ℕ → Bool) (d : List ℕ) → p n ≡ false → select n p ++ drop (count n p) d ≡ select (n + 1) p ++ drop (count n p) d
-collect-skip n p d e = ap (λ (l : List ℕ). l ++ drop (count n p) d) (sym (select-skip n p e))
+-- ---- where a number stands in the list
 
 at-seam : (l : List ℕ) (x : ℕ) (r : List ℕ) → getD (l ++ (x ∷ r)) (length l) 0 ≡ x
 at-seam [] x r = refl

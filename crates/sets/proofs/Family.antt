@@ -24,10 +24,6 @@ use Rattle.sets.proofs.Mask.{subset-refl, subset-trans, subset-antisym,
 abbrev pub DownBelow : ℕ → Family → Type 0
 DownBelow n F = (s t : ℕ) → s < 2 ^ n → F s ≡ true → subset t s ≡ true → F t ≡ true
 
--- a down-closed family is so below 2 ^ n
-pub down-below : (n : ℕ) (F : Family) → DownClosed F → DownBelow n F
-down-below n F d s t h = d s t
-
 -- the sets of the list are sets of states below n
 abbrev pub Within : ℕ → List ℕ → Type 0
 Within n l = (t : ℕ) → List·Memᴰ t l → t < 2 ^ n
@@ -85,10 +81,6 @@ isMaximal-beaten n F s f h =
     let v = implies-fails (F (w .0) && subset s (w .0)) (eqb (w .0) s) (w .2) in
     (w .0, w .1, and-left (F (w .0)) (subset s (w .0)) (v .0), and-right (F (w .0)) (subset s (w .0)) (v .0), eqb-false (w .0) s (v .1)))
     (decided (all (2 ^ n) (λ t. not (F t && subset s t) || eqb t s)))
-
--- a set that lies in another is not maximal
-pub isMaximal-refuted : (n : ℕ) (F : Family) (s t : ℕ) → t < 2 ^ n → F t ≡ true → subset s t ≡ true → (t ≡ s → ⊥) → isMaximal n F s ≡ false
-isMaximal-refuted n F s t l f k d = refuted (isMaximal n F s) (λ h. d (isMaximal-only n F s h t l f k))
 
 -- what code tests: no state can be put in
 pub maximal-by-states : (n : ℕ) (F : Family) → DownBelow n F → (s : ℕ) → s < 2 ^ n → isMaximal n F s ≡ (F s && all n (λ i. member s i || not (F (s + 2 ^ i))))
@@ -283,42 +275,6 @@ cuts-intro [] l s t u m n e = absurd (List·Memᴰ·not-nil m)
 cuts-intro (v ∷ k) l s t u m n e =
     ⊎-elim (λ (d : t ≡ v). or-left (cuts k l s) (cut-intro v l s u n (ap (λ (x : ℕ). common x u) (sym d) ∙ e))) (λ (m′ : List·Memᴰ t k). or-right (cut v l s) (cuts-intro k l s t u m′ n e)) (List·Memᴰ·cases-cons m)
 
--- one list after the other
-pub cut-append : (t : ℕ) (k l : List ℕ) (s : ℕ) → cut t (k ++ l) s ≡ (cut t k s || cut t l s)
-unfolding cut
-cut-append t [] l s = refl
-cut-append t (u ∷ k) l s = ap (λ (b : Bool). eqb (common t u) s || b) (cut-append t k l s) ∙ sym (or-assoc (eqb (common t u) s) (cut t k s) (cut t l s))
-
--- the same in the first list
-pub cuts-append : (j k l : List ℕ) (s : ℕ) → cuts (j ++ k) l s ≡ (cuts j l s || cuts k l s)
-unfolding cuts
-cuts-append [] k l s = refl
-cuts-append (t ∷ j) k l s = ap (λ (b : Bool). cut t l s || b) (cuts-append j k l s) ∙ sym (or-assoc (cut t l s) (cuts j l s) (cuts k l s))
-
--- the front of the second list, as code goes through it: before the first turn
-pub cut-none : (t : ℕ) (l : List ℕ) (s : ℕ) → cut t (take 0 l) s ≡ false
-unfolding cut
-cut-none t l s = refl
-
--- one turn
-pub cut-more : (t : ℕ) (l : List ℕ) (s i : ℕ) → i < length l → cut t (take (i + 1) l) s ≡ (cut t (take i l) s || eqb (common t (getD l i 0)) s)
-unfolding cut
-cut-more t l s i h =
-    ap (λ (k : List ℕ). cut t k s) (ap (λ (j : ℕ). take j l) (add-one i) ∙ take-suc l i 0 h)
-    ∙ cut-append t (take i l) (getD l i 0 ∷ []) s ∙ ap (λ (b : Bool). cut t (take i l) s || b) (or-false (eqb (common t (getD l i 0)) s))
-
--- the front of the first list: before the first turn
-pub cuts-none : (k l : List ℕ) (s : ℕ) → cuts (take 0 k) l s ≡ false
-unfolding cuts
-cuts-none k l s = refl
-
--- one turn
-pub cuts-more : (k l : List ℕ) (s i : ℕ) → i < length k → cuts (take (i + 1) k) l s ≡ (cuts (take i k) l s || cut (getD k i 0) l s)
-unfolding cuts
-cuts-more k l s i h =
-    ap (λ (j : List ℕ). cuts j l s) (ap (λ (j : ℕ). take j k) (add-one i) ∙ take-suc k i 0 h)
-    ∙ cuts-append (take i k) (getD k i 0 ∷ []) l s ∙ ap (λ (b : Bool). cuts (take i k) l s || b) (or-false (cut (getD k i 0) l s))
-
 -- ---- the maximal sets stand for the family
 
 -- what the list of the maximal sets holds, for any family
@@ -363,22 +319,6 @@ maximal-covers n F G c d =
 pub maximal-ext : (n : ℕ) (F G : Family) → ((s : ℕ) → s < 2 ^ n → F s ≡ G s) → maximal n F ≡ maximal n G
 maximal-ext n F G h =
     maximal-covers n F G (λ s l f. (s, l, sym (h s l) ∙ f, subset-refl s)) (λ s l g. (s, l, h s l ∙ g, subset-refl s))
-
--- equal lists of maximal sets, equal families
-pub maximal-same : (n : ℕ) (F G : Family) → DownBelow n F → DownBelow n G → maximal n F ≡ maximal n G → (s : ℕ) → s < 2 ^ n → F s ≡ G s
-maximal-same n F G c d e s l =
-    sym (represents n F c s l) ∙ ap (λ (k : List ℕ). holds k s) e ∙ represents n G d s l
-
--- the down-closure of a family has the same maximal sets
-pub maximal-down : (n : ℕ) (F : Family) → maximal n (holds (maximal n F)) ≡ maximal n F
-maximal-down n F =
-    maximal-covers n (holds (maximal n F)) F (λ s l h. maximal-found n F s h) (λ s l f. (s, l, maximal-holds n F s s l f (subset-refl s), subset-refl s))
-
--- the sets of a list, and what it holds
-pub maximal-listed : (n : ℕ) (l : List ℕ) → Within n l → maximal n (listed l) ≡ maximal n (holds l)
-maximal-listed n l b =
-    maximal-covers n (listed l) (holds l) (λ s h f. (s, h, holds-mem l s (listed-mem l s f), subset-refl s))
-    (λ s h f. let w = holds-found l s f in (w .0, b (w .0) (w .1), mem-listed l (w .0) (w .1), w .2))
 
 -- an ascending antichain is the list of the maximal sets of what it holds
 pub maximal-self : (n : ℕ) (l : List ℕ) → Within n l → Ascending l → Antichain l → maximal n (holds l) ≡ l

@@ -1,4 +1,6 @@
 pub mod Logic
 pub mod Bounded
+pub mod Fills
+pub mod Reaching
 pub mod Mask
 pub mod Family

@@ -141,7 +141,3 @@ same-beq {a = false} {b = false} e = refl
 -- the test fails: they differ
 pub beq-differ : (a b : Bool) → Bool·beq a b ≡ false → a ≡ b → ⊥
 beq-differ a b e q = clash (same-beq q) e
-
--- they differ: the test fails
-pub differ-beq : (a b : Bool) → (a ≡ b → ⊥) → Bool·beq a b ≡ false
-differ-beq a b h = refuted (Bool·beq a b) (λ e. h (beq-same a b e))

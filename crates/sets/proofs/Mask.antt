@@ -175,10 +175,6 @@ pub subset-member : (s t : ℕ) → subset s t ≡ true → (i : ℕ) → member
 subset-member s t h i m =
     and-right (member s i) (member t i) (sym (member-and s t i) ∙ ap (λ (x : ℕ). member x i) (eqb-true (common s t) s h) ∙ m)
 
--- what is not in t is not in a subset of t
-pub subset-missing : (s t : ℕ) → subset s t ≡ true → (i : ℕ) → member t i ≡ false → member s i ≡ false
-subset-missing s t h i m = refuted (member s i) (λ k. clash (subset-member s t h i k) m)
-
 -- a set with only members of the other is a subset
 pub subset-intro : (n s t : ℕ) → s < 2 ^ n → ((i : ℕ) → i < n → member s i ≡ true → member t i ≡ true) → subset s t ≡ true
 subset-intro n s t h f =
@@ -200,10 +196,6 @@ subset-witness n s t h f =
     (w .0, w .1, v .0, v .1))
     (decided (all n (λ i. not (member s i) || member t i)))
 
--- a state in s and not in t
-pub subset-refuted : (s t i : ℕ) → member s i ≡ true → member t i ≡ false → subset s t ≡ false
-subset-refuted s t i m k = refuted (subset s t) (λ h. clash (subset-member s t h i m) k)
-
 -- a set is its own subset
 pub subset-refl : (s : ℕ) → subset s s ≡ true
 subset-refl s = eq-eqb (common s s) s (and-self s)
@@ -223,10 +215,6 @@ subset-le s t h = subst (λ (x : ℕ). x ≤ t) (eqb-true (common s t) s h) (and
 -- a subset is a set of states below n
 pub subset-lt : (n s t : ℕ) → subset s t ≡ true → t < 2 ^ n → s < 2 ^ n
 subset-lt n s t h k = lt-of-le-of-lt (subset-le s t h) k
-
--- the empty set is a subset of each
-pub subset-zero : (t : ℕ) → subset 0 t ≡ true
-subset-zero t = refl
 
 -- the common part is a subset of the first
 pub common-subset-left : (s t : ℕ) → subset (common s t) s ≡ true
@@ -331,10 +319,6 @@ common-witness n s t h f =
     (λ a. absurd (f (common-zero-intro n s t h
     (λ i l m. refuted (member t i) (λ k. clash (and-intro m k) (any-none n (λ i. member s i && member t i) a i l))))))
     (decided (any n (λ i. member s i && member t i)))
-
--- a state in both
-pub common-nonzero : (s t i : ℕ) → member s i ≡ true → member t i ≡ true → common s t ≡ 0 → ⊥
-common-nonzero s t i m k e = clash k (common-zero s t e i m)
 
 -- ---- one state put in
 

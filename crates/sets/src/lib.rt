@@ -2,7 +2,7 @@
 ghost use mathlib.Core.Path.{_≡_};
 ghost use Prim.Native.Nat.{_<_, _≤_};
 ghost use lib.ListN.{length};
-ghost use Rattle.sets.specs.Bounded.{fill as filled};
+ghost use Rattle.sets.specs.Bounded.{fill as filled, firstFrom};
 ghost use Rattle.sets.specs.Mask.{member as isMember, common as commonPart, union as united, subset as isSubset, single as one, without as lacking};
 
 pub fn member(s: u32, i: u32) -> bool
@@ -54,4 +54,18 @@ pub fn fill(d: &mut [u32], end: usize, v: u32)
         d[i] = v;
         i += 1;
     }
+}
+
+// The first place from `from` on whose mask is `bound` or more; the length where there is none.
+pub fn first_from(list: &[u32], from: usize, bound: u32) -> usize
+    ensures { λ r. ⌜ r ≡ firstFrom (now (list .entry)) from bound ⌝ }
+{
+    let mut i = from;
+    while i < list.len() {
+        if bound <= list[i] {
+            return i;
+        }
+        i += 1;
+    }
+    list.len()
 }

@@ -1,42 +1,36 @@
--- `cards::enter` meets its contract.
+-- No cell is 14; else the cell's word lies in the card and holds the action.
 -- Assumes nothing.
-use borrow.Author.Needs.{needs}
-use Rattle.cards.proofs.Running.{cannot-occur, named-small, place-in, enter-told}
-use Rattle.cards.proofs.Checked.{some-word}
-use denote.Ref.{now}
-use native.Mathlib.Omega.{arith}
 use mathlib.Core.Path.{sym}
+use Prim.Native.Nat.{_<_}
+use native.Mathlib.Omega.{arith}
+use borrow.Author.Needs.{needs}
+use lib.ListN.{length}
+use denote.Ref.{now}
+use Rattle.cards.proofs.Checked.{some-word}
+use Rattle.cards.proofs.Running.{cannot-occur, named-small, place-in, enter-told}
 use Rattle.cards.proofs.enter.Statement.{statement}
 use Rattle.cards.proofs.enter.Tie as tie
 
-returns : tie.Need-returns
-returns c = sym (cannot-occur _ 0 _ _ (c .before .if1 .taken))
-
-shared-slice-read-number-field : tie.Need-shared-slice-read-number-field
-shared-slice-read-number-field c = some-word _ (c .before .before .before .before .pre .0)
-
-cell-place-requires : tie.Need-cell-place-requires
-cell-place-requires c κs = (omega arith, named-small _ (c .before .before .before .before .before .pre .0) _ (c .before .before .before .before .before .pre .1))
-
-mul-action-field : tie.Need-mul-action-field
-mul-action-field c = omega (arith, place-in (now (c .before .before .before .before .before .before .args .card)) (c .before .before .before .before .before .before .pre .0) (c .before .before .before .before .before .before .args .cell .0) (c .before .number-field .result) (c .cell-place .result) (c .before .before .before .before .before .before .pre .1) (c .before .before .before .if1 .left) (c .before .number-field .ensures) (c .cell-place .ensures))
-
-shared-slice-read-action-field : tie.Need-shared-slice-read-action-field
-shared-slice-read-action-field c = place-in _ (c .before .before .before .before .before .before .before .pre .0) _ _ _ (c .before .before .before .before .before .before .before .pre .1) (c .before .before .before .before .if1 .left) (c .before .before .number-field .ensures) (c .before .cell-place .ensures)
-
-returns-2 : tie.Need-returns-2
-returns-2 c = enter-told (now (c .before .before .before .before .before .before .before .before .args .card)) (c .before .before .before .before .before .before .before .before .pre .0) _ _ _ _ _ (c .before .before .before .before .before .if1 .left) (c .before .before .before .number-field .ensures) (c .before .before .cell-place .ensures) (c .action-field .ensures)
+-- the cell's word lies in the card
+inside : (c : tie.After-cell-place) → c .cell-place .result < length (now (c .before .before .before .before .before .before .args .card))
+inside c =
+    let cell = c .before .before .before in
+    let asked = cell .before .before .before .pre in
+    place-in _ (asked .0) _ _ _ (asked .1) (cell .if1 .left) (c .before .number-field .ensures) (c .cell-place .ensures)
 
 pub enter-spec : {M : Type 1} → statement M
 enter-spec =
     tie.close
     (tie.spec
     (λ c. search needs)
-    returns
-    shared-slice-read-number-field
+    (λ c. sym (cannot-occur _ 0 _ _ (c .before .if1 .taken)))
+    (λ c. some-word _ (c .before .before .before .before .pre .0))
     (λ c κs. search needs)
-    cell-place-requires
-    mul-action-field
-    shared-slice-read-action-field
+    (λ c κs. let asked = c .before .before .before .before .before .pre in (omega arith, named-small _ (asked .0) _ (asked .1)))
+    (λ c. omega (arith, inside c))
+    (λ c. inside (c .before))
     (λ c κs. search needs)
-    returns-2)
+    (λ c.
+    let place = c .before .before in
+    let cell = place .before .before .before in
+    enter-told _ (cell .before .before .before .pre .0) _ _ _ _ _ (cell .if1 .left) (place .before .number-field .ensures) (place .cell-place .ensures) (c .action-field .ensures)))

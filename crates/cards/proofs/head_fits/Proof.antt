@@ -1,4 +1,4 @@
--- `cards::head_fits` meets its contract.
+-- The tests are those of the definition, on the fields that the code has read.
 -- Assumes nothing.
 use borrow.Author.Needs.{needs}
 use Rattle.cards.proofs.Checked.{head-told}
@@ -6,4 +6,19 @@ use Rattle.cards.proofs.head_fits.Statement.{statement}
 use Rattle.cards.proofs.head_fits.Tie as tie
 
 pub head-fits-spec : {M : Type 1} → statement M
-head-fits-spec = tie.close (tie.spec (λ c κs. search needs) (λ c κs. search needs) (λ c κs. search needs) (λ c κs. search needs) (λ c κs. search needs) (λ c κs. search needs) (λ c κs. search needs) (λ c. head-told _ _ _ _ _ _ _ _ (c .before .before .before .before .before .before .low-field .ensures) (c .before .before .before .before .before .number-field .ensures) (c .before .before .before .before .action-field .ensures) (c .before .before .before .word .ensures) (c .before .before .within .ensures) (c .before .within2 .ensures) (c .within3 .ensures)))
+head-fits-spec =
+    tie.close
+    (tie.spec
+    (λ c κs. search needs)
+    (λ c κs. search needs)
+    (λ c κs. search needs)
+    (λ c κs. search needs)
+    (λ c κs. search needs)
+    (λ c κs. search needs)
+    (λ c κs. search needs)
+    (λ c.
+    let cells = c .before .before in
+    let made = cells .before in
+    let number = made .before .before in
+    head-told _ _ _ _ _ _ _ _ (number .before .low-field .ensures) (number .number-field .ensures) (made .before .action-field .ensures)
+    (made .word .ensures) (cells .within .ensures) (c .before .within2 .ensures) (c .within3 .ensures)))

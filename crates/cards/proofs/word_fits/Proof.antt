@@ -1,20 +1,10 @@
--- `cards::word_fits` meets its contract.
+-- The word is the head, one of the front, or one of a cell's part, by where its place lies.
 -- Assumes nothing.
-use borrow.Author.Needs.{needs}
 use mathlib.Core.Path.{sym, _∙_}
-use denote.Ref.{now}
+use borrow.Author.Needs.{needs}
 use Rattle.cards.proofs.Checked.{word-head, first-told, part-told}
 use Rattle.cards.proofs.word_fits.Statement.{statement}
 use Rattle.cards.proofs.word_fits.Tie as tie
-
-returns : tie.Need-returns
-returns c = c .head-fits .ensures ∙ sym (word-head _ _ (c .before .if1 .taken))
-
-returns-2 : tie.Need-returns-2
-returns-2 c = c .cell-named .ensures ∙ first-told (now (c .before .before .before .before .before .before .before .before .args .card)) _ _ _ (c .before .before .before .if1 .left) (c .before .low-field .ensures) (c .before .before .before .before .number-field .ensures) (c .before .before .if2 .taken)
-
-returns-3 : tie.Need-returns-3
-returns-3 c = c .part-fits .ensures ∙ part-told (now (c .before .before .before .before .before .before .before .before .before .args .card)) _ _ _ _ (c .before .before .before .before .if1 .left) (c .before .before .low-field2 .ensures) (c .before .action-field .ensures) (c .before .before .before .before .before .number-field .ensures) (c .before .before .before .if2 .left)
 
 pub word-fits-spec : {M : Type 1} → statement M
 word-fits-spec =
@@ -24,16 +14,25 @@ word-fits-spec =
     (λ c. search needs)
     (λ c. search needs)
     (λ c κs. search needs)
+    (λ c κs. search needs)
+    (λ c κs. search needs)
+    (λ c. c .head-fits .ensures ∙ sym (word-head _ _ (c .before .if1 .taken)))
+    (λ c κs. search needs)
     (λ c. search needs)
     (λ c. search needs)
     (λ c κs. search needs)
-    returns
-    (λ c κs. search needs)
-    (λ c. search needs)
-    (λ c. search needs)
     (λ c κs. search needs)
     (λ c κs. search needs)
     (λ c κs. search needs)
-    (λ c κs. search needs)
-    returns-2
-    returns-3)
+    (λ c.
+    let low = c .before in
+    let far = low .before .before in
+    let front = far .before in
+    c .cell-named .ensures
+    ∙ first-told _ _ (far .if1 .left) _ _ _ (low .low-field .ensures) (front .before .number-field .ensures) (front .front-length .ensures) (low .before .if2 .taken))
+    (λ c.
+    let low = c .before .before in
+    let far = low .before .before in
+    let front = far .before in
+    c .part-fits .ensures
+    ∙ part-told _ _ (far .if1 .left) _ _ _ _ (low .low-field2 .ensures) (c .before .action-field .ensures) (front .before .number-field .ensures) (front .front-length .ensures) (low .before .if2 .left)))

@@ -22,13 +22,15 @@ loop-holds c = (search needs, refl, refl)
 
 loop-again : tie.Need-loop-again Inv-loop μ-loop
 loop-again c =
-    (search needs, search needs, rw (c .before .loop .inv .2) (fill-more (c .before .loop .i) 0 (c .before .before .args .bits .now) (omega arith)))
+    let at = c .before in
+    (search needs, search needs, rw (at .loop .inv .2) (fill-more (at .loop .i) 0 (at .before .args .bits .now) (omega arith)))
 
 returns : tie.Need-returns Inv-loop μ-loop
 returns c =
-    let l : List ℕ = c .before .before .args .bits .now in
-    let e : c .before .loop .i ≡ length l = omega arith in
-    c .before .loop .inv .2 ∙ ap (λ (x : ℕ). replicate x 0 ++ drop x l) e
+    let at = c .before in
+    let l : List ℕ = at .before .args .bits .now in
+    let e : at .loop .i ≡ length l = omega arith in
+    at .loop .inv .2 ∙ ap (λ (x : ℕ). replicate x 0 ++ drop x l) e
     ∙ ap (λ (x : List ℕ). replicate (length l) 0 ++ x) (drop-length l) ∙ append-nil (replicate (length l) 0)
 
 pub clear-spec : {M : Type 1} → statement M

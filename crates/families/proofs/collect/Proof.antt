@@ -6,27 +6,28 @@ use Prim.Native.Nat.{ℕ, _≤_}
 use borrow.Author.Needs.{needs}
 use lib.ListN.{length, replicate}
 use lib.Seq.{length-take-le}
+use Rattle.families.specs.Bits.{maxLanes}
 use Rattle.families.proofs.Lanes.{few-lanes}
 use Rattle.families.proofs.collect.Statement.{statement}
 use Rattle.families.proofs.collect.Tie as tie
 
 -- the room as it is made
 room : List ℕ
-room = replicate 64 0
+room = replicate maxLanes 0
 
 -- there are enough lanes
-enough : (c : tie.Start) → length (c .args .bits .now) ≤ 64
+enough : (c : tie.Start) → length (c .args .bits .now) ≤ maxLanes
 enough c = few-lanes (c .args .n) (c .args .bits .now) (c .pre .0 .states) (c .pre .0 .size)
 
 slice-aggregate-collect-with : tie.Need-slice-aggregate-collect-with
 unfolding room
-slice-aggregate-collect-with c = sym (length-take-le (length (c .before .before .before .args .bits .now)) room (enough (c .before .before .before)))
+slice-aggregate-collect-with c = let start : tie.Start = c .before .before .before in sym (length-take-le (length (start .args .bits .now)) room (enough start))
 
 collect-with-requires : tie.Need-collect-with-requires
 unfolding room
 collect-with-requires c κs =
-    let s : tie.Start = c .before .before .before .before in
-    (s .pre .0, length-take-le (length (s .args .bits .now)) room (enough s), s .pre .1)
+    let start : tie.Start = c .before .before .before .before in
+    (start .pre .0, length-take-le (length (start .args .bits .now)) room (enough start), start .pre .1)
 
 pub collect-spec : {M : Type 1} → statement M
 collect-spec =

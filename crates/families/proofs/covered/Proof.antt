@@ -18,16 +18,18 @@ abbrev μ-loop : tie.MeasureT-loop
 μ-loop word all₀ i₀ all i = laneStates - i
 
 loop-holds : tie.Need-loop-holds Inv-loop μ-loop
-loop-holds c = (search needs, unite-none laneSets (wordWith (c .args .word)))
+loop-holds c = (search needs, λ t l. unite-none (λ i. wordWith (c .args .word) i t) t)
 
 loop-again : tie.Need-loop-again Inv-loop μ-loop
 loop-again c =
-    (search needs, unite-more laneSets (wordWith (c .before .before .before .args .word)) (c .before .before .loop .i) (c .before .before .loop .all) (c .shifted .result) (c .before .before .loop .inv .1) (c .shifted .ensures))
+    let at = c .before .before in
+    (search needs, λ t l. unite-more (λ i. wordWith (at .before .args .word) i t) (at .loop .i) (at .loop .all) (c .shifted .result) t (at .loop .inv .1 t l) (c .shifted .ensures t l))
 
 returns : tie.Need-returns Inv-loop μ-loop
 returns c =
-    let e : c .before .loop .i ≡ laneStates = omega arith in
-    rw e at (c .before .loop .inv .1)
+    let at = c .before in
+    let e : at .loop .i ≡ laneStates = omega arith in
+    rw e at (at .loop .inv .1)
 
 pub covered-spec : {M : Type 1} → statement M
 covered-spec =

@@ -23,14 +23,20 @@ abbrev μ-loop : tie.MeasureT-loop
 loop-holds : tie.Need-loop-holds Inv-loop μ-loop
 loop-holds c = (search needs, refl, none-inserted (c .args .list .now) (c .args .bits .now) (c .pre .1))
 
--- the mask's lane is there
-there : (c : tie.In-loop Inv-loop μ-loop) → getD (c .before .before .args .list .now) (c .before .loop .i) 0 / laneSets < length (c .before .loop .bits)
+-- the mask at hand
+abbrev mask : (c : tie.At-loop Inv-loop μ-loop) → ℕ
+mask c = getD (c .before .args .list .now) (c .loop .i) 0
+
+-- its lane is there
+there : (c : tie.In-loop Inv-loop μ-loop) → mask (c .before) / laneSets < length (c .before .loop .bits)
 there c =
-    omega (arith, c .before .loop .inv .1, mask-lane (c .before .before .args .n) (c .before .before .args .list .now) (c .before .before .args .bits .now) (c .before .before .pre .0) (c .before .loop .i) (c .loop-test .taken))
+    let at = c .before in
+    let start = at .before in
+    omega (arith, at .loop .inv .1, mask-lane (start .args .n) (start .args .list .now) (start .args .bits .now) (start .pre .0) (at .loop .i) (c .loop-test .taken))
 
 -- the number that has the mask's place alone
-single-is : (c : tie.In-loop Inv-loop μ-loop) → 1 * 2 ^ (getD (c .before .before .args .list .now) (c .before .loop .i) 0 % laneSets) % 2 ^ 64 ≡ 2 ^ (getD (c .before .before .args .list .now) (c .before .loop .i) 0 % laneSets)
-single-is c = shift-one 64 (getD (c .before .before .args .list .now) (c .before .loop .i) 0 % laneSets) (omega arith)
+single-is : (c : tie.In-loop Inv-loop μ-loop) → 1 * 2 ^ (mask (c .before) % laneSets) % 2 ^ 64 ≡ 2 ^ (mask (c .before) % laneSets)
+single-is c = shift-one 64 (mask (c .before) % laneSets) (omega arith)
 
 cast-lane : tie.Need-cast-lane Inv-loop μ-loop
 cast-lane c = omega (arith, c .shared-slice-known .given (c .before .before .loop .i))
@@ -39,16 +45,15 @@ mul-bits : tie.Need-mul-bits Inv-loop μ-loop
 mul-bits c = omega (arith, c .shared-slice-known .given (c .before .before .loop .i))
 
 loop-again : tie.Need-loop-again Inv-loop μ-loop
-loop-again c = (
-  search needs,
-  search needs,
-  rw (single-is (c .before .before))
-      (insert-more (c .before .before .before .before .args .list .now) (c .before .before .before .loop .bits) (c .before .before .before .loop .i) (c .before .before .loop-test .taken) (there (c .before .before)) (c .before .before .before .loop .inv .2)),
-)
+loop-again c =
+    let turn = c .before .before in
+    let at = turn .before in
+    (search needs, search needs, rw (single-is turn) (insert-more (at .before .args .list .now) (at .loop .bits) (at .loop .i) (turn .loop-test .taken) (there turn) (at .loop .inv .2)))
 
 returns : tie.Need-returns Inv-loop μ-loop
 returns c =
-    (c .before .loop .inv .1, rw (take-all (c .before .loop .i) (c .before .before .args .list .now) (omega arith)) at (c .before .loop .inv .2))
+    let at = c .before in
+    (at .loop .inv .1, rw (take-all (at .loop .i) (at .before .args .list .now) (omega arith)) at (at .loop .inv .2))
 
 pub insert-spec : {M : Type 1} → statement M
 insert-spec =

@@ -18,19 +18,19 @@ abbrev μ-loop : tie.MeasureT-loop
 μ-loop bits lane all₀ i₀ all i = highStates - i
 
 loop-holds : tie.Need-loop-holds Inv-loop μ-loop
-loop-holds c = (search needs, unite-none laneSets (hasWith (c .before .args .bits .now) (c .before .args .lane)))
+loop-holds c = let args = c .before .args in (search needs, λ t l. unite-none (λ i. hasWith (args .bits .now) (args .lane) i t) t)
 
 loop-again : tie.Need-loop-again Inv-loop μ-loop
-loop-again c = (
-  search needs,
-  unite-more laneSets (hasWith (c .before .before .before .before .args .bits .now) (c .before .before .before .before .args .lane)) (c .before .before .loop .i) (c .before .before .loop .all) (c .with-state .result)
-      (c .before .before .loop .inv .1) (λ t l. c .with-state .ensures t),
-)
+loop-again c =
+    let at = c .before .before in
+    let args = at .before .before .args in
+    (search needs, λ t l. unite-more (λ i. hasWith (args .bits .now) (args .lane) i t) (at .loop .i) (at .loop .all) (c .with-state .result) t (at .loop .inv .1 t l) (c .with-state .ensures t))
 
 returns : tie.Need-returns Inv-loop μ-loop
 returns c =
-    let e : c .before .loop .i ≡ highStates = omega arith in
-    rw e at (c .before .loop .inv .1)
+    let at = c .before in
+    let e : at .loop .i ≡ highStates = omega arith in
+    rw e at (at .loop .inv .1)
 
 pub larger-spec : {M : Type 1} → statement M
 larger-spec =

@@ -21,12 +21,15 @@ loop-holds c = (search needs, reached-none (c .args .word))
 
 loop-again : tie.Need-loop-again Inv-loop μ-loop
 loop-again c =
-    (search needs, reached-more (c .before .before .before .args .word) (c .before .before .loop .all) (c .shifted .result) (c .before .before .loop .i) (c .before .loop-test .taken) (c .before .before .loop .inv .1) (c .shifted .ensures))
+    let at = c .before .before in
+    (search needs, reached-more (at .before .args .word) (at .loop .all) (c .shifted .result) (at .loop .i) (c .before .loop-test .taken) (at .loop .inv .1) (c .shifted .ensures))
 
 returns : tie.Need-returns Inv-loop μ-loop
 returns c t l =
-    let e : c .before .loop .i ≡ laneStates = omega arith in
-    c .before .loop .inv .1 t l ∙ ap (λ (x : ℕ). reached (c .before .before .args .word) x t) e ∙ reached-end (c .before .before .args .word) t l
+    let at = c .before in
+    let word : ℕ = at .before .args .word in
+    let e : at .loop .i ≡ laneStates = omega arith in
+    at .loop .inv .1 t l ∙ ap (λ (x : ℕ). reached word x t) e ∙ reached-end word t l
 
 pub lower-spec : {M : Type 1} → statement M
 lower-spec =

@@ -19,20 +19,20 @@ abbrev μ-loop : tie.MeasureT-loop
 μ-loop bits₀ lane₀ bits lane = length bits₀ - lane
 
 loop-holds : tie.Need-loop-holds Inv-loop μ-loop
-loop-holds c = mapping-none (Low (c .before .args .bits .now)) (c .before .args .bits .now)
+loop-holds c = let bits = c .before .args .bits .now in mapping-none (Low bits) bits
 
 loop-again : tie.Need-loop-again Inv-loop μ-loop
 loop-again c =
-    let old : List ℕ = c .before .before .before .before .before .args .bits .now in
-    let lane : ℕ = c .before .before .before .loop .lane in
-    mapping-more (Low old) old (c .before .before .before .loop .bits) lane (c .lower .result) (c .before .before .before .loop .inv) (omega (arith, c .before .before .before .loop .inv .long))
-    (λ t l. c .lower .ensures t l ∙ ap (λ (x : ℕ). lowHas x t) (c .before .before .before .loop .inv .kept lane (omega arith)))
+    let at = c .before .before .before in
+    let old : List ℕ = at .before .before .args .bits .now in
+    mapping-more (Low old) old (at .loop .bits) (at .loop .lane) (c .lower .result) (at .loop .inv) (omega (arith, at .loop .inv .long))
+    (λ t l. c .lower .ensures t l ∙ ap (λ (x : ℕ). lowHas x t) (at .loop .inv .kept (at .loop .lane) (omega arith)))
 
 returns : tie.Need-returns Inv-loop μ-loop
-returns c = (
-  c .before .loop .inv .long,
-  low-end (c .before .before .before .args .bits .now) (c .before .loop .bits) (c .before .loop .inv .long) (λ m l. c .before .loop .inv .done m (omega (arith, c .before .loop .inv .long))),
-)
+returns c =
+    let at = c .before in
+    let inv = at .loop .inv in
+    record { size = inv .long; each = low-end (at .before .before .args .bits .now) (at .loop .bits) (inv .long) (λ m l. inv .done m (omega (arith, inv .long))) }
 
 pub lower-all-spec : {M : Type 1} → statement M
 lower-all-spec =

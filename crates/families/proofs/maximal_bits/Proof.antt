@@ -17,19 +17,19 @@ abbrev μ-loop : tie.MeasureT-loop
 μ-loop bits n found₀ lane₀ found lane = length bits - lane
 
 loop-holds : tie.Need-loop-holds Inv-loop μ-loop
-loop-holds c = mapping-none (Tops (c .before .before .args .n) (c .before .before .args .bits .now)) (c .before .before .args .found .now)
+loop-holds c = let args = c .before .before .args in mapping-none (Tops (args .n) (args .bits .now)) (args .found .now)
 
 loop-again : tie.Need-loop-again Inv-loop μ-loop
 loop-again c =
-    let s : tie.Start Inv-loop μ-loop = c .before .before .before .before .before in
-    mapping-more (Tops (s .args .n) (s .args .bits .now)) (s .args .found .now) (c .before .before .loop .found) (c .before .before .loop .lane) (c .tops .result) (c .before .before .loop .inv) (omega (arith, s .pre .1)) (c .tops .ensures)
+    let at = c .before .before in
+    let start : tie.Start Inv-loop μ-loop = at .before .before .before in
+    mapping-more (Tops (start .args .n) (start .args .bits .now)) (start .args .found .now) (at .loop .found) (at .loop .lane) (c .tops .result) (at .loop .inv) (omega (arith, start .pre .1)) (c .tops .ensures)
 
 returns : tie.Need-returns Inv-loop μ-loop
 returns c =
-    let s : tie.Start Inv-loop μ-loop = c .before .before .before .before in (
-      c .before .loop .inv .long,
-      found-maximal (s .args .n) (s .args .bits .now) (s .pre .0) (c .before .loop .found) (c .before .loop .inv .long ∙ s .pre .1) (λ m l. c .before .loop .inv .done m (omega arith)),
-    )
+    let at = c .before in
+    let start : tie.Start Inv-loop μ-loop = at .before .before .before in
+    (at .loop .inv .long, found-maximal (start .args .n) (start .args .bits .now) (start .pre .0) (at .loop .found) (at .loop .inv .long ∙ start .pre .1) (λ m l. at .loop .inv .done m (omega arith)))
 
 pub maximal-bits-spec : {M : Type 1} → statement M
 maximal-bits-spec =
@@ -40,7 +40,7 @@ maximal-bits-spec =
     loop-holds
     (λ c κs. search needs)
     (λ c. search needs)
-    (λ c. omega (arith, c .before .before .loop .inv .long, c .before .before .before .before .before .pre .1))
+    (λ c. let at = c .before .before in omega (arith, at .loop .inv .long, at .before .before .before .pre .1))
     (λ c. search needs)
     (λ c. search needs)
     loop-again

@@ -1,4 +1,4 @@
--- `families::shifted` meets its contract.
+-- `families::shifted` meets its contract: the set t stands where t with the state i stood.
 -- Assumes nothing.
 use mathlib.Core.Path.{_≡_}
 use Prim.Native.Nat.{_*_, _%_, _^_}
@@ -18,7 +18,8 @@ shr-result c = omega (arith, step-is c, pow-lt (c .pre))
 
 returns : tie.Need-returns
 returns c =
-    shifted-word (c .before .args .word) (c .before .args .i) (1 * 2 ^ c .before .args .i % 2 ^ 32) (c .lacking .result) (step-is (c .before)) (c .lacking .ensures)
+    let args = c .before .args in
+    shifted-word (args .word) (args .i) (1 * 2 ^ args .i % 2 ^ 32) (c .lacking .result) (step-is (c .before)) (c .lacking .ensures)
 
 pub shifted-spec : {M : Type 1} → statement M
 shifted-spec = tie.close (tie.spec (λ c. search needs) (λ c. search needs) shr-result (λ c κs. search needs) returns)

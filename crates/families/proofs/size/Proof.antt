@@ -8,7 +8,7 @@ use lib.Count.{ones}
 use lib.ListN.{length, getD}
 use Rattle.sets.specs.Bounded.{count}
 use Rattle.sets.proofs.Bounded.{count-le}
-use Rattle.families.specs.Bits.{laneSets, has}
+use Rattle.families.specs.Bits.{laneSets, maxLanes, has}
 use Rattle.families.proofs.Words.{ones-count, lane-count, sets-count}
 use Rattle.families.proofs.size.Statement.{statement}
 use Rattle.families.proofs.size.Tie as tie
@@ -24,15 +24,19 @@ unfolding count
 loop-holds c = (search needs, refl)
 
 -- how many there are with this lane's
-counted : (c : tie.After-shared-slice-known Inv-loop μ-loop) → c .before .before .loop .k + ones (getD (c .before .before .before .args .bits .now) (c .before .before .loop .lane) 0) ≡ count ((c .before .before .loop .lane + 1) * laneSets) (has (c .before .before .before .args .bits .now))
+counted : (c : tie.After-shared-slice-known Inv-loop μ-loop) → let at = c .before .before in let bits = at .before .args .bits .now in
+    at .loop .k + ones (getD bits (at .loop .lane) 0) ≡ count ((at .loop .lane + 1) * laneSets) (has bits)
 counted c =
-    let bits = c .before .before .before .args .bits .now in
-    let lane = c .before .before .loop .lane in
-    ap (λ (x : ℕ). c .before .before .loop .k + x) (ones-count laneSets (getD bits lane 0) (omega (arith, c .shared-slice-known .given lane))) ∙ lane-count bits lane (c .before .before .loop .k) (c .before .before .loop .inv .1)
+    let at = c .before .before in
+    let bits = at .before .args .bits .now in
+    let lane = at .loop .lane in
+    ap (λ (x : ℕ). at .loop .k + x) (ones-count laneSets (getD bits lane 0) (omega (arith, c .shared-slice-known .given lane))) ∙ lane-count bits lane (at .loop .k) (at .loop .inv .1)
 
 -- they are few
-few : (c : tie.After-shared-slice-known Inv-loop μ-loop) → c .before .before .loop .k + ones (getD (c .before .before .before .args .bits .now) (c .before .before .loop .lane) 0) ≤ 4096
-few c = omega (arith, counted c, count-le ((c .before .before .loop .lane + 1) * laneSets) (has (c .before .before .before .args .bits .now)), c .before .before .before .pre, c .before .loop-test .taken)
+few : (c : tie.After-shared-slice-known Inv-loop μ-loop) → let at = c .before .before in at .loop .k + ones (getD (at .before .args .bits .now) (at .loop .lane) 0) ≤ maxLanes * laneSets
+few c =
+    let at = c .before .before in
+    omega (arith, counted c, count-le ((at .loop .lane + 1) * laneSets) (has (at .before .args .bits .now)), at .before .pre, c .before .loop-test .taken)
 
 cast-k : tie.Need-cast-k Inv-loop μ-loop
 cast-k c = omega (arith, few c)
@@ -45,8 +49,10 @@ loop-again c = (search needs, counted c)
 
 returns : tie.Need-returns Inv-loop μ-loop
 returns c =
-    let e : c .before .loop .lane ≡ length (c .before .before .args .bits .now) = omega arith in
-    rw e at (c .before .loop .inv .1) ∙ sym (sets-count (c .before .before .args .bits .now))
+    let at = c .before in
+    let bits = at .before .args .bits .now in
+    let e : at .loop .lane ≡ length bits = omega arith in
+    rw e at (at .loop .inv .1) ∙ sym (sets-count bits)
 
 pub size-spec : {M : Type 1} → statement M
 size-spec =

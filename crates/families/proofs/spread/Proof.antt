@@ -1,7 +1,6 @@
 -- `families::spread` meets its contract: before each turn the lanes from `lane` up are done.
 -- Assumes nothing.
 use mathlib.Core.Path.{_≡_, subst}
-use mathlib.Core.List.{List}
 use Prim.Native.Nat.{ℕ, _+_, _-_, _<_}
 use borrow.Author.Needs.{needs}
 use native.Mathlib.Omega.{arith}
@@ -23,18 +22,21 @@ loop-holds c = spreading-none (c .before .args .bits .now)
 there : (c : tie.In-loop Inv-loop μ-loop) → c .before .loop .lane - 1 < length (c .before .loop .bits)
 there c = omega (arith, c .before .loop .inv .within, c .before .loop .inv .long)
 
-above-requires : tie.Need-above-requires Inv-loop μ-loop
-above-requires c κs = record { here = there (c .before); few = omega (arith, c .before .before .loop .inv .long, c .before .before .before .before .pre) }
+larger-requires : tie.Need-larger-requires Inv-loop μ-loop
+larger-requires c κs =
+    let at = c .before .before .before in
+    record { here = there (c .before .before); few = omega (arith, at .loop .inv .long, at .before .before .pre) }
 
 loop-again : tie.Need-loop-again Inv-loop μ-loop
 loop-again c =
-    let old : List ℕ = c .before .before .before .before .before .args .bits .now in
-    let lane : ℕ = c .before .before .before .loop .lane in
+    let at = c .before .before .before .before in
+    let start = at .before .before in
+    let lane : ℕ = at .loop .lane in
     let e : lane ≡ lane - 1 + 1 = omega arith in
-    spreading-more old (c .before .before .before .loop .bits) (lane - 1) (c .above .result) (c .before .before .before .before .before .pre) (subst (Spreading old (c .before .before .before .loop .bits)) e (c .before .before .before .loop .inv)) (c .above .ensures)
+    spreading-more (start .args .bits .now) (at .loop .bits) (lane - 1) (c .larger .result) (start .pre) (subst (Spreading (start .args .bits .now) (at .loop .bits)) e (at .loop .inv)) (c .larger .ensures)
 
 returns : tie.Need-returns Inv-loop μ-loop
-returns c = (c .before .loop .inv .long, λ lane t. c .before .loop .inv .done lane t (omega arith))
+returns c = let inv = c .before .loop .inv in record { size = inv .long; each = λ lane t. inv .done lane t (omega arith) }
 
 pub spread-spec : {M : Type 1} → statement M
 spread-spec =
@@ -44,9 +46,11 @@ spread-spec =
     μ-loop
     loop-holds
     (λ c. search needs)
-    above-requires
     (λ c. search needs)
-    (λ c. there (c .before .before))
+    (λ c. there (c .before))
+    larger-requires
+    (λ c. search needs)
+    (λ c. there (c .before .before .before))
     (λ c. search needs)
     loop-again
     (λ c. omega (arith, c .before .loop .inv .long))

@@ -23,22 +23,25 @@ loop-holds c = (search needs, lacks-none (c .args .h))
 
 loop-again : tie.Need-loop-again Inv-loop μ-loop
 loop-again c =
-    let h : ℕ = c .before .before .before .before .args .h in
-    let i : ℕ = c .before .before .before .loop .i in
-    let word : ℕ = c .before .before .before .loop .all in (
+    let at = c .before .before .before in
+    let h : ℕ = at .before .args .h in
+    let i : ℕ = at .loop .i in
+    let has = c .before .member in (
       search needs,
       ⊎-elim
           (λ w. subst (λ (x : ℕ). (t : ℕ) → t < laneSets → member x t ≡ lacks h (i + 1) t) (sym (w .2))
-          (lacks-more h i word (w .1 .result) (sym (c .before .member .ensures) ∙ not-true (c .before .member .result) (w .0 .taken)) (c .before .before .before .loop .inv .1) (w .1 .ensures)))
+          (lacks-more h i (at .loop .all) (w .1 .result) (sym (has .ensures) ∙ not-true (has .result) (w .0 .taken)) (at .loop .inv .1) (w .1 .ensures)))
           (λ w. subst (λ (x : ℕ). (t : ℕ) → t < laneSets → member x t ≡ lacks h (i + 1) t) (sym (w .1))
-          (lacks-skip h i word (sym (c .before .member .ensures) ∙ not-false (c .before .member .result) (w .0 .left)) (c .before .before .before .loop .inv .1)))
+          (lacks-skip h i (at .loop .all) (sym (has .ensures) ∙ not-false (has .result) (w .0 .left)) (at .loop .inv .1)))
           (c .if1 .came),
     )
 
 returns : tie.Need-returns Inv-loop μ-loop
 returns c t l =
-    let e : c .before .loop .i ≡ laneStates = omega arith in
-    c .before .loop .inv .1 t l ∙ ap (λ (x : ℕ). lacks (c .before .before .args .h) x t) e ∙ lacks-end (c .before .before .args .h) t l
+    let at = c .before in
+    let h : ℕ = at .before .args .h in
+    let e : at .loop .i ≡ laneStates = omega arith in
+    at .loop .inv .1 t l ∙ ap (λ (x : ℕ). lacks h x t) e ∙ lacks-end h t l
 
 pub subsets-spec : {M : Type 1} → statement M
 subsets-spec = tie.close (tie.spec Inv-loop μ-loop loop-holds (λ c κs. search needs) (λ c κs. search needs) (λ c. search needs) (λ c. search needs) loop-again returns)

@@ -24,35 +24,39 @@ unfolding count select
 loop-holds c = (search needs, refl, refl, refl)
 
 -- there is room for this lane's
-room : (c : tie.In-loop Inv-loop μ-loop) → c .before .loop .k + size (getD (c .before .before .before .before .args .bits .now) (c .before .loop .lane) 0) ≤ length (c .before .loop .out)
+room : (c : tie.In-loop Inv-loop μ-loop) → let at = c .before in
+    at .loop .k + size (getD (at .before .before .before .args .bits .now) (at .loop .lane) 0) ≤ length (at .loop .out)
 room c =
-    omega (
-      arith,
-      lane-room (c .before .before .before .before .args .bits .now) (c .before .loop .lane) (c .before .loop .k) (c .before .loop .inv .2) (c .loop-test .taken),
-      c .before .loop .inv .1,
-      c .before .before .before .before .pre .1,
-    )
+    let at = c .before in
+    let start = at .before .before .before in
+    omega (arith, lane-room (start .args .bits .now) (at .loop .lane) (at .loop .k) (at .loop .inv .2) (c .loop-test .taken), at .loop .inv .1, start .pre .1)
 
 unpack-requires : tie.Need-unpack-requires Inv-loop μ-loop
 unpack-requires c κs = (room (c .before .before), search needs)
 
 loop-again : tie.Need-loop-again Inv-loop μ-loop
 loop-again c =
-    let bits : List ℕ = c .before .before .before .before .before .before .before .before .before .args .bits .now in
-    let d : List ℕ = c .before .before .before .before .before .before .before .before .before .args .out .now in
-    let at : tie.At-loop Inv-loop μ-loop = c .before .before .before .before .before .before in
+    let turn : tie.In-loop Inv-loop μ-loop = c .before .before .before .before .before in
+    let at = turn .before in
+    let start = at .before .before .before in
+    let bits : List ℕ = start .args .bits .now in
+    let d : List ℕ = start .args .out .now in
     let lane : ℕ = at .loop .lane in
-    let r : ℕ = c .before .before .unpack .result in
-    let out : List ℕ = c .before .before .unpack .last .1 .1 .1 .0 in
-    let e : r ≡ count ((lane + 1) * laneSets) (has bits) = c .before .before .unpack .ensures .0 ∙ lane-count bits lane (at .loop .k) (at .loop .inv .2) in
-    let f : out ≡ select ((lane + 1) * laneSets) (has bits) ++ drop r d = lane-written bits lane (at .loop .k) (at .loop .inv .2) d (at .loop .out) (at .loop .inv .3) r out (c .before .before .unpack .ensures .0) (c .before .before .unpack .ensures .1) in
-    let l : r ≤ length d = omega (arith, c .before .before .unpack .ensures .0, room (c .before .before .before .before .before), at .loop .inv .1) in
+    let unpacked = c .before .before .unpack in
+    let r : ℕ = unpacked .result in
+    let out : List ℕ = unpacked .last .1 .1 .1 .0 in
+    let e : r ≡ count ((lane + 1) * laneSets) (has bits) = unpacked .ensures .0 ∙ lane-count bits lane (at .loop .k) (at .loop .inv .2) in
+    let f : out ≡ select ((lane + 1) * laneSets) (has bits) ++ drop r d =
+    lane-written bits lane (at .loop .k) (at .loop .inv .2) d (at .loop .out) (at .loop .inv .3) r out (unpacked .ensures .0) (unpacked .ensures .1) in
+    let l : r ≤ length d = omega (arith, unpacked .ensures .0, room turn, at .loop .inv .1) in
     (search needs, front-length (has bits) ((lane + 1) * laneSets) r d out e l f, e, f)
 
 returns : tie.Need-returns Inv-loop μ-loop
 returns c =
-    let e : c .before .loop .lane ≡ length (c .before .before .before .before .args .bits .now) = omega arith in
-    sets-written (c .before .before .before .before .args .bits .now) (c .before .before .before .before .args .out .now) (c .before .loop .k) (c .before .loop .out) (rw e at (c .before .loop .inv .2)) (rw e at (c .before .loop .inv .3))
+    let at = c .before in
+    let args = at .before .before .before .args in
+    let e : at .loop .lane ≡ length (args .bits .now) = omega arith in
+    sets-written (args .bits .now) (args .out .now) (at .loop .k) (at .loop .out) (rw e at (at .loop .inv .2)) (rw e at (at .loop .inv .3))
 
 pub write-spec : {M : Type 1} → statement M
 write-spec =

@@ -8,12 +8,13 @@ use Rattle.lists.proofs.join.Statement.{statement}
 use Rattle.lists.proofs.join.Tie as tie
 
 returns : tie.Need-returns
-returns c = (
-  c .before .before .combine .ensures,
-  left-plain (join (c .before .before .before .before .before .before .before .args .n)) OfEither (c .before .before .before .before .before .before .before .args .n) (c .before .before .before .before .before .before .before .args .first .now) (c .before .before .before .before .before .before .before .args .second .now) (c .before .before .before .before .before .before .before .args .out .now)
-      (join-plain (c .before .before .before .before .before .before .before .args .n) (c .before .before .before .before .before .before .before .args .first .now) (c .before .before .before .before .before .before .before .args .second .now))
-      (c .before .before .combine .result) (c .before .before .combine .last .1 .1 .1 .1 .0) (c .before .before .combine .ensures),
-)
+returns c =
+    let done = c .before .before .combine in
+    let args = c .before .before .before .before .before .before .before .args in (
+      done .ensures,
+      left-plain (join (args .n)) OfEither (args .n) (args .first .now) (args .second .now) (args .out .now) (join-plain (args .n) (args .first .now) (args .second .now))
+          (done .result) (done .last .1 .1 .1 .1 .0) (done .ensures),
+    )
 
 pub join-spec : {M : Type 1} → statement M
 join-spec = tie.close (tie.spec (λ c κs. search needs) (λ c. search needs) returns)

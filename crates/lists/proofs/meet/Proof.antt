@@ -8,12 +8,13 @@ use Rattle.lists.proofs.meet.Statement.{statement}
 use Rattle.lists.proofs.meet.Tie as tie
 
 returns : tie.Need-returns
-returns c = (
-  c .before .before .combine .ensures,
-  left-plain (meet (c .before .before .before .before .before .before .before .args .n)) OfBoth (c .before .before .before .before .before .before .before .args .n) (c .before .before .before .before .before .before .before .args .first .now) (c .before .before .before .before .before .before .before .args .second .now) (c .before .before .before .before .before .before .before .args .out .now)
-      (meet-plain (c .before .before .before .before .before .before .before .args .n) (c .before .before .before .before .before .before .before .args .first .now) (c .before .before .before .before .before .before .before .args .second .now))
-      (c .before .before .combine .result) (c .before .before .combine .last .1 .1 .1 .1 .0) (c .before .before .combine .ensures),
-)
+returns c =
+    let done = c .before .before .combine in
+    let args = c .before .before .before .before .before .before .before .args in (
+      done .ensures,
+      left-plain (meet (args .n)) OfBoth (args .n) (args .first .now) (args .second .now) (args .out .now) (meet-plain (args .n) (args .first .now) (args .second .now))
+          (done .result) (done .last .1 .1 .1 .1 .0) (done .ensures),
+    )
 
 pub meet-spec : {M : Type 1} → statement M
 meet-spec = tie.close (tie.spec (λ c κs. search needs) (λ c. search needs) returns)

@@ -18,17 +18,17 @@ abbrev μ-loop : tie.MeasureT-loop
 μ-loop meet a₀ b i₀ a i = length a₀ - i
 
 loop-holds : tie.Need-loop-holds Inv-loop μ-loop
-loop-holds c = mapping-none (Merges (c .before .before .args .meet) (c .before .before .args .a .now) (c .before .before .args .b .now)) (c .before .before .args .a .now)
+loop-holds c = let args = c .before .before .args in mapping-none (Merges (args .meet) (args .a .now) (args .b .now)) (args .a .now)
 
 loop-again : tie.Need-loop-again Inv-loop μ-loop
 loop-again c =
-    let s : tie.Start Inv-loop μ-loop = c .before .before .before .before .before .before .before in
     let at : tie.At-loop Inv-loop μ-loop = c .before .before .before .before in
-    mapping-more (Merges (s .args .meet) (s .args .a .now) (s .args .b .now)) (s .args .a .now) (at .loop .a) (at .loop .i) (c .gather .result) (at .loop .inv) (omega (arith, at .loop .inv .long))
-    (c .gather .ensures ∙ ap (λ (x : ℕ). gathered (s .args .meet) x (getD (s .args .b .now) (at .loop .i) 0)) (at .loop .inv .kept (at .loop .i) (omega arith)))
+    let args = at .before .before .before .args in
+    mapping-more (Merges (args .meet) (args .a .now) (args .b .now)) (args .a .now) (at .loop .a) (at .loop .i) (c .gather .result) (at .loop .inv) (omega (arith, at .loop .inv .long))
+    (c .gather .ensures ∙ ap (λ (x : ℕ). gathered (args .meet) x (getD (args .b .now) (at .loop .i) 0)) (at .loop .inv .kept (at .loop .i) (omega arith)))
 
 returns : tie.Need-returns Inv-loop μ-loop
-returns c = record { size = c .before .loop .inv .long; words = λ i l. c .before .loop .inv .done i (omega (arith, c .before .loop .inv .long)) }
+returns c = let inv = c .before .loop .inv in record { size = inv .long; words = λ i l. inv .done i (omega (arith, inv .long)) }
 
 pub merge-spec : {M : Type 1} → statement M
 merge-spec =

@@ -1,5 +1,4 @@
--- `runner::drive` meets its contract: a walk of its MIR, by hand. `start` returns a runner, which is copied into a local; the local is lent to `advance` by `&mut`, twice, and its cell is read after each call. All that the proof knows of the two callees is that they meet their contracts.
--- A loan (`lend`) is at a lifetime below the card's, as `advance`'s bound asks: a new atom ν before the card's κ, whose token is made of a share of each. Once the call has returned, ν is ended, and the runner lies in the local again, as the call left it (`back`).
+-- A walk of the MIR by hand: `start` returns a runner, which is copied into a local; the local is lent to `advance` by `&mut`, twice, and its cell is read after each call, so each answer is that of one observation more.
 -- Assumes nothing.
 use mathlib.Core.Path.{_≡_, refl, sym, ap, subst, _∙_}
 use Prim.Native.Nat.{ℕ}
@@ -52,23 +51,24 @@ use Rattle.games.specs.declared.Observation.{Observation}
 use Rattle.games.proofs.Cell.Laws as K′
 use Rattle.games.proofs.Observation as O
 use Rattle.games.proofs.Observation.Laws as O′
+use Rattle.cards.specs.Run.{stands, starts, advances}
 use Rattle.cards.specs.declared.Move.{Move}
+use Rattle.cards.specs.declared.Stood.{Stood}
 use Rattle.cards.proofs.Move as S
 use Rattle.cards.proofs.Move.Laws as S′
-use Rattle.runner.specs.Runs.{stands, starts, advances}
 use Rattle.runner.specs.declared.Runner.{Runner}
 use Rattle.runner.specs.declared.Opened.{Opened}
-use Rattle.runner.specs.declared.Stood.{Stood}
 use Rattle.runner.specs.declared.Driven.{Driven}
 use Rattle.runner.proofs.Runner as T
 use Rattle.runner.proofs.Runner.Laws as T′
 use Rattle.runner.proofs.Opened as P
 use Rattle.runner.proofs.Opened.Laws as P′
-use Rattle.runner.proofs.Stood as Q
-use Rattle.runner.proofs.Stood.Laws as Q′
+use Rattle.cards.proofs.Stood as Q
+use Rattle.cards.proofs.Stood.Laws as Q′
 use Rattle.runner.proofs.Driven as N
 use Rattle.runner.proofs.Driven.Laws as N′
 use Rattle.runner.proofs.Plays.{standing-one, stands-more}
+use Rattle.runner.proofs.Values.{move-val, IsMove, move-typed}
 use Rattle.runner.proofs.start as start
 use Rattle.runner.proofs.start.Symbol as start-def
 use Rattle.runner.proofs.start.Symbol.{name as #start}
@@ -89,10 +89,7 @@ stayed = (stay-none-slice (0 ∷ []) tt (plain (λ _. u32)) yes, (stay-none (λ 
 abbrev α : Lft → NamedLft
 α κ = record { mir = named 1; lft = κ }
 
--- the machine values of an answer, of an opening, of a standing and of three
-abbrev move-val : Move → Val
-move-val m = EL.val S.the-type S′.the-laws m
-
+-- the machine values of an opening, of a standing and of three
 abbrev opened-val : Opened → Val
 opened-val o = vstruct (vcons (T′.lowered (o .runner)) (vcons (move-val (o .answer)) vnil))
 
@@ -105,9 +102,6 @@ driven-val r = vstruct (vcons (stood-val (r .begun)) (vcons (stood-val (r .moved
 -- that a value of each type is at its machine value
 abbrev IsRunner : Lft → Runner → Type 0
 IsRunner κ h = Is (T.the-row (α κ)) h (T′.lowered h ∷ [])
-
-abbrev IsMove : Move → Type 0
-IsMove m = Is S.the-row m (move-val m ∷ [])
 
 abbrev IsObs : Observation → Type 0
 IsObs d = Is O.the-row d (O′.lowered d ∷ [])
@@ -133,6 +127,8 @@ module _ {M : Type 1} (𝓤 : URA M) (H : Heap 𝓤) (A : Atoms 𝓤) (W : Given
   αᵉ = record { mir = erased; lft = κ }
 
   -- ---- a runner in a local is lent to `advance`, and comes back
+  -- The loan is at a lifetime below the card's, as `advance`'s bound asks: a new atom ν before the card's κ, whose token is made of a share
+  -- of each. Once the call has returned, ν is ended, and the runner lies in the local again, as the call left it.
   module _ (l : ℕ) (h : Runner) (d : Observation) (d-is : IsObs d) where
     abbrev q₁ : Share
     q₁ = PosShare·left q
@@ -296,9 +292,6 @@ module _ {M : Type 1} (𝓤 : URA M) (H : Heap 𝓤) (A : Atoms 𝓤) (W : Given
     cell-typed : (h : Runner) → IsRunner κ h → Holds (hasTy K′.mir (K′.lowered (h .cell))) × WT (K′.lowered (h .cell))
     cell-typed h g = (tt, runner-typed h g .1 .1 .0)
 
-    move-typed : (m : Move) → IsMove m → Holds (hasTy S′.mir (move-val m)) × WT (move-val m)
-    move-typed m e = EL.lawful S.the-type S′.the-laws 𝓤 H A W tt .typed m _ e .0
-
     stood-typed : (h : Runner) (m : Move) → IsRunner κ h → IsMove m → Holds (hasTy Q′.mir (stood-val (at-stood h m))) × WT (stood-val (at-stood h m))
     stood-typed h m g e = LL.lawful Q.the-type Q′.the-laws 𝓤 H A W .typed (at-stood h m) _ (stood-is h m g e) .0
 
@@ -323,7 +316,7 @@ module _ {M : Type 1} (𝓤 : URA M) (H : Heap 𝓤) (A : Atoms 𝓤) (W : Given
           assigns ! (of-opd ! (load ! (from ! (fld ! refl (stop !))) (look-in ! 25 (sub ! 0 refl (whole !))))) (from ! (stop !)) (init ! 11 refl (runner-typed (o .runner) g₀)) $
           assigns ! (of-opd ! (load ! (from ! (stop !)) (look ! 11 refl))) (from ! (stop !)) (init ! 23 refl (runner-typed (o .runner) g₀)) $
           assigns ! (of-opd ! (load ! (from ! (fld ! refl (stop !))) (look-in ! 23 (sub ! 1 refl (whole !))))) (from ! (stop !)) (init ! 9 refl (cell-typed (o .runner) g₀)) $
-          assigns ! (of-opd ! (load ! (from ! (fld ! refl (stop !))) (look-in ! 25 (sub ! 1 refl (whole !))))) (from ! (stop !)) (init ! 7 refl (move-typed (o .answer) (LL.owed D L o _ is .1 .0))) $
+          assigns ! (of-opd ! (load ! (from ! (fld ! refl (stop !))) (look-in ! 25 (sub ! 1 refl (whole !))))) (from ! (stop !)) (init ! 7 refl (move-typed 𝓤 H A W (o .answer) (LL.owed D L o _ is .1 .0))) $
           assigns ! (agg ! (and-then ! (load ! (from ! (stop !)) (look ! 9 refl)) (and-then ! (load ! (from ! (stop !)) (look ! 7 refl)) (no-more !)))) (from ! (stop !)) (init ! 21 refl (stood-typed (o .runner) (o .answer) g₀ (LL.owed D L o _ is .1 .0))) $
           -- it is lent to `advance`
           assigns ! (addr ! (from ! (stop !))) (from ! (stop !)) (init ! 5 refl (tt, tt)) $

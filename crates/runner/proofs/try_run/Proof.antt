@@ -1,4 +1,4 @@
--- `runner::try_run` meets its contract.
+-- Invariant: the first i observations were taken, and the card is in the cell after them.
 -- Assumes nothing.
 use Prim.Native.Nat.{_-_}
 use native.Mathlib.Omega.{arith}

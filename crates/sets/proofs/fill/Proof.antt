@@ -33,7 +33,9 @@ loop-less c = search needs
 
 loop-again : tie.Need-loop-again Inv-loop μ-loop
 loop-again c =
-    (search needs, search needs, rw (c .before .loop .inv .2) (fill-more (c .before .loop .i) (c .before .before .args .v) (c .before .before .args .d .now) (omega arith)))
+    let at = c .before .loop in
+    let x = c .before .before .args in
+    (search needs, search needs, rw (at .inv .2) (fill-more (at .i) (x .v) (x .d .now) (omega arith)))
 
 same-length : tie.Need-same-length Inv-loop μ-loop
 same-length c = search needs

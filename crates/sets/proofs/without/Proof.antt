@@ -13,13 +13,13 @@ single-requires : tie.Need-single-requires
 single-requires c κs = search needs
 
 sub-result : tie.Need-sub-result
-sub-result c = rw (c .single .ensures) (single-le (c .before .before .before .args .s) (c .before .before .before .args .i) (cc))
+sub-result c = let x = c .before .before .before .args in rw (c .single .ensures) (single-le (x .s) (x .i) (cc))
 
 returns : tie.Need-returns
-returns c = rw (c .single .ensures) (sym (without-member (c .before .before .before .args .s) (c .before .before .before .args .i) (cc)))
+returns c = let x = c .before .before .before .args in rw (c .single .ensures) (sym (without-member (x .s) (x .i) (cc)))
 
 returns-2 : tie.Need-returns-2
-returns-2 c = sym (without-other (c .before .before .args .s) (c .before .before .args .i) (cc))
+returns-2 c = let x = c .before .before .args in sym (without-other (x .s) (x .i) (cc))
 
 pub without-spec : {M : Type 1} → statement M
 without-spec = tie.close (tie.spec member-requires single-requires sub-result returns returns-2)

@@ -9,8 +9,7 @@ use native.Mathlib.Numerals.{add-one}
 use native.Mathlib.Omega.{arith}
 use lib.ListN.{length, getD, set, drop, length-append, length-drop, List·getD-append}
 use lib.Seq.{drop-cons, set-at, getD-append-add, getD-drop, getD-at}
-use Rattle.sets.specs.Bounded.{gather}
-use Rattle.tables.specs.Fields.{filledBy}
+use Rattle.sets.specs.Bounded.{gather, filledBy}
 
 module _ (f : ℕ → ℕ) where
   pub length-values : (k : ℕ) → length (gather k (λ i. f i ∷ [])) ≡ k
@@ -56,10 +55,12 @@ module _ (f : ℕ → ℕ) where
       ∙ getD-drop k d (i - k) 0
       ∙ ap (λ (j : ℕ). getD d j 0) m
 
-pub values-ext : (f g : ℕ → ℕ) (k : ℕ) → ((i : ℕ) → i < k → f i ≡ g i) → gather k (λ i. f i ∷ []) ≡ gather k (λ i. g i ∷ [])
+-- lists gathered from the same pieces are the same
+pub gather-ext : (n : ℕ) (p q : ℕ → List ℕ) → ((j : ℕ) → j < n → p j ≡ q j) → gather n p ≡ gather n q
 unfolding gather
-values-ext f g zero h = refl
-values-ext f g (suc k) h = ap₂ (λ (l : List ℕ) (x : ℕ). l ++ (x ∷ [])) (values-ext f g k (λ i l. h i (le-step l))) (h k (le-refl (suc k)))
+gather-ext zero p q h = refl
+gather-ext (suc n) p q h = ap₂ _++_ (gather-ext n p q (λ j l. h j (le-step l))) (h n (le-refl (suc n)))
 
 pub filled-ext : (f g : ℕ → ℕ) (k : ℕ) (d : List ℕ) → ((i : ℕ) → i < k → f i ≡ g i) → filledBy k f d ≡ filledBy k g d
-filled-ext f g k d h = ap (λ (l : List ℕ). l ++ drop k d) (values-ext f g k h)
+filled-ext f g k d h =
+    ap (λ (l : List ℕ). l ++ drop k d) (gather-ext k (λ i. f i ∷ []) (λ i. g i ∷ []) (λ i l. ap (λ (x : ℕ). x ∷ []) (h i l)))

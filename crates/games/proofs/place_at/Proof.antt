@@ -1,0 +1,43 @@
+-- `games::place_at` meets its contract: one law for each kind of place.
+-- Assumes nothing.
+use mathlib.Core.Path.{_≡_, sym, _∙_}
+use Prim.Native.Nat.{_≤_, _<_}
+use native.Mathlib.Omega.{arith}
+use borrow.Author.Needs.{needs}
+use Rattle.games.specs.Places.{movesPlace}
+use Rattle.games.proofs.Places.{at-start, at-bad, at-shown, at-move}
+use Rattle.games.proofs.place_at.Statement.{statement}
+use Rattle.games.proofs.place_at.Tie as tie
+
+returns : tie.Need-returns
+returns c = sym (at-start (c .before .args .s) (c .before .args .p) (c .if1 .taken))
+
+returns-2 : tie.Need-returns-2
+returns-2 c = let x = c .before .before .args in sym (at-bad (x .s) (x .p) (c .before .if1 .left) (c .if2 .taken))
+
+returns-3 : tie.Need-returns-3
+returns-3 c =
+    let x = c .before .before .before .before .args in
+    let e = c .before .moves-place .ensures in
+    sym (at-shown (x .s) (x .p) (c .before .before .before .if1 .left) (c .before .before .if2 .left) (omega arith))
+
+returns-4 : tie.Need-returns-4
+returns-4 c =
+    let from = c .before .before .before .moves-place in
+    let x = c .before .before .before .before .before .before .args in
+    rw (from .ensures) (sym (at-move (x .s) (x .p) (c .before .before .before .before .before .if1 .left) (c .before .before .before .before .if2 .left) (omega arith)))
+
+pub place-at-spec : {M : Type 1} → statement M
+place-at-spec =
+    tie.close
+    (tie.spec
+    returns
+    returns-2
+    (λ c κs. search needs)
+    (λ c. search needs)
+    (λ c. search needs)
+    returns-3
+    (λ c. search needs)
+    (λ c. search needs)
+    (λ c. search needs)
+    returns-4)
