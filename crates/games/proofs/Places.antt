@@ -1,9 +1,9 @@
 -- The places of a table's words: what stands at a place stands there, and a set that the table has stands at a place of it.
 -- Assumes nothing.
-use mathlib.Core.Path.{_≡_, sym, ap, _∙_}
+use mathlib.Core.Path.{_≡_, refl, sym, ap, ap₂, _∙_, subst}
 use mathlib.Core.Logic.{_⊎_, ⊎-elim}
-use Prim.Native.Nat.{ℕ, _+_, _-_, _*_, _/_, _%_, _≤_, _<_}
-use native.Mathlib.Nat.{div-add-mod'}
+use Prim.Native.Nat.{ℕ, suc, _+_, _-_, _*_, _/_, _%_, _≤_, _<_}
+use native.Mathlib.Nat.{div-add-mod', mod-lt, mod-eq-of-lt, div-eq-of-lt, div-lt-iff-lt-mul, mul-add-div-right, mul-add-mod-self-right, mul-le-mul-right, suc-mul}
 use native.Mathlib.Omega.{arith}
 use borrow.Author.Tests.{eq-eqb, ne-eqb, eqb-true, eqb-false, lt-ltb, le-ltb, ltb-true, ltb-false}
 use lib.Dec.{eqb, ltb}
@@ -35,18 +35,28 @@ module _ (s : Shape) (p : ℕ) where
   unfolding placeAt
   at-move d e l = rw (ne-eqb p 1 d, ne-eqb p 2 e, le-ltb p (movesPlace s) l)
 
-  -- what stands at a place stands there
-  pub place-back : 1 ≤ p → placeOf s (placeAt s p) ≡ p
-  place-back l =
-      ⊎-elim (λ b. let e = eqb-true p 1 b in ap (placeOf s) (at-start e) ∙ sym e)
+  -- by its kind
+  by-place : (P : Place → Type 0) → (p ≡ startPlace → P Start) → (p ≡ badPlace → P Bad) → (shownPlace ≤ p → p < movesPlace s → P (shown (p - shownPlace))) → (movesPlace s ≤ p → P (move ((p - movesPlace s) / s .states) ((p - movesPlace s) % s .states))) → 1 ≤ p → P (placeAt s p)
+  by-place P start bad seen moved l =
+      ⊎-elim (λ b. let e = eqb-true p 1 b in subst P (sym (at-start e)) (start e))
       (λ b. let d = eqb-false p 1 b in
-      ⊎-elim (λ b. let e = eqb-true p 2 b in ap (placeOf s) (at-bad d e) ∙ sym e)
+      ⊎-elim (λ b. let e = eqb-true p 2 b in subst P (sym (at-bad d e)) (bad e))
       (λ b. let e = eqb-false p 2 b in
-      ⊎-elim (λ b. let h = ltb-true p (movesPlace s) b in ap (placeOf s) (at-shown d e h) ∙ omega arith)
-      (λ b. let h = ltb-false p (movesPlace s) b in ap (placeOf s) (at-move d e h) ∙ omega (arith, div-add-mod' (p - movesPlace s) (s .states)))
+      ⊎-elim (λ b. let h = ltb-true p (movesPlace s) b in subst P (sym (at-shown d e h)) (seen (omega arith) h))
+      (λ b. let h = ltb-false p (movesPlace s) b in subst P (sym (at-move d e h)) (moved h))
       (decided (ltb p (movesPlace s))))
       (decided (eqb p 2)))
       (decided (eqb p 1))
+
+  -- what stands at a place stands there
+  pub place-back : 1 ≤ p → placeOf s (placeAt s p) ≡ p
+  place-back = by-place (λ x. placeOf s x ≡ p) sym sym (λ a b. omega arith) (λ a. omega (arith, div-add-mod' (p - movesPlace s) (s .states)))
+
+  -- and the table has it
+  pub place-within : 1 ≤ s .states → p < tableLength s → 1 ≤ p → Within s (placeAt s p)
+  place-within some inside =
+      by-place (Within s) (λ e. tt) (λ e. tt) (λ a b. omega arith)
+      (λ a. (div-lt-iff-lt-mul {k = s .states} {x = p - movesPlace s} {y = s .actions} some .1 (omega arith), mod-lt (p - movesPlace s) some))
 
 -- a set that the table has stands at a place from 1 up and below the table's length
 pub place-from : (s : Shape) (x : Place) → 1 ≤ placeOf s x
@@ -67,3 +77,40 @@ shown-told s x j e = rw e
 
 pub move-told : (s : Shape) (x : Place) (a : Action) (i : State) (from : ℕ) → x ≡ Move a i → from ≡ movesPlace s → from + a .0 * s .states + i .0 ≡ placeOf s x
 move-told s x a i from e f = rw (e, f)
+
+-- what stands where a set of the table stands is this set
+pub place-there : (s : Shape) (x : Place) → Within s x → placeAt s (placeOf s x) ≡ x
+place-there s Start h = at-start s 1 refl
+place-there s Bad h = at-bad s 2 (λ e. omega arith) refl
+place-there s (Shown j) h =
+    at-shown s (shownPlace + j .0) (λ e. omega arith) (λ e. omega arith) (omega arith) ∙ ap shown (omega arith)
+place-there s (Move a i) h =
+    let n = s .states in
+    let slot : movesPlace s + a .0 * n + i .0 - movesPlace s ≡ a .0 * n + i .0 = omega arith in
+    at-move s (movesPlace s + a .0 * n + i .0) (λ e. omega arith) (λ e. omega arith) (omega arith)
+    ∙ ap₂ move
+    (ap (λ (k : ℕ). k / n) slot ∙ mul-add-div-right {m = n} (omega (arith, h .1)) (a .0) (i .0) ∙ omega (arith, div-eq-of-lt (h .1)))
+    (ap (λ (k : ℕ). k % n) slot ∙ mul-add-mod-self-right (a .0) n (i .0) ∙ mod-eq-of-lt (h .1))
+
+-- the observations' sets stand one behind the other, and so do the moves
+pub shown-from : (s : Shape) (j : ℕ) → placeOf s (shown 0) + j ≡ placeOf s (shown j)
+shown-from s j = omega arith
+
+pub move-from : (s : Shape) (j : ℕ) → placeOf s (move 0 0) + j ≡ placeOf s (move (j / s .states) (j % s .states))
+move-from s j = omega (arith, div-add-mod' j (s .states))
+
+-- a move's slot is its action's and its state's
+pub move-slot : (s : Shape) (a i : ℕ) → placeOf s (move ((a * s .states + i) / s .states) ((a * s .states + i) % s .states)) ≡ placeOf s (move a i)
+move-slot s a i = omega (arith, div-add-mod' (a * s .states + i) (s .states))
+
+-- all observations' sets, all moves and an action's moves lie in the table
+pub shown-row : (s : Shape) → placeOf s (shown 0) + s .observations ≤ tableLength s
+shown-row s = omega arith
+
+pub moves-row : (s : Shape) → placeOf s (move 0 0) + s .actions * s .states ≤ tableLength s
+moves-row s = omega arith
+
+pub action-row : (s : Shape) (a : ℕ) → a < s .actions → placeOf s (move a 0) + s .states ≤ tableLength s
+action-row s a h =
+    let k : suc a * s .states ≤ s .actions * s .states = mul-le-mul-right (s .states) h in
+    omega (arith, suc-mul a (s .states))

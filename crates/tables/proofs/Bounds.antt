@@ -1,34 +1,43 @@
--- Bounds on products of two numbers of a table's head.
+-- Bounds on a table's numbers and words.
 -- Assumes nothing.
 use mathlib.Core.List.{List}
-use Prim.Native.Nat.{ℕ, suc, _+_, _*_, _≤_, _<_}
-use native.Mathlib.Nat.{mul-le-mul, mul-le-mul-right, suc-mul}
+use Prim.Native.Nat.{ℕ, _^_, _≤_, _<_}
 use native.Mathlib.Omega.{arith}
-use lib.ListN.{length, getD}
-use Rattle.games.specs.Format.{maxStates, maxActions, maxMoves, headValues}
-use Rattle.games.specs.Words.{headStates, headActions, game}
-use Rattle.tables.specs.Layout.{maxWords, Limited, Sized}
+use lib.ListN.{length}
+use Rattle.games.specs.Format.{maxStates, maxActions, maxObservations, maxSets}
+use Rattle.games.specs.Places.{placeOf, tableLength, Within, Limited}
+use Rattle.games.specs.Words.{game}
+use Rattle.games.specs.declared.Shape.{Shape}
+use Rattle.games.specs.declared.Place.{Place}
+use Rattle.games.proofs.Limits.{moves-below, sets-below}
+use Rattle.games.proofs.Places.{place-below}
+use Rattle.tables.specs.Layout.{shapeIn, maxWords, Sized}
 
--- numbers of a head
-pub product-below : (a n : ℕ) → a < headValues → n < headValues → a * n ≤ headValues * headValues
-product-below a n p q = mul-le-mul {n₂ = headValues} {m₂ = headValues} (omega arith) (omega arith)
+-- no table is longer than the longest
+pub length-short : (s : Shape) → Limited s → tableLength s ≤ maxWords
+length-short s l = omega (arith, moves-below (s .actions) (s .states) (l .most-actions) (l .most-states))
 
--- moves
-pub moves-below : (a n : ℕ) → a ≤ maxActions → n ≤ maxStates → a * n ≤ maxMoves
-moves-below a n p q = mul-le-mul {n₂ = maxActions} {m₂ = maxStates} p q
+module _ (w : List ℕ) (h : Sized w) where
+  pub table-short : length w ≤ maxWords
+  table-short = omega (arith, length-short (shapeIn w) (h .limits), h .long)
 
--- a row's slot lies below all rows
-pub slot-below : (a A n i : ℕ) → a < A → i < n → a * n + i < A * n
-slot-below a A n i p q =
-    let h : suc a * n ≤ A * n = mul-le-mul-right n p in
-    omega (arith, suc-mul a n)
+  -- the numbers of the game
+  pub game-limited : Limited (record { states = game w .states; actions = game w .actions; observations = game w .observations })
+  unfolding game
+  game-limited = h .limits
 
--- a table's words are no more than the longest table's
-pub table-short : (w : List ℕ) → Sized w → length w ≤ maxWords
-table-short w h =
-    omega (arith, moves-below (headActions (getD w 0 0)) (headStates (getD w 0 0)) (h .limits .most-actions) (h .limits .most-states))
+  pub few-states : game w .states ≤ maxStates
+  few-states = game-limited .most-states
 
--- the numbers that the game of a table has
-pub game-limited : (w : List ℕ) → Sized w → Limited (game w .states) (game w .actions) (game w .observations)
-unfolding game
-game-limited w h = h .limits
+  pub few-actions : game w .actions ≤ maxActions
+  few-actions = game-limited .most-actions
+
+  pub few-observations : game w .observations ≤ maxObservations
+  few-observations = game-limited .most-observations
+
+  pub few-sets : 2 ^ game w .states ≤ maxSets
+  few-sets = sets-below (game w .states) few-states
+
+  -- a set of the table stands in it
+  pub place-inside : (x : Place) → Within (shapeIn w) x → placeOf (shapeIn w) x < length w
+  place-inside x k = rw (h .long) (place-below (shapeIn w) x k)

@@ -8,19 +8,26 @@ use native.Mathlib.Omega.{arith}
 use borrow.Author.Tests.{eq-eqb, ne-eqb, eqb-true, eqb-false, leb-false, lt-ltb, not-false}
 use lib.Dec.{eqb}
 use lib.ListN.{length, getD}
-use Rattle.sets.specs.Bounded.{first, any, Found, nothing, found}
+use Rattle.sets.specs.Bounded.{first, any, nothing, atFound}
 use Rattle.sets.proofs.Logic.{and-left, and-right, or-false-left, or-false-right, false-not, true-not}
 use Rattle.sets.proofs.Bounded.{first-zero, first-skip, first-stop, first-nothing, any-intro, any-found}
 use Rattle.sets.specs.Mask.{member}
 use Rattle.games.specs.Format.{within, maxStates, maxActions, maxObservations, headSpareAt}
 use Rattle.games.specs.Game.{Game, Shows, Accepted}
-use Rattle.games.specs.Words.{lowField, headStates, headActions, headObservations, tableLength, startPlace, movePlace, game}
+use Rattle.games.specs.Answers.{unless}
+use Rattle.games.specs.Fields.{lowField}
+use Rattle.games.specs.Places.{shapeOf, shown, move, placeOf, placeAt, tableLength, startPlace, Within, Limited}
+use Rattle.games.specs.Words.{maskAt, game}
+use Rattle.games.specs.declared.Shape.{Shape}
+use Rattle.games.specs.declared.Place.{Place}
+use Rattle.games.specs.declared.Place.the-variants.{Start, Bad}
+use Rattle.games.specs.declared.Checked.the-variants.{Fine, Refused}
+use Rattle.games.proofs.Answers.{never, then-fine, cond-fine, cond-passed, found-none}
 use Rattle.games.proofs.Limits.{within-low, within-high}
-use Rattle.tables.specs.Layout.{headTop, bareWord, Limited, Sized}
-use Rattle.tables.specs.Check.{andThen, atFound, tooWide, limitsHold, headRight, sizeChecked, placed, faulty, wordsChecked, unseen, setsChecked, checked}
-use Rattle.tables.specs.declared.Checked.{Checked}
-use Rattle.tables.specs.declared.Checked.the-variants.{Fine, Refused}
-use Rattle.tables.proofs.Bounds.{slot-below}
+use Rattle.games.proofs.Places.{place-from}
+use Rattle.tables.specs.Layout.{shapeIn, headTop, bareWord, Sized}
+use Rattle.tables.specs.Check.{tooWide, limitsHold, headRight, sizeChecked, placed, faulty, wordsChecked, unseen, setsChecked, checked}
+use Rattle.tables.proofs.Bounds.{place-inside}
 
 -- ---- 1, 2 and 3
 
@@ -29,17 +36,18 @@ module _ (w : List ℕ) where
   unfolding sizeChecked
   size-none e = rw (eq-eqb (length w) 0 e)
 
-  pub size-head : (length w ≡ 0 → ⊥) → headRight (getD w 0 0) ≡ false → sizeChecked w ≡ Refused 2 0
-  unfolding sizeChecked
-  size-head e h = rw (ne-eqb (length w) 0 e, h)
+  module _ (some : length w ≡ 0 → ⊥) where
+    pub size-head : headRight (getD w 0 0) ≡ false → sizeChecked w ≡ Refused 2 0
+    unfolding sizeChecked
+    size-head h = rw (ne-eqb (length w) 0 some, h)
 
-  pub size-long : (length w ≡ 0 → ⊥) → headRight (getD w 0 0) ≡ true → (length w ≡ tableLength (headStates (getD w 0 0)) (headActions (getD w 0 0)) (headObservations (getD w 0 0)) → ⊥) → sizeChecked w ≡ Refused 3 (length w)
-  unfolding sizeChecked
-  size-long e h l = rw (ne-eqb (length w) 0 e, h, ne-eqb (length w) (tableLength (headStates (getD w 0 0)) (headActions (getD w 0 0)) (headObservations (getD w 0 0))) l)
+    pub size-long : headRight (getD w 0 0) ≡ true → (length w ≡ tableLength (shapeIn w) → ⊥) → sizeChecked w ≡ Refused 3 (length w)
+    unfolding sizeChecked
+    size-long h l = rw (ne-eqb (length w) 0 some, h, ne-eqb (length w) (tableLength (shapeIn w)) l)
 
-  pub size-fine : (length w ≡ 0 → ⊥) → headRight (getD w 0 0) ≡ true → length w ≡ tableLength (headStates (getD w 0 0)) (headActions (getD w 0 0)) (headObservations (getD w 0 0)) → sizeChecked w ≡ Fine
-  unfolding sizeChecked
-  size-fine e h l = rw (ne-eqb (length w) 0 e, h, eq-eqb (length w) (tableLength (headStates (getD w 0 0)) (headActions (getD w 0 0)) (headObservations (getD w 0 0))) l)
+    pub size-fine : headRight (getD w 0 0) ≡ true → length w ≡ tableLength (shapeIn w) → sizeChecked w ≡ Fine
+    unfolding sizeChecked
+    size-fine h l = rw (ne-eqb (length w) 0 some, h, eq-eqb (length w) (tableLength (shapeIn w)) l)
 
 -- ---- 4 and 5
 
@@ -62,7 +70,7 @@ unfolding wordsChecked
 words-fine w e = rw e
 
 -- the test of one word
-pub faulty-is : (w : List ℕ) (p : ℕ) (a b : Bool) → 1 ≤ p → a ≡ placed w p → b ≡ tooWide (headStates (getD w 0 0)) (lowField (getD w p 0)) → (not a || b) ≡ faulty w p
+pub faulty-is : (w : List ℕ) (p : ℕ) (a b : Bool) → 1 ≤ p → a ≡ placed w p → b ≡ tooWide (shapeIn w .states) (lowField (getD w p 0)) → (not a || b) ≡ faulty w p
 unfolding faulty
 faulty-is w p a b l e f = rw (e, f, lt-ltb 0 p l)
 
@@ -79,7 +87,7 @@ module _ (g : Game) (i : ℕ) where
   seen-none e = false-not e
 
 module _ (g : Game) where
-  pub sets-empty : g .start ≡ 0 → setsChecked g ≡ Refused 6 1
+  pub sets-empty : g .start ≡ 0 → setsChecked g ≡ Refused 6 startPlace
   unfolding setsChecked
   sets-empty e = rw (eq-eqb (g .start) 0 e)
 
@@ -108,66 +116,47 @@ module _ (w : List ℕ) where
 
 -- ---- what `Fine` tells
 
-pub then-fine : (c d : Checked) → andThen c d ≡ Fine → (c ≡ Fine) × (d ≡ Fine)
-then-fine Fine d e = (refl, e)
-then-fine (Refused k p) d e = let z : _≡_ {A = ℕ} 0 1 = cc in absurd (omega arith)
-
--- a refusal is no `Fine`
-pub never : {A : Type 0} (k p : ℕ) → Refused k p ≡ Fine → A
-never k p e = let z : _≡_ {A = ℕ} 0 1 = cc in absurd (omega arith)
-
-pub cond-fine : (b : Bool) (c : Checked) (k p : ℕ) → cond b c (Refused k p) ≡ Fine → (b ≡ true) × (c ≡ Fine)
-cond-fine true c k p e = (refl, e)
-cond-fine false c k p e = never k p e
-
-pub cond-passed : (b : Bool) (k p : ℕ) (c : Checked) → cond b (Refused k p) c ≡ Fine → (b ≡ false) × (c ≡ Fine)
-cond-passed true k p c e = never k p e
-cond-passed false k p c e = (refl, e)
-
-pub found-none : (f : Found) (r : ℕ → Checked) → ((i : ℕ) → r i ≡ Fine → ⊥) → atFound f r Fine ≡ Fine → f ≡ nothing
-found-none nothing r h e = refl
-found-none (found i) r h e = absurd (h i e)
-
-limits-at : (n a o : ℕ) → limitsHold n a o ≡ true → (within n maxStates ≡ true) × (within a maxActions ≡ true) × (within o maxObservations ≡ true)
+pub limits-hold : (s : Shape) → limitsHold s ≡ true → Limited s
 unfolding limitsHold
-limits-at n a o e =
-    let f = and-right (within n maxStates) (within a maxActions && within o maxObservations) e in
-    (and-left (within n maxStates) (within a maxActions && within o maxObservations) e, and-left (within a maxActions) (within o maxObservations) f, and-right (within a maxActions) (within o maxObservations) f)
-
-pub size-passed : (w : List ℕ) → sizeChecked w ≡ Fine → (headRight (getD w 0 0) ≡ true) × (length w ≡ tableLength (headStates (getD w 0 0)) (headActions (getD w 0 0)) (headObservations (getD w 0 0)))
-unfolding sizeChecked
-size-passed w e =
-    let l = tableLength (headStates (getD w 0 0)) (headActions (getD w 0 0)) (headObservations (getD w 0 0)) in
-    let a = cond-passed (eqb (length w) 0) 1 0 (cond (headRight (getD w 0 0)) (cond (eqb (length w) l) Fine (Refused 3 (length w))) (Refused 2 0)) e in
-    let b = cond-fine (headRight (getD w 0 0)) (cond (eqb (length w) l) Fine (Refused 3 (length w))) 2 0 (a .1) in
-    (b .0, eqb-true (length w) l (cond-fine (eqb (length w) l) Fine 3 (length w) (b .1) .0))
-
--- the head that is right
-pub head-top : (w : ℕ) → headRight w ≡ true → w / headSpareAt ≡ headTop
-unfolding headRight
-head-top w e = eqb-true (w / headSpareAt) headTop (and-left (eqb (w / headSpareAt) headTop) (limitsHold (headStates w) (headActions w) (headObservations w)) e)
-
-pub head-limits : (w : ℕ) → headRight w ≡ true → limitsHold (headStates w) (headActions w) (headObservations w) ≡ true
-unfolding headRight
-head-limits w e = and-right (eqb (w / headSpareAt) headTop) (limitsHold (headStates w) (headActions w) (headObservations w)) e
-
-pub limits-hold : (n a o : ℕ) → limitsHold n a o ≡ true → Limited n a o
-limits-hold n a o e =
-    let l = limits-at n a o e in
+limits-hold s e =
+    let n = within (s .states) maxStates in
+    let a = within (s .actions) maxActions in
+    let o = within (s .observations) maxObservations in
+    let m = and-left n (a && o) e in
+    let p = and-left a o (and-right n (a && o) e) in
+    let q = and-right a o (and-right n (a && o) e) in
     record {
-      some-state = within-low n maxStates (l .0);
-      most-states = within-high n maxStates (l .0);
-      some-action = within-low a maxActions (l .1);
-      most-actions = within-high a maxActions (l .1);
-      some-observation = within-low o maxObservations (l .2);
-      most-observations = within-high o maxObservations (l .2);
+      some-state = within-low (s .states) maxStates m;
+      most-states = within-high (s .states) maxStates m;
+      some-action = within-low (s .actions) maxActions p;
+      most-actions = within-high (s .actions) maxActions p;
+      some-observation = within-low (s .observations) maxObservations q;
+      most-observations = within-high (s .observations) maxObservations q;
     }
 
-pub size-sized : (w : List ℕ) → sizeChecked w ≡ Fine → Sized w
-size-sized w e =
-    let h = size-passed w e in
-    let head = getD w 0 0 in
-    record { limits = limits-hold (headStates head) (headActions head) (headObservations head) (head-limits head (h .0)); long = h .1 }
+-- the head that is right
+module _ (w : ℕ) (right : headRight w ≡ true) where
+  pub head-top : w / headSpareAt ≡ headTop
+  unfolding headRight
+  head-top = eqb-true (w / headSpareAt) headTop (and-left (eqb (w / headSpareAt) headTop) (limitsHold (shapeOf w)) right)
+
+  pub head-limits : limitsHold (shapeOf w) ≡ true
+  unfolding headRight
+  head-limits = and-right (eqb (w / headSpareAt) headTop) (limitsHold (shapeOf w)) right
+
+module _ (w : List ℕ) (fine : sizeChecked w ≡ Fine) where
+  size-passed : (headRight (getD w 0 0) ≡ true) × (length w ≡ tableLength (shapeIn w))
+  unfolding sizeChecked
+  size-passed =
+      let right = headRight (getD w 0 0) in
+      let long = eqb (length w) (tableLength (shapeIn w)) in
+      let a = cond-passed (eqb (length w) 0) 1 0 (cond (not right) (Refused 2 0) (cond (not long) (Refused 3 (length w)) Fine)) fine in
+      let b = cond-passed (not right) 2 0 (cond (not long) (Refused 3 (length w)) Fine) (a .1) in
+      let c = cond-passed (not long) 3 (length w) Fine (b .1) in
+      (not-false right (b .0), eqb-true (length w) (tableLength (shapeIn w)) (not-false long (c .0)))
+
+  pub size-sized : Sized w
+  size-sized = record { limits = limits-hold (shapeIn w) (head-limits (getD w 0 0) (size-passed .0)); long = size-passed .1 }
 
 module _ (w : List ℕ) where
   words-passed : wordsChecked w ≡ Fine → first (length w) (faulty w) ≡ nothing
@@ -175,26 +164,29 @@ module _ (w : List ℕ) where
   words-passed e =
       found-none (first (length w) (faulty w)) (λ p. cond (placed w p) (Refused 5 p) (Refused 4 p)) (λ p f. never 5 p (cond-fine (placed w p) (Refused 5 p) 4 p f .1)) e
 
-  not-faulty : (p : ℕ) → 1 ≤ p → faulty w p ≡ false → (placed w p ≡ true) × (tooWide (headStates (getD w 0 0)) (lowField (getD w p 0)) ≡ false)
+  not-faulty : (p : ℕ) → 1 ≤ p → faulty w p ≡ false → (placed w p ≡ true) × (tooWide (shapeIn w .states) (lowField (getD w p 0)) ≡ false)
   unfolding faulty
   not-faulty p l e =
-      let wide = tooWide (headStates (getD w 0 0)) (lowField (getD w p 0)) in
+      let wide = tooWide (shapeIn w .states) (lowField (getD w p 0)) in
       let f : (not (placed w p) || wide) ≡ false = rw (lt-ltb 0 p l) at e in
       (not-false (placed w p) (or-false-left (not (placed w p)) wide f), or-false-right (not (placed w p)) wide f)
 
   module _ (fine : wordsChecked w ≡ Fine) (p : ℕ) (from-one : 1 ≤ p) (inside : p < length w) where
-    pub word-placed : getD w p 0 ≡ bareWord (headStates (getD w 0 0)) (headObservations (getD w 0 0)) p + lowField (getD w p 0)
-    unfolding placed
-    word-placed = eqb-true (getD w p 0) (bareWord (headStates (getD w 0 0)) (headObservations (getD w 0 0)) p + lowField (getD w p 0)) (not-faulty p from-one (first-nothing (length w) (faulty w) (words-passed fine) p inside) .0)
+    word-sound : (placed w p ≡ true) × (tooWide (shapeIn w .states) (lowField (getD w p 0)) ≡ false)
+    word-sound = not-faulty p from-one (first-nothing (length w) (faulty w) (words-passed fine) p inside)
 
-    pub word-below : lowField (getD w p 0) < 2 ^ headStates (getD w 0 0)
-    word-below = leb-false (2 ^ headStates (getD w 0 0)) (lowField (getD w p 0)) (not-faulty p from-one (first-nothing (length w) (faulty w) (words-passed fine) p inside) .1)
+    pub word-placed : getD w p 0 ≡ bareWord (placeAt (shapeIn w) p) + lowField (getD w p 0)
+    unfolding placed
+    word-placed = eqb-true (getD w p 0) (bareWord (placeAt (shapeIn w) p) + lowField (getD w p 0)) (word-sound .0)
+
+    pub word-below : lowField (getD w p 0) < 2 ^ shapeIn w .states
+    word-below = leb-false (2 ^ shapeIn w .states) (lowField (getD w p 0)) (word-sound .1)
 
 module _ (g : Game) (fine : setsChecked g ≡ Fine) where
   sets-passed : (eqb (g .start) 0 ≡ false) × (first (g .states) (unseen g) ≡ nothing)
   unfolding setsChecked
   sets-passed =
-      let h = cond-passed (eqb (g .start) 0) 6 1 (atFound (first (g .states) (unseen g)) (λ i. Refused 7 i) Fine) fine in
+      let h = cond-passed (eqb (g .start) 0) 6 startPlace (atFound (first (g .states) (unseen g)) (λ i. Refused 7 i) Fine) fine in
       (h .0, found-none (first (g .states) (unseen g)) (λ i. Refused 7 i) (λ i f. never 7 i f) (h .1))
 
   pub start-some : g .start ≡ 0 → ⊥
@@ -216,7 +208,7 @@ module _ (w : List ℕ) (fine : checked w ≡ Fine) where
   fine-parts : (sizeChecked w ≡ Fine) × (wordsChecked w ≡ Fine) × (setsChecked (game w) ≡ Fine)
   unfolding checked
   fine-parts =
-      let a = then-fine (sizeChecked w) (andThen (wordsChecked w) (setsChecked (game w))) fine in
+      let a = then-fine (sizeChecked w) (unless (wordsChecked w) Refused (setsChecked (game w))) fine in
       let b = then-fine (wordsChecked w) (setsChecked (game w)) (a .1) in
       (a .0, b .0, b .1)
 
@@ -232,19 +224,23 @@ module _ (w : List ℕ) (fine : checked w ≡ Fine) where
   pub fine-head : headRight (getD w 0 0) ≡ true
   fine-head = size-passed w (fine-parts .0) .0
 
+  -- each set names states below n only
+  mask-below : (x : Place) → Within (shapeIn w) x → maskAt w x < 2 ^ shapeIn w .states
+  mask-below x h =
+      word-below w fine-words (placeOf (shapeIn w) x) (place-from (shapeIn w) x) (place-inside w sized x h)
+
   pub accepted : Accepted (game w)
   unfolding game
   accepted =
-      let z = sized in
-      let below = word-below w (fine-parts .1) in
+      let limits = sized .limits in
       record {
-        some-state = z .limits .some-state;
-        some-action = z .limits .some-action;
-        some-observation = z .limits .some-observation;
-        start-below = below 1 (omega arith) (omega arith);
-        bad-below = below 2 (omega arith) (omega arith);
-        shown-below = λ o l. below (3 + o) (omega arith) (omega arith);
-        successors-below = λ a i l m. below (movePlace (headStates (getD w 0 0)) (headObservations (getD w 0 0)) a i) (omega arith) (omega (arith, slot-below a (headActions (getD w 0 0)) (headStates (getD w 0 0)) i l m));
-        start-some = positive (lowField (getD w startPlace 0)) (start-some (game w) (fine-parts .2));
-        all-show = all-show (game w) (fine-parts .2);
+        some-state = limits .some-state;
+        some-action = limits .some-action;
+        some-observation = limits .some-observation;
+        start-below = mask-below Start tt;
+        bad-below = mask-below Bad tt;
+        shown-below = λ o l. mask-below (shown o) l;
+        successors-below = λ a i l m. mask-below (move a i) (l, m);
+        start-some = positive (maskAt w Start) (start-some (game w) fine-sets);
+        all-show = all-show (game w) fine-sets;
       }

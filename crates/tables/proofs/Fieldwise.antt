@@ -1,31 +1,54 @@
--- The fields that the code collects are the game's.
+-- The fields that the code collects are the table's.
 -- Assumes nothing.
 use mathlib.Core.Path.{_≡_, ap, ap₂, _∙_}
 use mathlib.Core.List.{List}
-use Prim.Native.Nat.{ℕ, _+_, _*_, _/_, _%_}
-use native.Mathlib.Nat.{div-add-mod'}
-use native.Mathlib.Omega.{arith}
+use Prim.Native.Nat.{ℕ, _*_, _/_, _%_}
 use lib.ListN.{getD, replicate}
+use Rattle.sets.specs.Bounded.{filledBy}
+use Rattle.sets.proofs.Fills.{filled-ext}
 use Rattle.games.specs.Format.{maxObservations, maxMoves}
-use Rattle.games.specs.Words.{lowField, headStates, headObservations, game}
-use Rattle.tables.specs.Fields.{filledBy, masksFrom, fieldsOf}
+use Rattle.games.specs.Fields.{lowField}
+use Rattle.games.specs.Places.{shown, move, placeOf}
+use Rattle.games.specs.Words.{maskAt}
+use Rattle.games.specs.declared.Shape.{Shape}
+use Rattle.games.specs.declared.Place.the-variants.{Start, Bad}
+use Rattle.games.proofs.Places.{shown-from, move-from}
+use Rattle.tables.specs.Layout.{shapeIn}
+use Rattle.tables.specs.Fields.{fieldsShape, masksFrom, fieldsOf}
 use Rattle.tables.specs.declared.Fields.{Fields}
-use Rattle.tables.proofs.Fills.{filled-ext}
 
--- slot j of the moves is action j / n, state j % n
-moves-are : (w : List ℕ) (k : ℕ) (d : List ℕ) → filledBy k (masksFrom w (3 + headObservations (getD w 0 0))) d ≡ filledBy k (λ j. game w .successors (j / game w .states) (j % game w .states)) d
-unfolding game
-moves-are w k d =
-    filled-ext (masksFrom w (3 + headObservations (getD w 0 0))) (λ j. game w .successors (j / game w .states) (j % game w .states)) k d
-    (λ j l.
-    let n = headStates (getD w 0 0) in
-    let e : 3 + headObservations (getD w 0 0) + j ≡ 3 + headObservations (getD w 0 0) + j / n * n + j % n = omega (arith, div-add-mod' j n) in
-    ap (λ (p : ℕ). lowField (getD w p 0)) e)
+module _ (w : List ℕ) (k : ℕ) (d : List ℕ) where
+  -- from the first observation's place on the masks are the observations'
+  shown-are : filledBy k (masksFrom w (placeOf (shapeIn w) (shown 0))) d ≡ filledBy k (λ j. maskAt w (shown j)) d
+  shown-are =
+      filled-ext (masksFrom w (placeOf (shapeIn w) (shown 0))) (λ j. maskAt w (shown j)) k d
+      (λ j l. ap (λ (p : ℕ). lowField (getD w p 0)) (shown-from (shapeIn w) j))
 
-module _ (w : List ℕ) where
-  pub fields-are : (f : Fields) → f .states ≡ game w .states → f .actions ≡ game w .actions → f .observations ≡ game w .observations → f .start ≡ game w .start → f .bad ≡ game w .bad → f .shown ≡ filledBy (f .observations) (masksFrom w 3) (replicate maxObservations 0) → f .moves ≡ filledBy (f .actions * f .states) (masksFrom w (3 + f .observations)) (replicate maxMoves 0) → f ≡ fieldsOf (game w)
-  unfolding fieldsOf game
-  fields-are f en ea eo es eb esh emv =
-      let sh : f .shown ≡ filledBy (game w .observations) (game w .shown) (replicate maxObservations 0) = esh ∙ ap (λ (k : ℕ). filledBy k (masksFrom w 3) (replicate maxObservations 0)) eo in
-      let mv : f .moves ≡ filledBy (game w .actions * game w .states) (λ j. game w .successors (j / game w .states) (j % game w .states)) (replicate maxMoves 0) = emv ∙ ap₂ (λ (k o : ℕ). filledBy k (masksFrom w (3 + o)) (replicate maxMoves 0)) (ap₂ _*_ ea en) eo ∙ moves-are w (game w .actions * game w .states) (replicate maxMoves 0) in
-      λ i. record { states = en i; actions = ea i; observations = eo i; start = es i; bad = eb i; shown = sh i; moves = mv i }
+  -- from the first move's on they are the moves': slot j is action j / n, state j % n
+  moves-are : filledBy k (masksFrom w (placeOf (shapeIn w) (move 0 0))) d ≡ filledBy k (λ j. maskAt w (move (j / shapeIn w .states) (j % shapeIn w .states))) d
+  moves-are =
+      filled-ext (masksFrom w (placeOf (shapeIn w) (move 0 0))) (λ j. maskAt w (move (j / shapeIn w .states) (j % shapeIn w .states))) k d
+      (λ j l. ap (λ (p : ℕ). lowField (getD w p 0)) (move-from (shapeIn w) j))
+
+-- what the code has: the numbers, both sets, and the masks from the two places on
+module _ (w : List ℕ) (f : Fields) (s : Shape) (same : s ≡ shapeIn w) (numbers : fieldsShape f ≡ s) where
+  pub fields-are : (first-shown first-move : ℕ) → f .start ≡ maskAt w Start → f .bad ≡ maskAt w Bad → first-shown ≡ placeOf (shapeIn w) (shown 0) → f .shown ≡ filledBy (s .observations) (masksFrom w first-shown) (replicate maxObservations 0) → first-move ≡ placeOf (shapeIn w) (move 0 0) → f .moves ≡ filledBy (s .actions * s .states) (masksFrom w first-move) (replicate maxMoves 0) → f ≡ fieldsOf w
+  unfolding fieldsOf
+  fields-are first-shown first-move start bad at-shown sh at-move mv =
+      let e = numbers ∙ same in
+      let zeros : List ℕ = replicate maxObservations 0 in
+      let zeros′ : List ℕ = replicate maxMoves 0 in
+      let shown′ =
+      sh ∙ ap₂ (λ (t : Shape) (p : ℕ). filledBy (t .observations) (masksFrom w p) zeros) same at-shown ∙ shown-are w (shapeIn w .observations) zeros in
+      let moves′ =
+      mv ∙ ap₂ (λ (t : Shape) (p : ℕ). filledBy (t .actions * t .states) (masksFrom w p) zeros′) same at-move ∙ moves-are w (shapeIn w .actions * shapeIn w .states) zeros′ in
+      λ i.
+      record {
+        states = e i .states;
+        actions = e i .actions;
+        observations = e i .observations;
+        start = start i;
+        bad = bad i;
+        shown = shown′ i;
+        moves = moves′ i;
+      }

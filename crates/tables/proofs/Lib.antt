@@ -2,7 +2,6 @@ pub mod Bounds
 pub mod Walks
 pub mod Checks
 pub mod Layouts
-pub mod Fills
 pub mod Fieldwise
 pub mod Same
 pub mod Rows

@@ -6,12 +6,13 @@ use mathlib.Core.List.{List, [], _∷_}
 use Prim.Native.Nat.{ℕ}
 use lib.ListN.{set}
 use Rattle.sets.specs.Bounded.{any, first}
+use Rattle.games.specs.Places.{placeAt}
 use Rattle.games.specs.Words.{game}
 use Rattle.games.specs.Stations.{tableA}
+use Rattle.games.specs.declared.Checked.{Checked}
+use Rattle.games.specs.declared.Checked.the-variants.{Fine, Refused}
 use Rattle.tables.specs.Layout.{bareWord}
 use Rattle.tables.specs.Check.{limitsHold, headRight, sizeChecked, placed, faulty, wordsChecked, unseen, setsChecked, checked}
-use Rattle.tables.specs.declared.Checked.{Checked}
-use Rattle.tables.specs.declared.Checked.the-variants.{Fine, Refused}
 
 pub data Rows : List (record { input : List ℕ; answer : Checked }) → Type 0 where
   none : Rows []
@@ -32,5 +33,5 @@ rows =
     ∷ []
 
 pub every-row : Rows rows
-unfolding rows checked sizeChecked wordsChecked setsChecked headRight limitsHold placed faulty unseen bareWord game first any
+unfolding rows checked sizeChecked wordsChecked setsChecked headRight limitsHold placed faulty unseen placeAt bareWord game first any
 every-row = row refl (row refl (row refl (row refl (row refl (row refl (row refl (row refl (row refl (row refl none)))))))))

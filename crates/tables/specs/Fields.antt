@@ -1,34 +1,48 @@
 -- A table's fields: what they hold, and what they mean.
 -- Assumes nothing.
-use mathlib.Core.List.{List, [], _∷_, _++_}
+use mathlib.Core.List.{List}
 use Prim.Native.Nat.{ℕ, _+_, _*_, _/_, _%_}
-use lib.ListN.{getD, drop, replicate}
-use Rattle.sets.specs.Bounded.{gather}
+use lib.ListN.{getD, replicate}
+use Rattle.sets.specs.Bounded.{filledBy}
 use Rattle.games.specs.Format.{maxObservations, maxMoves}
+use Rattle.games.specs.Fields.{lowField}
 use Rattle.games.specs.Game.{Game}
-use Rattle.games.specs.Words.{lowField}
+use Rattle.games.specs.Places.{shown, move}
+use Rattle.games.specs.Words.{maskAt}
+use Rattle.games.specs.declared.Shape.{Shape}
+use Rattle.games.specs.declared.Place.{Place}
+use Rattle.games.specs.declared.Place.the-variants.{Start, Bad, Shown, Move}
+use Rattle.tables.specs.Layout.{shapeIn}
 use Rattle.tables.specs.declared.Fields.{Fields}
 
--- d, its first k places set to f 0, f 1, and so on
-abbrev pub filledBy : ℕ → (ℕ → ℕ) → List ℕ → List ℕ
-filledBy k f d = gather k (λ i. f i ∷ []) ++ drop k d
+-- the numbers of the fields
+abbrev pub fieldsShape : Fields → Shape
+fieldsShape f = record { states = f .states; actions = f .actions; observations = f .observations }
 
 -- the masks from a place on
 abbrev pub masksFrom : List ℕ → ℕ → ℕ → ℕ
 masksFrom w base i = lowField (getD w (base + i) 0)
 
--- a game's fields: observation j in slot j, action a and state i in slot a · n + i, unused slots 0
-unfoldable pub fieldsOf : Game → Fields
-fieldsOf g =
+-- a table's fields: observation j in slot j, action a and state i in slot a · n + i, unused slots 0
+unfoldable pub fieldsOf : List ℕ → Fields
+fieldsOf w =
+    let s = shapeIn w in
     record {
-      states = g .states;
-      actions = g .actions;
-      observations = g .observations;
-      start = g .start;
-      bad = g .bad;
-      shown = filledBy (g .observations) (g .shown) (replicate maxObservations 0);
-      moves = filledBy (g .actions * g .states) (λ j. g .successors (j / g .states) (j % g .states)) (replicate maxMoves 0);
+      states = s .states;
+      actions = s .actions;
+      observations = s .observations;
+      start = maskAt w Start;
+      bad = maskAt w Bad;
+      shown = filledBy (s .observations) (λ j. maskAt w (shown j)) (replicate maxObservations 0);
+      moves = filledBy (s .actions * s .states) (λ j. maskAt w (move (j / s .states) (j % s .states))) (replicate maxMoves 0);
     }
+
+-- the mask that the fields have for a place
+abbrev pub fieldAt : Fields → Place → ℕ
+fieldAt f Start = f .start
+fieldAt f Bad = f .bad
+fieldAt f (Shown j) = getD (f .shown) (j .0) 0
+fieldAt f (Move a i) = getD (f .moves) (a .0 * f .states + i .0) 0
 
 -- what the fields mean
 unfoldable pub gameOf : Fields → Game
@@ -37,8 +51,8 @@ gameOf f =
       states = f .states;
       actions = f .actions;
       observations = f .observations;
-      start = f .start;
-      bad = f .bad;
-      shown = λ j. getD (f .shown) j 0;
-      successors = λ a i. getD (f .moves) (a * f .states + i) 0;
+      start = fieldAt f Start;
+      bad = fieldAt f Bad;
+      shown = λ j. fieldAt f (shown j);
+      successors = λ a i. fieldAt f (move a i);
     }

@@ -1,21 +1,26 @@
 // The words of a station table: checks, what the words say, and its fields.
 ghost use mathlib.Core.Path.{_≡_};
-ghost use Prim.Native.Nat.{_<_, _+_, _≤_, _^_};
+ghost use Prim.Native.Nat.{_<_, _+_, _≤_};
 ghost use lib.ListN.{length, getD};
-ghost use Rattle.games.specs.Words.{game, tableLength, headStates, headActions, headObservations};
-ghost use Rattle.games.specs.Format.{maxObservations, headValues};
+ghost use Rattle.sets.specs.Bounded.{filledBy};
+ghost use Rattle.games.specs.Format.{maxObservations};
+ghost use Rattle.games.specs.Places.{placeAt, placeOf, tableLength, Within, Limited};
 ghost use Rattle.games.specs.Game.{enabled as isEnabled};
 ghost use Rattle.games.specs.Verdict.{startSets, startSet};
-ghost use Rattle.tables.specs.Layout.{maxWords, Limited, Sized, bareWord};
+ghost use Rattle.games.specs.Words.{maskAt, game};
+ghost use Rattle.tables.specs.Layout.{shapeIn, headWord, bareWord, Sized};
 ghost use Rattle.tables.specs.Walk.{walked};
-ghost use Rattle.tables.specs.Fields.{masksFrom, filledBy, fieldsOf, gameOf};
-ghost use Rattle.tables.specs.Check.{limitsHold, headRight, sizeChecked, placed, tooWide, faulty, wordsChecked, unseen, setsChecked, checked};
+ghost use Rattle.tables.specs.Fields.{fieldsShape, masksFrom, fieldsOf, gameOf};
+ghost use Rattle.tables.specs.Check.{limitsHold, headRight, sizeChecked, placed, faulty, wordsChecked, unseen, setsChecked, checked};
 use games::Action;
+use games::Checked;
 use games::Observation;
+use games::Place;
+use games::Shape;
 use games::State;
 
 // The head's kind in its place, and as it stands above the head's numbers, where the spare bits are 0.
-pub const HEAD: u32 = games::KIND_TABLE * games::KIND_AT;
+const HEAD: u32 = games::KIND_TABLE * games::KIND_AT;
 
 const HEAD_TOP: u32 = HEAD / games::HEAD_SPARE_AT;
 
@@ -24,39 +29,30 @@ pub const SHOWN_SLOTS: usize = games::MAX_OBSERVATIONS as usize;
 
 pub const MOVE_SLOTS: usize = (games::MAX_ACTIONS * games::MAX_STATES) as usize;
 
-// An accepted table, or a refusal: number and place.
-pub enum Checked {
-    Fine,
-    Refused(u32, usize),
-}
-
 // The numbers of states, actions and observations are within the limits.
-pub fn limits_hold(n: u32, a: u32, o: u32) -> bool
-    ensures { λ r. ⌜ r ≡ limitsHold n a o ⌝ }
+pub fn limits_hold(s: Shape) -> bool
+    ensures { λ r. ⌜ r ≡ limitsHold s ⌝ }
 {
-    games::within(n, games::MAX_STATES)
-        & (games::within(a, games::MAX_ACTIONS) & games::within(o, games::MAX_OBSERVATIONS))
+    games::within(s.states, games::MAX_STATES)
+        & (games::within(s.actions, games::MAX_ACTIONS)
+            & games::within(s.observations, games::MAX_OBSERVATIONS))
 }
 
 fn head_right(w: u32) -> bool
     ensures { λ r. ⌜ r ≡ headRight w ⌝ }
 {
-    (w / games::HEAD_SPARE_AT == HEAD_TOP)
-        & limits_hold(
-            w % games::HEAD_VALUES,
-            w / games::HEAD_ACTIONS_AT % games::HEAD_VALUES,
-            w / games::HEAD_OBSERVATIONS_AT % games::HEAD_VALUES,
-        )
+    (w / games::HEAD_SPARE_AT == HEAD_TOP) & limits_hold(games::shape_of(w))
 }
 
-// Where the action's move words begin; for the number of actions, the words of the table.
-pub fn row(head: u32, a: u32) -> usize
-    requires { ⌜ a < headValues ⌝ }
-    ensures { λ r. ⌜ r ≡ tableLength (headStates head) a (headObservations head) ⌝ }
+// The head for these numbers.
+pub fn head_word(s: Shape) -> u32
+    requires { ⌜ Limited s ⌝ }
+    ensures { λ r. ⌜ r ≡ headWord s ⌝ }
 {
-    (3
-        + head / games::HEAD_OBSERVATIONS_AT % games::HEAD_VALUES
-        + a * (head % games::HEAD_VALUES)) as usize
+    HEAD
+        + s.observations * games::HEAD_OBSERVATIONS_AT
+        + s.actions * games::HEAD_ACTIONS_AT
+        + s.states
 }
 
 // Refusals 1, 2 and 3.
@@ -68,50 +64,66 @@ fn check_size(table: &[u32]) -> Checked
         return Checked::Refused(1, 0);
     }
     let head = table[0];
-    if head_right(head) {
-        if words == row(head, head / games::HEAD_ACTIONS_AT % games::HEAD_VALUES) {
-            Checked::Fine
-        } else {
-            Checked::Refused(3, words)
-        }
-    } else {
-        Checked::Refused(2, 0)
+    if !head_right(head) {
+        return Checked::Refused(2, 0);
     }
+    if words != games::table_length(games::shape_of(head)) {
+        return Checked::Refused(3, words);
+    }
+    Checked::Fine
+}
+
+// The numbers of the table's head.
+fn shape_in(table: &[u32]) -> Shape
+    requires { ⌜ Sized (now table) ⌝ }
+    ensures { λ r. ⌜ r ≡ shapeIn (now (table .entry)) ⌝ }
+{
+    games::shape_of(table[0])
 }
 
 pub fn states(table: &[u32]) -> u32
     requires { ⌜ Sized (now table) ⌝ }
     ensures { λ r. ⌜ r ≡ game (now (table .entry)) .states ⌝ }
 {
-    table[0] % games::HEAD_VALUES
+    shape_in(table).states
 }
 
 pub fn actions(table: &[u32]) -> u32
     requires { ⌜ Sized (now table) ⌝ }
     ensures { λ r. ⌜ r ≡ game (now (table .entry)) .actions ⌝ }
 {
-    table[0] / games::HEAD_ACTIONS_AT % games::HEAD_VALUES
+    shape_in(table).actions
 }
 
 pub fn observations(table: &[u32]) -> u32
     requires { ⌜ Sized (now table) ⌝ }
     ensures { λ r. ⌜ r ≡ game (now (table .entry)) .observations ⌝ }
 {
-    table[0] / games::HEAD_OBSERVATIONS_AT % games::HEAD_VALUES
+    shape_in(table).observations
 }
 
-pub fn start(table: &[u32]) -> u32
+// Where a set stands in the table.
+pub fn place_in(table: &[u32], x: Place) -> usize
     requires { ⌜ Sized (now table) ⌝ }
-    ensures { λ r. ⌜ r ≡ game (now (table .entry)) .start ⌝ }
+    ensures { λ r. ⌜ r ≡ placeOf (shapeIn (now (table .entry))) x ⌝ }
 {
-    table[1] % games::LOW_VALUES
+    games::place_of(shape_in(table), x)
+}
+
+// The mask of a set's word.
+fn mask(table: &[u32], x: Place) -> u32
+    requires { ⌜ Sized (now table) × Within (shapeIn (now table)) x ⌝ }
+    ensures { λ r. ⌜ r ≡ maskAt (now (table .entry)) x ⌝ }
+{
+    let at = place_in(table, x);
+    games::low_field(table[at])
 }
 
 pub fn bad(table: &[u32]) -> u32
     requires { ⌜ Sized (now table) ⌝ }
     ensures { λ r. ⌜ r ≡ game (now (table .entry)) .bad ⌝ }
 {
-    table[2] % games::LOW_VALUES
+    mask(table, Place::Bad)
 }
 
 // The states that show the observation.
@@ -119,8 +131,7 @@ pub fn shown(table: &[u32], seen: Observation) -> u32
     requires { ⌜ Sized (now table) × (seen .0 < game (now table) .observations) ⌝ }
     ensures { λ r. ⌜ r ≡ game (now (table .entry)) .shown (seen .0) ⌝ }
 {
-    let at = (3 + seen.0) as usize;
-    table[at] % games::LOW_VALUES
+    mask(table, Place::Shown(seen))
 }
 
 // The successors that the action gives the state.
@@ -128,8 +139,7 @@ pub fn successors(table: &[u32], a: Action, i: State) -> u32
     requires { ⌜ Sized (now table) × (a .0 < game (now table) .actions) × (i .0 < game (now table) .states) ⌝ }
     ensures { λ r. ⌜ r ≡ game (now (table .entry)) .successors (a .0) (i .0) ⌝ }
 {
-    let at = row(table[0], a.0) + i.0 as usize;
-    table[at] % games::LOW_VALUES
+    mask(table, Place::Move(a, i))
 }
 
 // The action is enabled in the state.
@@ -140,7 +150,7 @@ pub fn enabled(table: &[u32], a: Action, i: State) -> bool
     successors(table, a, i) != 0
 }
 
-// The number of start sets.
+// How many sets there are before the first action.
 pub fn start_sets(table: &[u32]) -> u32
     requires { ⌜ Sized (now table) ⌝ }
     ensures { λ r. ⌜ r ≡ startSets (game (now (table .entry))) ⌝ }
@@ -148,12 +158,12 @@ pub fn start_sets(table: &[u32]) -> u32
     observations(table)
 }
 
-// The states in which a play can begin with the observation.
+// One of these sets: the start states that show the observation.
 pub fn start_set(table: &[u32], seen: Observation) -> u32
     requires { ⌜ Sized (now table) × (seen .0 < startSets (game (now table))) ⌝ }
     ensures { λ r. ⌜ r ≡ startSet (game (now (table .entry))) (seen .0) ⌝ }
 {
-    start(table) & shown(table, seen)
+    sets::common(mask(table, Place::Start), shown(table, seen))
 }
 
 // What a set comes to under an action.
@@ -169,38 +179,30 @@ pub fn walk(table: &[u32], s: u32, a: Action) -> Walked
     requires { ⌜ Sized (now table) × (a .0 < game (now table) .actions) ⌝ }
     ensures { λ r. ⌜ r ≡ walked (game (now (table .entry))) s (a .0) ⌝ }
 {
-    let base = row(table[0], a.0);
     let mut rest = s % sets::single(states(table));
     let mut u: u32 = 0;
     while rest != 0 {
         let i = u32::trailing_zeros(rest);
-        let t = table[base + i as usize] % games::LOW_VALUES;
-        if t == 0 {
+        if !enabled(table, a, State(i)) {
             return Walked::Blocked;
         }
-        u = u | t;
+        u = u | successors(table, a, State(i));
         rest = rest - sets::single(i);
     }
     Walked::Post(u)
 }
 
 // The word at a place from 1 up, with no state in its mask.
-pub fn bare_word(n: u32, o: u32, place: usize) -> u32
-    requires { ⌜ (1 ≤ n) × (o ≤ maxObservations) × (1 ≤ place) × (place < maxWords) ⌝ }
-    ensures { λ r. ⌜ (r ≡ bareWord n o place) × (r < 2 ^ 31) ⌝ }
+pub fn bare_word(s: Shape, p: usize) -> u32
+    requires { ⌜ Limited s × (1 ≤ p) × (p < tableLength s) ⌝ }
+    ensures { λ r. ⌜ r ≡ bareWord (placeAt s p) ⌝ }
 {
-    let p = place as u32;
-    if p == 1 {
-        return games::KIND_START * games::KIND_AT;
+    match games::place_at(s, p) {
+        Place::Start => games::word(games::KIND_START, 0, 0, 0),
+        Place::Bad => games::word(games::KIND_BAD, 0, 0, 0),
+        Place::Shown(seen) => games::word(games::KIND_SHOWN, 0, seen.0, 0),
+        Place::Move(a, i) => games::word(games::KIND_MOVE, 0, i.0, a.0),
     }
-    if p == 2 {
-        return games::KIND_BAD * games::KIND_AT;
-    }
-    if p < 3 + o {
-        return games::KIND_SHOWN * games::KIND_AT + (p - 3) * games::NUMBER_AT;
-    }
-    let slot = p - (3 + o);
-    games::KIND_MOVE * games::KIND_AT + slot / n * games::ACTION_AT + slot % n * games::NUMBER_AT
 }
 
 // The word's kind, spare bits and index are those of its place.
@@ -209,9 +211,7 @@ fn is_placed(table: &[u32], p: usize) -> bool
     ensures { λ r. ⌜ r ≡ placed (now (table .entry)) p ⌝ }
 {
     let w = table[p];
-    let n = table[0] % games::HEAD_VALUES;
-    let o = table[0] / games::HEAD_OBSERVATIONS_AT % games::HEAD_VALUES;
-    w == bare_word(n, o, p) + w % games::LOW_VALUES
+    w == bare_word(shape_in(table), p) + games::low_field(w)
 }
 
 // The word is refused, by 4 or 5.
@@ -219,8 +219,7 @@ fn is_faulty(table: &[u32], p: usize) -> bool
     requires { ⌜ Sized (now table) × (1 ≤ p) × (p < length (now table)) ⌝ }
     ensures { λ r. ⌜ r ≡ faulty (now (table .entry)) p ⌝ }
 {
-    let n = table[0] % games::HEAD_VALUES;
-    let wide = sets::single(n) <= table[p] % games::LOW_VALUES;
+    let wide = sets::single(shape_in(table).states) <= games::low_field(table[p]);
     !is_placed(table, p) | wide
 }
 
@@ -269,6 +268,17 @@ pub struct Fields {
     pub moves: [u32; MOVE_SLOTS],
 }
 
+// The numbers of the fields.
+pub fn fields_shape(f: Fields) -> Shape
+    ensures { λ r. ⌜ r ≡ fieldsShape f ⌝ }
+{
+    Shape {
+        states: f.states,
+        actions: f.actions,
+        observations: f.observations,
+    }
+}
+
 // The masks from a place on, into the front of `out`.
 fn copy_masks(table: &[u32], base: usize, count: usize, out: &mut [u32])
     requires { ⌜ (base + count ≤ length (now table)) × (count ≤ length (now out)) ⌝ }
@@ -284,36 +294,41 @@ fn copy_masks(table: &[u32], base: usize, count: usize, out: &mut [u32])
 // The fields of a table that was accepted.
 pub fn fields_of(table: &[u32]) -> Fields
     requires { ⌜ Sized (now table) ⌝ }
-    ensures { λ r. ⌜ r ≡ fieldsOf (game (now (table .entry))) ⌝ }
+    ensures { λ r. ⌜ r ≡ fieldsOf (now (table .entry)) ⌝ }
 {
-    let n = states(table);
-    let a = actions(table);
-    let o = observations(table);
+    let s = shape_in(table);
+    let first_shown = place_in(table, Place::Shown(Observation(0)));
     let mut shown = [0u32; SHOWN_SLOTS];
-    copy_masks(table, 3, o as usize, &mut shown);
+    copy_masks(table, first_shown, s.observations as usize, &mut shown);
+    let first_move = place_in(table, Place::Move(Action(0), State(0)));
     let mut moves = [0u32; MOVE_SLOTS];
-    copy_masks(table, 3 + o as usize, (a * n) as usize, &mut moves);
+    copy_masks(
+        table,
+        first_move,
+        (s.actions * s.states) as usize,
+        &mut moves,
+    );
     Fields {
-        states: n,
-        actions: a,
-        observations: o,
-        start: start(table),
-        bad: bad(table),
+        states: s.states,
+        actions: s.actions,
+        observations: s.observations,
+        start: mask(table, Place::Start),
+        bad: mask(table, Place::Bad),
         shown,
         moves,
     }
 }
 
 // State i shows no observation.
-fn is_unseen(f: Fields, i: u32) -> bool
-    requires { ⌜ (f .observations ≤ maxObservations) × (i < 32) ⌝ }
-    ensures { λ r. ⌜ r ≡ unseen (gameOf f) i ⌝ }
+fn is_unseen(f: Fields, i: State) -> bool
+    requires { ⌜ (f .observations ≤ maxObservations) × (i .0 < 32) ⌝ }
+    ensures { λ r. ⌜ r ≡ unseen (gameOf f) (i .0) ⌝ }
 {
     let o = f.observations as usize;
     let shown = f.shown;
     let mut j: usize = 0;
     while j < o {
-        if sets::member(shown[j], i) {
+        if sets::member(shown[j], i.0) {
             return false;
         }
         j += 1;
@@ -323,16 +338,16 @@ fn is_unseen(f: Fields, i: u32) -> bool
 
 // Refusals 6 and 7.
 pub fn check_sets(f: Fields) -> Checked
-    requires { ⌜ Limited (f .states) (f .actions) (f .observations) ⌝ }
+    requires { ⌜ Limited (fieldsShape f) ⌝ }
     ensures { λ r. ⌜ r ≡ setsChecked (gameOf f) ⌝ }
 {
     if f.start == 0 {
-        return Checked::Refused(6, 1);
+        return Checked::Refused(6, games::place_of(fields_shape(f), Place::Start));
     }
     let n = f.states;
     let mut i: u32 = 0;
     while i < n {
-        if is_unseen(f, i) {
+        if is_unseen(f, State(i)) {
             return Checked::Refused(7, i as usize);
         }
         i += 1;

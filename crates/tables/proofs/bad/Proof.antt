@@ -1,17 +1,13 @@
--- `tables::bad` meets its contract: reads word 2.
+-- `tables::bad` meets its contract: the mask at its place.
 -- Assumes nothing.
-use mathlib.Core.Path.{refl}
 use borrow.Author.Needs.{needs}
 use Rattle.games.specs.Words.{game}
 use Rattle.tables.proofs.bad.Statement.{statement}
 use Rattle.tables.proofs.bad.Tie as tie
 
-shared-slice-read-result : tie.Need-shared-slice-read-result
-shared-slice-read-result c = search needs
-
 returns : tie.Need-returns
 unfolding game
-returns c = refl
+returns c = c .mask .ensures
 
 pub bad-spec : {M : Type 1} → statement M
-bad-spec = tie.close (tie.spec shared-slice-read-result returns)
+bad-spec = tie.close (tie.spec (λ c κs. search needs) returns)

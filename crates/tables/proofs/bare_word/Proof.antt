@@ -1,99 +1,61 @@
--- `tables::bare_word` meets its contract: one law for each kind of word.
+-- `tables::bare_word` meets its contract: the word of what stands there; its numbers fit, because the table has it.
 -- Assumes nothing.
-use mathlib.Core.Path.{sym}
-use Prim.Native.Nat.{_+_, _-_}
+use mathlib.Core.Path.{_≡_, sym, ap, _∙_}
 use native.Mathlib.Omega.{arith}
-use native.Mathlib.Nat.{div-le-self}
 use borrow.Author.Needs.{needs}
-use Rattle.tables.proofs.Layouts.{bare-start, bare-bad, bare-shown, bare-move, rest-le}
+use Rattle.games.specs.Places.{Within}
+use Rattle.games.proofs.Places.{place-within}
+use Rattle.tables.specs.Layout.{bareWord}
+use Rattle.tables.proofs.Bounds.{length-short}
+use Rattle.tables.proofs.Layouts.{shown-fits, move-fits}
 use Rattle.tables.proofs.bare_word.Statement.{statement}
 use Rattle.tables.proofs.bare_word.Tie as tie
 
-cast-p : tie.Need-cast-p
-cast-p c = search needs
+within : (c : tie.After-place-at) → Within (c .before .args .s) (c .place-at .result)
+within c =
+    let start = c .before in
+    rw (c .place-at .ensures) (place-within (start .args .s) (start .args .p) (start .pre .0 .some-state) (start .pre .2) (start .pre .1))
 
-mul-result : tie.Need-mul-result
-mul-result c = search needs
+word-requires-3 : tie.Need-word-requires-3
+word-requires-3 c κs =
+    let at = c .before .before .before in
+    omega (arith, shown-fits (at .before .args .s) (at .before .pre .0) _ _ (within at) (c .before .seen .given .1))
+
+word-requires-4 : tie.Need-word-requires-4
+word-requires-4 c κs =
+    let at = c .before .before .before in
+    omega (arith, move-fits (at .before .args .s) (at .before .pre .0) _ _ _ (within at) (c .before .a .given .1))
 
 returns : tie.Need-returns
-returns c = (sym (bare-start (c .before .args .n) (c .before .args .o) (c .before .args .place) (c .if1 .taken)), search needs)
-
-mul-result-2 : tie.Need-mul-result-2
-mul-result-2 c = search needs
+unfolding bareWord
+returns c = c .word .ensures ∙ ap bareWord (sym (c .before .enum-told .given .1) ∙ c .before .before .before .place-at .ensures)
 
 returns-2 : tie.Need-returns-2
-returns-2 c = (sym (bare-bad (c .before .before .args .n) (c .before .before .args .o) (c .before .before .args .place) (c .before .if1 .left) (c .if2 .taken)), search needs)
-
-add-if3 : tie.Need-add-if3
-add-if3 c = search needs
-
-mul-result-3 : tie.Need-mul-result-3
-mul-result-3 c = search needs
-
-sub-result : tie.Need-sub-result
-sub-result c = search needs
-
-mul-result-4 : tie.Need-mul-result-4
-mul-result-4 c = search needs
-
-add-result : tie.Need-add-result
-add-result c = search needs
+unfolding bareWord
+returns-2 c = c .word2 .ensures ∙ ap bareWord (sym (c .before .enum-told2 .given .1) ∙ c .before .before .before .place-at .ensures)
 
 returns-3 : tie.Need-returns-3
-returns-3 c = (sym (bare-shown (c .before .before .before .args .n) (c .before .before .before .args .o) (c .before .before .before .args .place) (c .before .before .if1 .left) (c .before .if2 .left) (c .if3 .taken)), search needs)
-
-add-slot : tie.Need-add-slot
-add-slot c = search needs
-
-sub-slot : tie.Need-sub-slot
-sub-slot c = search needs
-
-mul-result-5 : tie.Need-mul-result-5
-mul-result-5 c = search needs
-
-div-result : tie.Need-div-result
-div-result c = search needs
-
-mul-result-6 : tie.Need-mul-result-6
-mul-result-6 c = omega (arith, div-le-self (c .before .before .before .args .place - (3 + c .before .before .before .args .o)) (c .before .before .before .args .n), rest-le (c .before .before .before .args .place - (3 + c .before .before .before .args .o)) (c .before .before .before .args .n))
-
-add-result-2 : tie.Need-add-result-2
-add-result-2 c = omega (arith, div-le-self (c .before .before .before .args .place - (3 + c .before .before .before .args .o)) (c .before .before .before .args .n), rest-le (c .before .before .before .args .place - (3 + c .before .before .before .args .o)) (c .before .before .before .args .n))
-
-rem-result : tie.Need-rem-result
-rem-result c = search needs
-
-mul-result-7 : tie.Need-mul-result-7
-mul-result-7 c = omega (arith, div-le-self (c .before .before .before .args .place - (3 + c .before .before .before .args .o)) (c .before .before .before .args .n), rest-le (c .before .before .before .args .place - (3 + c .before .before .before .args .o)) (c .before .before .before .args .n))
-
-add-result-3 : tie.Need-add-result-3
-add-result-3 c = omega (arith, div-le-self (c .before .before .before .args .place - (3 + c .before .before .before .args .o)) (c .before .before .before .args .n), rest-le (c .before .before .before .args .place - (3 + c .before .before .before .args .o)) (c .before .before .before .args .n))
+unfolding bareWord
+returns-3 c = c .word3 .ensures ∙ ap bareWord (sym (c .before .before .seen .given .1) ∙ c .before .before .before .before .place-at .ensures)
 
 returns-4 : tie.Need-returns-4
-returns-4 c = (sym (bare-move (c .before .before .before .args .n) (c .before .before .before .args .o) (c .before .before .before .args .place) (c .before .before .if1 .left) (c .before .if2 .left) (c .if3 .left)), omega (arith, div-le-self (c .before .before .before .args .place - (3 + c .before .before .before .args .o)) (c .before .before .before .args .n), rest-le (c .before .before .before .args .place - (3 + c .before .before .before .args .o)) (c .before .before .before .args .n)))
+unfolding bareWord
+returns-4 c = c .word4 .ensures ∙ ap bareWord (sym (c .before .before .a .given .1) ∙ c .before .before .before .before .place-at .ensures)
 
 pub bare-word-spec : {M : Type 1} → statement M
 bare-word-spec =
     tie.close
     (tie.spec
-    cast-p
-    mul-result
+    (λ c κs. omega (arith, length-short (c .args .s) (c .pre .0)))
+    (λ c. search needs)
+    (λ c κs. search needs)
+    (λ c. search needs)
+    (λ c κs. search needs)
+    (λ c. search needs)
+    word-requires-3
+    (λ c. search needs)
+    word-requires-4
     returns
-    mul-result-2
     returns-2
-    add-if3
-    mul-result-3
-    sub-result
-    mul-result-4
-    add-result
     returns-3
-    add-slot
-    sub-slot
-    mul-result-5
-    div-result
-    mul-result-6
-    add-result-2
-    rem-result
-    mul-result-7
-    add-result-3
     returns-4)

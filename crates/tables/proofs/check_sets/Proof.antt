@@ -1,11 +1,12 @@
 -- `tables::check_sets` meets its contract: before each turn each state so far shows an observation.
 -- Assumes nothing.
-use mathlib.Core.Path.{_≡_, sym}
-use Prim.Native.Nat.{_≤_, _-_}
+use mathlib.Core.Path.{_≡_, sym, ap, _∙_}
+use Prim.Native.Nat.{ℕ, _≤_, _-_}
 use native.Mathlib.Omega.{arith}
 use borrow.Author.Needs.{needs}
 use Rattle.sets.proofs.Bounded.{first-zero, first-skip}
 use Rattle.sets.specs.Bounded.{first, nothing}
+use Rattle.games.specs.declared.Checked.the-variants.{Refused}
 use Rattle.tables.specs.Check.{unseen}
 use Rattle.tables.specs.Fields.{gameOf}
 use Rattle.tables.proofs.Checks.{sets-empty, sets-unseen, sets-fine}
@@ -20,35 +21,28 @@ abbrev μ-loop : tie.MeasureT-loop
 
 returns : tie.Need-returns Inv-loop μ-loop
 unfolding gameOf
-returns c = sym (sets-empty (gameOf (c .before .before .args .f)) (c .if1 .taken))
-
-loop-holds : tie.Need-loop-holds Inv-loop μ-loop
-loop-holds c = (search needs, first-zero _)
-
-is-unseen-requires : tie.Need-is-unseen-requires Inv-loop μ-loop
-is-unseen-requires c κs = search needs
-
-cast-t7 : tie.Need-cast-t7 Inv-loop μ-loop
-cast-t7 c = search needs
+returns c =
+    let empty = c .before .before in
+    ap (λ (p : ℕ). Refused 6 p) (c .place-of .ensures) ∙ sym (sets-empty (gameOf (empty .before .before .args .f)) (empty .if1 .taken))
 
 returns-2 : tie.Need-returns-2 Inv-loop μ-loop
 unfolding gameOf
-returns-2 c = sym (sets-unseen (gameOf (c .before .before .before .before .before .before .args .f)) (c .before .before .before .before .if1 .left) (c .before .before .before .loop .i) (search needs) (c .before .before .before .loop .inv .1) (cc))
-
-add-i : tie.Need-add-i Inv-loop μ-loop
-add-i c = search needs
-
-loop-less : tie.Need-loop-less Inv-loop μ-loop
-loop-less c = search needs
+returns-2 c =
+    let at = c .before .before .before in
+    sym (sets-unseen (gameOf (at .before .before .before .args .f)) (at .before .if1 .left) (at .loop .i) (search needs) (at .loop .inv .1) (cc))
 
 loop-again : tie.Need-loop-again Inv-loop μ-loop
-loop-again c = (search needs, first-skip (c .before .before .before .loop .i) (unseen (gameOf (c .before .before .before .before .before .before .args .f))) (c .before .before .before .loop .inv .1) (cc))
+loop-again c =
+    let at = c .before .before .before in
+    (search needs, first-skip (at .loop .i) (unseen (gameOf (at .before .before .before .args .f))) (at .loop .inv .1) (cc))
 
 returns-3 : tie.Need-returns-3 Inv-loop μ-loop
 unfolding gameOf
 returns-3 c =
-    let e : c .before .loop .i ≡ c .before .before .before .before .args .f .states = omega arith in
-    sym (sets-fine (gameOf (c .before .before .before .before .args .f)) (c .before .before .if1 .left) (rw e at (c .before .loop .inv .1)))
+    let at = c .before in
+    let f = at .before .before .before .args .f in
+    let e : at .loop .i ≡ f .states = omega arith in
+    sym (sets-fine (gameOf f) (at .before .if1 .left) (rw e at (at .loop .inv .1)))
 
 pub check-sets-spec : {M : Type 1} → statement M
 check-sets-spec =
@@ -56,12 +50,14 @@ check-sets-spec =
     (tie.spec
     Inv-loop
     μ-loop
+    (λ c κs. search needs)
+    (λ c κs. rw (c .fields-shape .ensures) (omega (arith, c .before .before .before .pre)))
     returns
-    loop-holds
-    is-unseen-requires
-    cast-t7
+    (λ c. (search needs, first-zero _))
+    (λ c κs. search needs)
+    (λ c. search needs)
     returns-2
-    add-i
-    loop-less
+    (λ c. search needs)
+    (λ c. search needs)
     loop-again
     returns-3)

@@ -19,33 +19,29 @@ abbrev μ-loop : tie.MeasureT-loop
 μ-loop table words p₀ p = words - p
 
 loop-holds : tie.Need-loop-holds Inv-loop μ-loop
-loop-holds c = (search needs, omega (arith, c .before .pre), words-none (c .before .args .table .now))
-
-is-faulty-requires : tie.Need-is-faulty-requires Inv-loop μ-loop
-is-faulty-requires c κs = search needs
-
-is-placed-requires : tie.Need-is-placed-requires Inv-loop μ-loop
-is-placed-requires c κs = search needs
+loop-holds c = let start = c .before in (search needs, omega (arith, start .pre), words-none (start .args .table .now))
 
 returns : tie.Need-returns Inv-loop μ-loop
-returns c = sym (words-wide (c .before .before .before .before .before .before .before .args .table .now) (c .before .before .before .before .before .loop .p) (c .before .before .before .before .loop-test .taken) (c .before .before .before .before .before .loop .inv .2) (cc) (cc))
+returns c =
+    let at = c .before .before .before .before .before in
+    sym (words-wide (at .before .before .args .table .now) (at .loop .p) (c .before .before .before .before .loop-test .taken) (at .loop .inv .2) (cc) (cc))
 
 returns-2 : tie.Need-returns-2 Inv-loop μ-loop
-returns-2 c = sym (words-misplaced (c .before .before .before .before .before .before .before .args .table .now) (c .before .before .before .before .before .loop .p) (c .before .before .before .before .loop-test .taken) (c .before .before .before .before .before .loop .inv .2) (cc) (cc))
-
-add-p : tie.Need-add-p Inv-loop μ-loop
-add-p c = search needs
-
-loop-less : tie.Need-loop-less Inv-loop μ-loop
-loop-less c = search needs
+returns-2 c =
+    let at = c .before .before .before .before .before in
+    sym (words-misplaced (at .before .before .args .table .now) (at .loop .p) (c .before .before .before .before .loop-test .taken) (at .loop .inv .2) (cc) (cc))
 
 loop-again : tie.Need-loop-again Inv-loop μ-loop
-loop-again c = (search needs, search needs, first-skip (c .before .before .before .loop .p) (faulty (c .before .before .before .before .before .args .table .now)) (c .before .before .before .loop .inv .2) (cc))
+loop-again c =
+    let at = c .before .before .before in
+    (search needs, search needs, first-skip (at .loop .p) (faulty (at .before .before .args .table .now)) (at .loop .inv .2) (cc))
 
 returns-3 : tie.Need-returns-3 Inv-loop μ-loop
 returns-3 c =
-    let e : c .before .loop .p ≡ length (c .before .before .before .args .table .now) = omega arith in
-    sym (words-fine (c .before .before .before .args .table .now) (rw e at (c .before .loop .inv .2)))
+    let at = c .before in
+    let w = at .before .before .args .table .now in
+    let e : at .loop .p ≡ length w = omega arith in
+    sym (words-fine w (rw e at (at .loop .inv .2)))
 
 pub check-words-spec : {M : Type 1} → statement M
 check-words-spec =
@@ -54,11 +50,11 @@ check-words-spec =
     Inv-loop
     μ-loop
     loop-holds
-    is-faulty-requires
-    is-placed-requires
+    (λ c κs. search needs)
+    (λ c κs. search needs)
     returns
     returns-2
-    add-p
-    loop-less
+    (λ c. search needs)
+    (λ c. search needs)
     loop-again
     returns-3)

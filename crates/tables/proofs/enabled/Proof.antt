@@ -1,4 +1,4 @@
--- `tables::enabled` meets its contract: the state has a successor under the action.
+-- `tables::enabled` meets its contract: there is a successor.
 -- Assumes nothing.
 use borrow.Author.Needs.{needs}
 use Rattle.games.specs.Game.{enabled}

@@ -1,84 +1,64 @@
--- `tables::fields_of` meets its contract: each field is the game's.
+-- `tables::fields_of` meets its contract: each field is the table's.
 -- Assumes nothing.
-use mathlib.Core.Path.{_≡_, ap₂}
-use Prim.Native.Nat.{_*_}
+use mathlib.Core.Path.{_≡_, refl, ap}
+use Prim.Native.Nat.{_*_, _≤_}
 use native.Mathlib.Omega.{arith}
 use borrow.Author.Needs.{needs}
-use lib.ListN.{getD}
-use Rattle.games.specs.Words.{headStates, headActions, game}
+use Rattle.games.specs.Format.{maxMoves}
+use Rattle.games.proofs.Limits.{moves-below}
+use Rattle.games.proofs.Places.{shown-row, moves-row}
+use Rattle.tables.specs.Layout.{shapeIn}
 use Rattle.tables.proofs.Fieldwise.{fields-are}
-use Rattle.tables.proofs.Bounds.{moves-below}
 use Rattle.tables.proofs.fields_of.Statement.{statement}
 use Rattle.tables.proofs.fields_of.Tie as tie
 
-states-requires : tie.Need-states-requires
-states-requires c κs = search needs
-
-actions-requires : tie.Need-actions-requires
-actions-requires c κs = search needs
-
-observations-requires : tie.Need-observations-requires
-observations-requires c κs = search needs
-
-cast-copy-masks : tie.Need-cast-copy-masks
-cast-copy-masks c = search needs
-
-slice-aggregate-copy-masks : tie.Need-slice-aggregate-copy-masks
-slice-aggregate-copy-masks c = search needs
-
 copy-masks-requires : tie.Need-copy-masks-requires
-unfolding game
-copy-masks-requires c κs = search needs
+copy-masks-requires c κs =
+    let at = c .before .before in
+    let numbers = at .before in
+    let start = numbers .before .before in
+    let s = shapeIn (start .args .table .now) in
+    rw (at .place-in .ensures, numbers .shape-in .ensures) (omega (arith, shown-row s, start .pre .long), start .pre .limits .most-observations)
 
-cast-copy-masks-2 : tie.Need-cast-copy-masks-2
-cast-copy-masks-2 c = search needs
-
-add-copy-masks : tie.Need-add-copy-masks
-add-copy-masks c = search needs
-
-mul-copy-masks : tie.Need-mul-copy-masks
-unfolding game
-mul-copy-masks c = omega (arith, moves-below (c .before .before .before .before .actions .result) (c .before .before .before .before .before .states .result) (omega arith) (omega arith))
-
-cast-copy-masks-3 : tie.Need-cast-copy-masks-3
-unfolding game
-cast-copy-masks-3 c = omega (arith, moves-below (c .before .before .before .before .actions .result) (c .before .before .before .before .before .states .result) (omega arith) (omega arith))
-
-slice-aggregate-copy-masks-2 : tie.Need-slice-aggregate-copy-masks-2
-slice-aggregate-copy-masks-2 c = search needs
+-- the moves fit their slots
+few : (c : tie.After-shape-in) → c .shape-in .result .actions * c .shape-in .result .states ≤ maxMoves
+few c =
+    let l = c .before .before .pre .limits in
+    rw (c .shape-in .ensures) (moves-below _ _ (l .most-actions) (l .most-states))
 
 copy-masks-requires-2 : tie.Need-copy-masks-requires-2
-unfolding game
 copy-masks-requires-2 c κs =
-    let w = (c .before .before .before .before .before .before .before .before .args .table .now) in
-    let e : c .before .before .before .before .before .actions .result * c .before .before .before .before .before .before .states .result ≡ headActions (getD w 0 0) * headStates (getD w 0 0) = ap₂ _*_ (c .before .before .before .before .before .actions .ensures) (c .before .before .before .before .before .before .states .ensures) in
-    omega (arith, moves-below (c .before .before .before .before .before .actions .result) (c .before .before .before .before .before .before .states .result) (omega arith) (omega arith))
-
-start-requires : tie.Need-start-requires
-start-requires c κs = search needs
-
-bad-requires : tie.Need-bad-requires
-bad-requires c κs = search needs
+    let at = c .before .before in
+    let numbers = at .before .before .before .before .before .before in
+    let start = numbers .before .before in
+    let s = shapeIn (start .args .table .now) in
+    let inside = moves-row s in
+    rw (at .place-in2 .ensures) (rw (numbers .shape-in .ensures) (omega (arith, inside, start .pre .long)), few numbers)
 
 returns : tie.Need-returns
-returns c = fields-are (c .before .before .before .before .before .before .before .before .before .before .before .before .args .table .now) _ (c .before .before .before .before .before .before .before .before .before .before .states .ensures) (c .before .before .before .before .before .before .before .before .before .actions .ensures) (c .before .before .before .before .before .before .before .before .observations .ensures) (c .before .start .ensures) (c .bad .ensures) (c .before .before .before .before .before .before .copy-masks .ensures) (c .before .before .before .copy-masks2 .ensures)
+returns c =
+    let second = c .before .before .before in
+    let moved = second .before .before .before in
+    let first = moved .before .before in
+    let at = first .before .before .before in
+    let numbers = at .before in
+    fields-are (numbers .before .before .args .table .now) _ (numbers .shape-in .result) (numbers .shape-in .ensures) refl
+    _ _ (c .before .mask .ensures) (c .mask2 .ensures) (at .place-in .ensures) (first .copy-masks .ensures) (moved .place-in2 .ensures) (second .copy-masks2 .ensures)
 
 pub fields-of-spec : {M : Type 1} → statement M
 fields-of-spec =
     tie.close
     (tie.spec
-    states-requires
-    actions-requires
-    observations-requires
-    cast-copy-masks
-    slice-aggregate-copy-masks
+    (λ c κs. search needs)
+    (λ c κs. search needs)
+    (λ c. search needs)
+    (λ c. search needs)
     copy-masks-requires
-    cast-copy-masks-2
-    add-copy-masks
-    mul-copy-masks
-    cast-copy-masks-3
-    slice-aggregate-copy-masks-2
+    (λ c κs. search needs)
+    (λ c. omega (arith, few (c .before .before .before .before .before .before .before)))
+    (λ c. omega (arith, few (c .before .before .before .before .before .before .before)))
+    (λ c. search needs)
     copy-masks-requires-2
-    start-requires
-    bad-requires
+    (λ c κs. search needs)
+    (λ c κs. search needs)
     returns)

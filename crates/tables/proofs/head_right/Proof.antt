@@ -5,12 +5,9 @@ use Rattle.tables.specs.Check.{headRight}
 use Rattle.tables.proofs.head_right.Statement.{statement}
 use Rattle.tables.proofs.head_right.Tie as tie
 
-limits-hold-requires : tie.Need-limits-hold-requires
-limits-hold-requires c κs = search needs
-
 returns : tie.Need-returns
 unfolding headRight
 returns c = cc
 
 pub head-right-spec : {M : Type 1} → statement M
-head-right-spec = tie.close (tie.spec limits-hold-requires returns)
+head-right-spec = tie.close (tie.spec (λ c κs. search needs) (λ c κs. search needs) returns)

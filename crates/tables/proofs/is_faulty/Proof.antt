@@ -1,35 +1,27 @@
 -- `tables::is_faulty` meets its contract: the two tests joined.
 -- Assumes nothing.
+use native.Mathlib.Omega.{arith}
 use borrow.Author.Needs.{needs}
 use Rattle.tables.proofs.Checks.{faulty-is}
 use Rattle.tables.proofs.is_faulty.Statement.{statement}
 use Rattle.tables.proofs.is_faulty.Tie as tie
 
-shared-slice-read-n : tie.Need-shared-slice-read-n
-shared-slice-read-n c = search needs
-
-single-requires : tie.Need-single-requires
-single-requires c κs = search needs
-
-mul-wide : tie.Need-mul-wide
-mul-wide c = search needs
-
-shared-slice-read-wide : tie.Need-shared-slice-read-wide
-shared-slice-read-wide c = search needs
-
-is-placed-requires : tie.Need-is-placed-requires
-is-placed-requires c κs = search needs
-
 returns : tie.Need-returns
-returns c = faulty-is (c .before .before .before .before .before .args .table .now) (c .before .before .before .before .before .args .p) (c .is-placed .result) _ (search needs) (c .is-placed .ensures) (rw (c .before .before .single .ensures))
+returns c =
+    let low = c .before in
+    let single = low .before .before in
+    let start = single .before .before .before in
+    faulty-is (start .args .table .now) (start .args .p) (c .is-placed .result) _ (start .pre .1) (c .is-placed .ensures)
+    (rw (low .low-field .ensures, single .single .ensures, single .before .shape-in .ensures))
 
 pub is-faulty-spec : {M : Type 1} → statement M
 is-faulty-spec =
     tie.close
     (tie.spec
-    shared-slice-read-n
-    single-requires
-    mul-wide
-    shared-slice-read-wide
-    is-placed-requires
+    (λ c κs. search needs)
+    (λ c κs. rw (c .shape-in .ensures) (let most = c .before .before .pre .0 .limits .most-states in omega arith))
+    (λ c. search needs)
+    (λ c. search needs)
+    (λ c κs. search needs)
+    (λ c κs. search needs)
     returns)

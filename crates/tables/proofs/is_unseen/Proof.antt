@@ -16,44 +16,31 @@ use Rattle.tables.proofs.is_unseen.Statement.{statement}
 use Rattle.tables.proofs.is_unseen.Tie as tie
 
 abbrev Inv-loop : tie.InvT-loop
-Inv-loop i o shown j₀ j = (j ≤ o) × (any j (λ k. member (getD shown k 0) i) ≡ false)
+Inv-loop i o shown j₀ j = (j ≤ o) × (any j (λ k. member (getD shown k 0) (i .0)) ≡ false)
 
 abbrev μ-loop : tie.MeasureT-loop
 μ-loop i o shown j₀ j = o - j
 
-cast-o : tie.Need-cast-o Inv-loop μ-loop
-cast-o c = search needs
-
-loop-holds : tie.Need-loop-holds Inv-loop μ-loop
-loop-holds c = (search needs, any-zero _)
-
-mul-member : tie.Need-mul-member Inv-loop μ-loop
-mul-member c = search needs
-
-array-read-member : tie.Need-array-read-member Inv-loop μ-loop
-array-read-member c = search needs
-
-member-requires : tie.Need-member-requires Inv-loop μ-loop
-member-requires c κs = search needs
-
 returns : tie.Need-returns Inv-loop μ-loop
 unfolding gameOf
-returns c = sym (seen-at (gameOf (c .before .before .before .before .before .before .args .f)) (c .before .before .before .before .before .before .args .i) (c .before .before .before .loop .j) (search needs) (cc))
-
-add-j : tie.Need-add-j Inv-loop μ-loop
-add-j c = search needs
-
-loop-less : tie.Need-loop-less Inv-loop μ-loop
-loop-less c = search needs
+returns c =
+    let at = c .before .before .before in
+    let args = at .before .before .before .args in
+    sym (seen-at (gameOf (args .f)) (args .i .0) (at .loop .j) (search needs) (cc))
 
 loop-again : tie.Need-loop-again Inv-loop μ-loop
-loop-again c = (search needs, any-more (c .before .before .before .loop .j) (λ k. member (getD (c .before .before .before .before .before .before .args .f .shown) k 0) (c .before .before .before .before .before .before .args .i)) ∙ or-false-intro (c .before .before .before .loop .inv .1) (cc))
+loop-again c =
+    let at = c .before .before .before in
+    let args = at .before .before .before .args in
+    (search needs, any-more (at .loop .j) (λ k. member (getD (args .f .shown) k 0) (args .i .0)) ∙ or-false-intro (at .loop .inv .1) (cc))
 
 returns-2 : tie.Need-returns-2 Inv-loop μ-loop
 unfolding gameOf
 returns-2 c =
-    let e : c .before .loop .j ≡ c .before .before .before .before .args .f .observations = omega arith in
-    sym (seen-none (gameOf (c .before .before .before .before .args .f)) (c .before .before .before .before .args .i) (rw e at (c .before .loop .inv .1)))
+    let at = c .before in
+    let args = at .before .before .before .args in
+    let e : at .loop .j ≡ args .f .observations = omega arith in
+    sym (seen-none (gameOf (args .f)) (args .i .0) (rw e at (at .loop .inv .1)))
 
 pub is-unseen-spec : {M : Type 1} → statement M
 is-unseen-spec =
@@ -61,13 +48,13 @@ is-unseen-spec =
     (tie.spec
     Inv-loop
     μ-loop
-    cast-o
-    loop-holds
-    mul-member
-    array-read-member
-    member-requires
+    (λ c. search needs)
+    (λ c. (search needs, any-zero _))
+    (λ c. search needs)
+    (λ c. search needs)
+    (λ c κs. search needs)
     returns
-    add-j
-    loop-less
+    (λ c. search needs)
+    (λ c. search needs)
     loop-again
     returns-2)

@@ -1,29 +1,17 @@
--- `tables::shown` meets its contract: reads the observation's word.
+-- `tables::shown` meets its contract: the mask at its place.
 -- Assumes nothing.
-use mathlib.Core.Path.{refl}
-use native.Mathlib.Omega.{arith}
 use borrow.Author.Needs.{needs}
 use Rattle.games.specs.Words.{game}
 use Rattle.tables.proofs.shown.Statement.{statement}
 use Rattle.tables.proofs.shown.Tie as tie
 
-add-at : tie.Need-add-at
+mask-requires : tie.Need-mask-requires
 unfolding game
-add-at c = omega arith
-
-cast-at : tie.Need-cast-at
-cast-at c = search needs
-
-mul-result : tie.Need-mul-result
-mul-result c = search needs
-
-shared-slice-read-result : tie.Need-shared-slice-read-result
-unfolding game
-shared-slice-read-result c = omega arith
+mask-requires c κs = search needs
 
 returns : tie.Need-returns
 unfolding game
-returns c = refl
+returns c = c .mask .ensures
 
 pub shown-spec : {M : Type 1} → statement M
-shown-spec = tie.close (tie.spec add-at cast-at mul-result shared-slice-read-result returns)
+shown-spec = tie.close (tie.spec mask-requires returns)

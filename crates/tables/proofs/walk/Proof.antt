@@ -1,113 +1,73 @@
--- `tables::walk` meets its contract: before each turn no member so far is blocked, u is what they have, united, and `rest` has the other members.
+-- `tables::walk` meets its contract: before each turn the action is enabled at all members so far, u is what it gives them, and `rest` has the other members.
 -- Assumes nothing.
-use mathlib.Core.Path.{sym}
-use Prim.Native.Nat.{_+_, _<_, _≤_}
+use mathlib.Core.Path.{_≡_, sym, _∙_}
+use Prim.Native.Nat.{_<_, _≤_}
 use native.Mathlib.Omega.{arith}
 use borrow.Author.Needs.{needs}
+use borrow.Author.Tests.{not-true, not-false}
 use lib.Count.{trailingZeros}
-use lib.ListN.{length, getD}
 use lib.Pow.{pow-pos}
-use Rattle.games.specs.Words.{game, headStates, headActions}
-use Rattle.tables.specs.Fields.{masksFrom}
-use Rattle.tables.proofs.Walks.{Walking, walking-none, walking-more, walking-end, next-below, next-member, next-le, next-less, walked-post, walked-blocked}
-use Rattle.tables.proofs.Bounds.{slot-below}
+use Rattle.games.specs.Words.{game}
+use Rattle.tables.proofs.Bounds.{few-states}
+use Rattle.tables.proofs.Walks.{Walking, walking-none, walking-more, walking-end, walking-blocked, next-below, next-le, next-less}
 use Rattle.tables.proofs.walk.Statement.{statement}
 use Rattle.tables.proofs.walk.Tie as tie
 
 abbrev Inv-loop : tie.InvT-loop
-Inv-loop table s base rest₀ u₀ rest u = Walking (headStates (getD table 0 0)) s (masksFrom table base) rest u
+Inv-loop table s a rest₀ u₀ rest u = Walking (game table) s (a .0) rest u
 
 abbrev μ-loop : tie.MeasureT-loop
-μ-loop table s base rest₀ u₀ rest u = rest
-
-shared-slice-read-row : tie.Need-shared-slice-read-row Inv-loop μ-loop
-shared-slice-read-row c = search needs
-
-row-requires : tie.Need-row-requires Inv-loop μ-loop
-unfolding game
-row-requires c κs = search needs
-
-states-requires : tie.Need-states-requires Inv-loop μ-loop
-states-requires c κs = search needs
+μ-loop table s a rest₀ u₀ rest u = rest
 
 single-requires : tie.Need-single-requires Inv-loop μ-loop
-unfolding game
-single-requires c κs =
-    let most = c .before .before .before .before .pre .0 .limits .most-states in
-    omega (arith, c .states .ensures)
-
-rem-rest : tie.Need-rem-rest Inv-loop μ-loop
-rem-rest c = omega (arith, c .single .ensures, pow-pos (c .before .states .result))
+single-requires c κs = let start = c .before .before in omega (arith, c .states .ensures, few-states (start .args .table .now) (start .pre .0))
 
 loop-holds : tie.Need-loop-holds Inv-loop μ-loop
-unfolding game
 loop-holds c =
-    let start = c .before .before .before .before .before in
-    let w = start .args .table .now in
-    rw (c .single .ensures, c .before .states .ensures) (walking-none (headStates (getD w 0 0)) (start .args .s) (masksFrom w (c .before .before .row .result)))
+    let args = c .before .before .before .args in
+    rw (c .single .ensures, c .before .states .ensures) (walking-none (game (args .table .now)) (args .s) (args .a .0))
 
 -- the states of a table fit a mask
-wide : (c : tie.In-loop Inv-loop μ-loop) → headStates (getD (c .before .before .before .before .before .before .before .args .table .now) 0 0) ≤ 32
-wide c = let most = c .before .before .before .before .before .before .before .pre .0 .limits .most-states in omega arith
+wide : (c : tie.In-loop Inv-loop μ-loop) → game (c .before .before .before .before .before .args .table .now) .states ≤ 32
+wide c = let start = c .before .before .before .before .before in omega (arith, few-states (start .args .table .now) (start .pre .0))
 
--- the lowest member of what is left
-next : (c : tie.In-loop Inv-loop μ-loop) → trailingZeros 32 (c .before .loop .rest) < headStates (getD (c .before .before .before .before .before .before .before .args .table .now) 0 0)
+-- the lowest member of what is left is a state
+next : (c : tie.In-loop Inv-loop μ-loop) → trailingZeros 32 (c .before .loop .rest) < game (c .before .before .before .before .before .args .table .now) .states
 next c = next-below _ _ _ _ _ (c .before .loop .inv) (wide c) (c .loop-test .taken)
 
--- has its move word in the table
-inside : (c : tie.In-loop Inv-loop μ-loop) → c .before .before .before .before .row .result + trailingZeros 32 (c .before .loop .rest) < length (c .before .before .before .before .before .before .before .args .table .now)
-unfolding game
-inside c =
-    let start = c .before .before .before .before .before .before .before in
-    let w = start .args .table .now in
-    omega (arith, next c, slot-below (start .args .a .0) (headActions (getD w 0 0)) (headStates (getD w 0 0)) (trailingZeros 32 (c .before .loop .rest)) (omega arith) (next c))
-
-cast-t : tie.Need-cast-t Inv-loop μ-loop
-cast-t c = omega (arith, next c, wide c)
-
-add-t : tie.Need-add-t Inv-loop μ-loop
-add-t c = omega (arith, inside c)
-
-mul-t : tie.Need-mul-t Inv-loop μ-loop
-mul-t c = omega (arith, inside c)
-
-shared-slice-read-t : tie.Need-shared-slice-read-t Inv-loop μ-loop
-shared-slice-read-t c = inside (c .before)
+enabled-requires : tie.Need-enabled-requires Inv-loop μ-loop
+enabled-requires c κs = let start = c .before .before .before .before .before in (start .pre .0, start .pre .1, next c)
 
 returns : tie.Need-returns Inv-loop μ-loop
 returns c =
     let at = c .before .before in
-    let start = at .before .before .before .before .before .before .before in
-    let row = at .before .before .before .before .row in
-    sym
-    (walked-blocked (start .args .table .now) (start .args .s) (start .args .a .0) (row .result) (row .ensures) (trailingZeros 32 (at .before .loop .rest)) (next at)
-    (next-member _ _ _ _ _ (at .before .loop .inv) (wide at) (at .loop-test .taken)) (c .if1 .taken))
+    walking-blocked _ _ _ _ _ (at .before .loop .inv) (wide at) (at .loop-test .taken) (sym (c .before .enabled .ensures) ∙ not-true _ (c .if1 .taken))
+
+successors-requires : tie.Need-successors-requires Inv-loop μ-loop
+successors-requires c κs =
+    let at = c .before .before in
+    let start = at .before .before .before .before .before in
+    (start .pre .0, start .pre .1, next at)
 
 single-requires-2 : tie.Need-single-requires-2 Inv-loop μ-loop
-single-requires-2 c κs = omega (arith, next (c .before .before), wide (c .before .before))
+single-requires-2 c κs = let at = c .before .before .before in omega (arith, next at, wide at)
 
 sub-rest : tie.Need-sub-rest Inv-loop μ-loop
 sub-rest c =
-    let at = c .before .before .before in
+    let at = c .before .before .before .before in
     omega (arith, c .single2 .ensures, next-le _ _ _ _ _ (at .before .loop .inv) (wide at) (at .loop-test .taken))
 
 loop-less : tie.Need-loop-less Inv-loop μ-loop
 loop-less c =
-    let at = c .before .before .before in
+    let at = c .before .before .before .before in
     omega (arith, c .single2 .ensures, next-less _ _ _ _ _ (at .before .loop .inv) (wide at) (at .loop-test .taken))
 
 loop-again : tie.Need-loop-again Inv-loop μ-loop
 loop-again c =
-    let at = c .before .before .before in
-    rw (c .single2 .ensures) (walking-more _ _ _ _ _ (at .before .loop .inv) (wide at) (at .loop-test .taken) (c .before .if1 .left))
-
-returns-2 : tie.Need-returns-2 Inv-loop μ-loop
-returns-2 c =
-    let start = c .before .before .before .before .before .before .before in
-    let row = c .before .before .before .before .row in
-    sym
-    (walked-post (start .args .table .now) (start .args .s) (start .args .a .0) (row .result) (row .ensures) (c .before .loop .u)
-    (walking-end _ _ _ _ _ (c .before .loop .inv) (c .loop-test .left)))
+    let given = c .before in
+    let at = given .before .before .before in
+    rw (c .single2 .ensures, given .successors .ensures)
+    (walking-more _ _ _ _ _ (at .before .loop .inv) (wide at) (at .loop-test .taken) (sym (given .before .before .enabled .ensures) ∙ not-false _ (given .before .if1 .left)))
 
 pub walk-spec : {M : Type 1} → statement M
 walk-spec =
@@ -115,19 +75,15 @@ walk-spec =
     (tie.spec
     Inv-loop
     μ-loop
-    shared-slice-read-row
-    row-requires
-    states-requires
+    (λ c κs. search needs)
     single-requires
-    rem-rest
+    (λ c. omega (arith, c .single .ensures, pow-pos (c .before .states .result)))
     loop-holds
-    cast-t
-    add-t
-    mul-t
-    shared-slice-read-t
+    enabled-requires
     returns
+    successors-requires
     single-requires-2
     sub-rest
     loop-less
     loop-again
-    returns-2)
+    (λ c. walking-end _ _ _ _ _ (c .before .loop .inv) (c .loop-test .left)))
