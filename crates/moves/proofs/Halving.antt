@@ -24,9 +24,9 @@ use Rattle.games.specs.Step.{enabledAt, post}
 use Rattle.games.proofs.Steps.{enabled-at, enabled-fails}
 use Rattle.games.specs.Words.{game}
 use Rattle.tables.specs.Check.{checked}
-use Rattle.tables.specs.declared.Checked.the-variants.{Fine}
+use Rattle.games.specs.declared.Checked.the-variants.{Fine}
 use Rattle.tables.proofs.Checks.{sized}
-use Rattle.tables.proofs.Bounds.{game-limited}
+use Rattle.tables.proofs.Bounds.{few-states}
 use Rattle.moves.specs.declared.Posted.the-variants.{Blocked, Post}
 use Rattle.moves.specs.Halves.{posted, halfStates, halfSets, sideWords, blockedMark, mark, Doubled, Halved, Sided, Tabled}
 
@@ -247,12 +247,6 @@ module _ (g : Game) (A : Accepted g) (few : g .states ≤ maxStates) (s a : ℕ)
 
 -- ---- filling a side, one action behind the other
 
-pub few-actions : (w : List ℕ) → checked w ≡ Fine → game w .actions ≤ maxActions
-few-actions w h = game-limited w (sized w h) .most-actions
-
-pub few-states : (w : List ℕ) → checked w ≡ Fine → game w .states ≤ maxStates
-few-states w h = game-limited w (sized w h) .most-states
-
 -- a part that was written is read at its place, and what lies before it as it was
 put-before : (a k p : ℕ) (xs ys : List ℕ) → p < a → a ≤ length xs → getD (putMid a k xs ys) p 0 ≡ getD xs p 0
 put-before a k p xs ys l b =
@@ -288,7 +282,7 @@ module _ (g : Game) (first count : ℕ) where
 
 pub high-small : (w : List ℕ) → checked w ≡ Fine → (s : ℕ) → s < 2 ^ game w .states → s / halfSets < halfSets
 high-small w h s l =
-    let p = pow-mono {i = game w .states} {j = maxStates} (few-states w h) in
+    let p = pow-mono {i = game w .states} {j = maxStates} (few-states w (sized w h)) in
     omega arith
 
 -- the part of an action that is lent

@@ -11,7 +11,7 @@ use Rattle.games.specs.Game.{Game, enabled}
 use Rattle.games.specs.Step.{enabledAt, post}
 use Rattle.games.specs.Words.{game}
 use Rattle.tables.specs.Check.{checked}
-use Rattle.tables.specs.declared.Checked.the-variants.{Fine}
+use Rattle.games.specs.declared.Checked.the-variants.{Fine}
 use Rattle.moves.specs.declared.Posted.{Posted}
 use Rattle.moves.specs.declared.Posted.the-variants.{Blocked, Post}
 

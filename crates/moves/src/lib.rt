@@ -6,7 +6,7 @@ ghost use lib.ListN.{length};
 ghost use Rattle.games.specs.Words.{game};
 ghost use Rattle.tables.specs.Check.{checked};
 ghost use Rattle.tables.specs.Layout.{Sized};
-ghost use Rattle.tables.specs.declared.Checked.the-variants.{Fine};
+ghost use Rattle.games.specs.declared.Checked.the-variants.{Fine};
 ghost use Rattle.moves.specs.Halves.{posted, halfStates, halfSets, sideWords, mark as marked, InHalf, Doubled, Halved, Sided, Tabled, Ready};
 use games::Action;
 use games::State;

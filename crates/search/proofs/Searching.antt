@@ -22,8 +22,7 @@ use Rattle.games.specs.Game.{Game, Accepted}
 use Rattle.games.specs.Step.{step, good, fixed, settling}
 use Rattle.games.specs.Verdict.{No, startSet, startsIn, settled, lostRound, verdict}
 use Rattle.games.proofs.Steps.{good-falls, good-subset, step-ext}
-use Rattle.games.proofs.Lasting.{start-below, starts-at}
-use Rattle.games.proofs.Starts.{starts-all, starts-ext}
+use Rattle.games.proofs.Starts.{start-below, starts-at, starts-all, starts-ext}
 use Rattle.games.proofs.Settling.{settles, settled-good, lost-round, fixed-at}
 use Rattle.games.proofs.Decided.{verdict-no}
 use Rattle.search.specs.Stages.{Stage}
@@ -38,7 +37,7 @@ module _ (g : Game) (A : Accepted g) where
   lost-verdict k lost before =
       let out : startsIn g (settled g) ≡ false =
       refuted (startsIn g (settled g))
-      (λ h. clash (starts-all g (good g k) (λ o l. settled-good g A k (startSet g o) (start-below g A o) (starts-at g A (settled g) h o l))) lost) in
+      (λ h. clash (starts-all g (good g k) (λ o l. settled-good g A k (startSet g o) (start-below g A o) (starts-at g (settled g) h o l))) lost) in
       let d = lost-round g A out in
       let e : lostRound g ≡ k =
       le-antisymm

@@ -6,7 +6,6 @@ use mathlib.Core.Bool.{Bool, true, false, _&&_}
 use mathlib.Core.List.{List}
 use Prim.Native.Nat.{ℕ, _-_, _^_, _≤_, _<_}
 use native.Mathlib.Omega.{arith}
-use lib.Pow.{pow-mono}
 use borrow.Author.Tests.{eq-eqb, ne-eqb}
 use Rattle.sets.specs.Mask.{common}
 use Rattle.sets.specs.Bounded.{all, any}
@@ -16,11 +15,11 @@ use Rattle.sets.proofs.Bounded.{all-intro, all-refuted, any-intro}
 use Rattle.sets.proofs.Mask.{common-lt, common-subset-left}
 use Rattle.families.specs.Bits.{maxLanes, lanes}
 use Rattle.families.proofs.Lanes.{lanes-few}
-use Rattle.games.specs.Format.{maxActions, maxSets, maxStates}
 use Rattle.games.specs.Game.{Game, Accepted}
 use Rattle.games.specs.Step.{safe, enabledAt, post, after, meets, step}
 use Rattle.games.specs.Words.{game}
 use Rattle.tables.specs.Layout.{Sized}
+use Rattle.tables.proofs.Bounds.{few-states}
 use Rattle.moves.specs.declared.Posted.{Posted}
 use Rattle.moves.specs.declared.Posted.the-variants.{Blocked, Post}
 use Rattle.moves.specs.Halves.{posted}
@@ -71,19 +70,6 @@ module _ (g : Game) (F : Family) (s : ℕ) where
 
 pub shown-below : (g : Game) → Accepted g → (u j : ℕ) → j < g .observations → common u (g .shown j) < 2 ^ g .states
 shown-below g A u j l = common-lt (g .states) u (g .shown j) (A .shown-below j l)
-
--- n is at most 12, so there are few sets
-pub few-states : (w : List ℕ) → Sized w → game w .states ≤ maxStates
-unfolding game
-few-states w z = z .limits .most-states
-
-pub few-actions : (w : List ℕ) → Sized w → game w .actions ≤ maxActions
-unfolding game
-few-actions w z = z .limits .most-actions
-
-pub sets-few : (w : List ℕ) → Sized w → 2 ^ game w .states ≤ maxSets
-unfolding game
-sets-few w z = pow-mono (z .limits .most-states)
 
 -- there are few lanes
 pub table-lanes : (w : List ℕ) → Sized w → lanes (game w .states) ≤ maxLanes

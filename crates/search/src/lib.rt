@@ -7,7 +7,7 @@ ghost use Rattle.families.specs.Bits.{lanes, has as isIn, Bits};
 ghost use Rattle.games.specs.Words.{game};
 ghost use Rattle.games.specs.Step.{meets, step, good};
 ghost use Rattle.tables.specs.Check.{checked};
-ghost use Rattle.tables.specs.declared.Checked.the-variants.{Fine};
+ghost use Rattle.games.specs.declared.Checked.the-variants.{Fine};
 ghost use Rattle.games.specs.Verdict.{startsIn};
 ghost use Rattle.moves.specs.Halves.{Ready};
 ghost use Rattle.search.specs.Stages.{shownIn, Stage, Sound, Passed, safelyEnabled, EnabledStates, Same};

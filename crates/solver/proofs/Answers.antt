@@ -14,8 +14,8 @@ use Rattle.games.specs.Verdict.{Yes, No, startsIn, settled, cells, verdict}
 use Rattle.games.specs.Words.{game, cardLength}
 use Rattle.games.proofs.Decided.{verdict-yes}
 use Rattle.tables.specs.Check.{checked}
-use Rattle.tables.specs.declared.Checked.{Checked}
-use Rattle.tables.specs.declared.Checked.the-variants.{Fine, Refused as Stopped}
+use Rattle.games.specs.declared.Checked.{Checked}
+use Rattle.games.specs.declared.Checked.the-variants.{Fine, Refused as Stopped}
 use Rattle.solver.specs.Solve.{workWords, Leaves, leaves, cardOf, byVerdict, outcome, afterCheck, solved}
 use Rattle.solver.specs.declared.Answer.{Answer}
 use Rattle.solver.specs.declared.Answer.the-variants.{Yes as SaysYes, No as SaysNo, Refused}

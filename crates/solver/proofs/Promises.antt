@@ -30,8 +30,8 @@ use Rattle.games.proofs.Holding.{holding-named}
 use Rattle.games.proofs.Winning.{Covers, covering-wins, card-covers, cell-settled}
 use Rattle.games.proofs.Decided.{verdict-yes, yes-starts, decides}
 use Rattle.tables.specs.Check.{checked}
-use Rattle.tables.specs.declared.Checked.{Checked}
-use Rattle.tables.specs.declared.Checked.the-variants.{Fine, Refused as Stopped}
+use Rattle.games.specs.declared.Checked.{Checked}
+use Rattle.games.specs.declared.Checked.the-variants.{Fine, Refused as Stopped}
 use Rattle.tables.proofs.Checks.{sized, accepted}
 use Rattle.tables.proofs.Bounds.{game-limited}
 use Rattle.cards.specs.Card.{automaton, Fitting}

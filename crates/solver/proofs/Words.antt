@@ -15,7 +15,7 @@ use Rattle.games.specs.Verdict.{startSets, startSet, cells}
 use Rattle.games.specs.Automaton.{holding}
 use Rattle.games.specs.Words.{game, word}
 use Rattle.tables.specs.Check.{checked}
-use Rattle.tables.specs.declared.Checked.the-variants.{Fine}
+use Rattle.games.specs.declared.Checked.the-variants.{Fine}
 use Rattle.tables.proofs.Checks.{sized}
 use Rattle.tables.proofs.Bounds.{game-limited}
 use Rattle.solver.specs.Writing.{frontWords}

@@ -15,8 +15,8 @@ use Rattle.games.specs.Automaton.{card, cellAfter, actionAfter}
 use Rattle.games.specs.Words.{game, cardLength, cardWords}
 use Rattle.games.specs.Demands.{Follows, Second, Third}
 use Rattle.tables.specs.Check.{checked}
-use Rattle.tables.specs.declared.Checked.{Checked}
-use Rattle.tables.specs.declared.Checked.the-variants.{Fine, Refused as Stopped}
+use Rattle.games.specs.declared.Checked.{Checked}
+use Rattle.games.specs.declared.Checked.the-variants.{Fine, Refused as Stopped}
 use Rattle.cards.specs.Card.{automaton}
 use Rattle.cards.specs.Run.{ran, entered}
 use Rattle.solver.specs.declared.Answer.{Answer}

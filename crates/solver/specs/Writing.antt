@@ -15,7 +15,7 @@ use Rattle.games.specs.Verdict.{startSets, startSet, settled, cells}
 use Rattle.games.specs.Automaton.{noCell, holding, chosen}
 use Rattle.games.specs.Words.{game, word}
 use Rattle.tables.specs.Check.{checked}
-use Rattle.tables.specs.declared.Checked.the-variants.{Fine}
+use Rattle.games.specs.declared.Checked.the-variants.{Fine}
 use Rattle.solver.specs.declared.Held.{Held}
 use Rattle.solver.specs.declared.Held.the-variants.{By, Nowhere}
 

@@ -6,7 +6,7 @@ ghost use lib.ListN.{length, drop};
 ghost use Rattle.games.specs.Format.{maxStates};
 ghost use Rattle.games.specs.Words.{game, cardLength};
 ghost use Rattle.tables.specs.Check.{checked};
-ghost use Rattle.tables.specs.declared.Checked.the-variants.{Fine};
+ghost use Rattle.games.specs.declared.Checked.the-variants.{Fine};
 ghost use Rattle.families.specs.Bits.{laneSets, maxLanes, lanes as lanesOf, Bits};
 ghost use Rattle.moves.specs.Halves.{sideWords, Tabled, Ready};
 ghost use Rattle.games.specs.Verdict.{settled as settledFamily, cells as cellsOf, verdict, Yes};

@@ -7,7 +7,8 @@ use native.Mathlib.Omega.{arith}
 use Rattle.games.specs.Words.{game}
 use Rattle.tables.proofs.Checks.{sized}
 use Rattle.moves.specs.Halves.{Sided, halfStates}
-use Rattle.moves.proofs.Halving.{few-states, sides-tabled}
+use Rattle.tables.proofs.Bounds.{few-states}
+use Rattle.moves.proofs.Halving.{sides-tabled}
 use Rattle.moves.proofs.fill.Statement.{statement}
 use Rattle.moves.proofs.fill.Tie as tie
 
@@ -20,7 +21,7 @@ fill-side-requires-2 c κs =
     let start = split .before .before .before .before .before in
     let n = split .before .states .ensures in
     let k = split .low-states .ensures in
-    (start .pre .0, start .pre .2, omega arith, omega (arith, few-states (start .args .table .now) (start .pre .0)))
+    (start .pre .0, start .pre .2, omega arith, omega (arith, few-states (start .args .table .now) (sized (start .args .table .now) (start .pre .0))))
 
 returns : tie.Need-returns
 returns c =
@@ -31,7 +32,7 @@ returns c =
     let w = start .args .table .now in
     let n = split .before .states .ensures in
     let k = split .low-states .result in
-    sides-tabled (game w) k (lower .last .1 .1 .1 .0) (upper .last .1 .1 .1 .0) (few-states w (start .pre .0)) (split .low-states .ensures ∙ ap (λ (x : ℕ). min x halfStates) n) (lower .ensures)
+    sides-tabled (game w) k (lower .last .1 .1 .1 .0) (upper .last .1 .1 .1 .0) (few-states w (sized w (start .pre .0))) (split .low-states .ensures ∙ ap (λ (x : ℕ). min x halfStates) n) (lower .ensures)
     (subst (λ (x : ℕ). Sided (game w) k (x - k) (game w .actions) (upper .last .1 .1 .1 .0)) n (upper .ensures))
 
 pub fill-spec : {M : Type 1} → statement M

@@ -6,7 +6,8 @@ use Prim.Native.Nat.{ℕ, _+_, _-_}
 use native.Mathlib.Omega.{arith}
 use Rattle.games.specs.Words.{game}
 use Rattle.moves.specs.Halves.{mark}
-use Rattle.moves.proofs.Halving.{Halving, halving-none, halving-more, halving-end, halving-room, few-states}
+use Rattle.tables.proofs.Bounds.{few-states}
+use Rattle.moves.proofs.Halving.{Halving, halving-none, halving-more, halving-end, halving-room}
 use Rattle.tables.proofs.Checks.{sized}
 use Rattle.moves.proofs.fill_half.Statement.{statement}
 use Rattle.moves.proofs.fill_half.Tie as tie
@@ -24,7 +25,7 @@ loop-holds : tie.Need-loop-holds Inv-loop μ-loop
 loop-holds c = let start = c .before .before in halving-none _ (start .args .count) (start .args .half .now) (start .pre .1)
 
 add-t14 : tie.Need-add-t14 Inv-loop μ-loop
-add-t14 c = let start = c .before .before .before .before .before in omega (arith, start .pre .0 .states, few-states (start .args .table .now) (start .pre .0 .fine))
+add-t14 c = let start = c .before .before .before .before .before in omega (arith, start .pre .0 .states, few-states (start .args .table .now) (sized (start .args .table .now) (start .pre .0 .fine)))
 
 mark-requires : tie.Need-mark-requires Inv-loop μ-loop
 mark-requires c κs =

@@ -8,7 +8,8 @@ use Rattle.games.specs.Format.{maxActions}
 use Rattle.games.specs.Words.{game}
 use Rattle.tables.proofs.Checks.{sized}
 use Rattle.moves.specs.Halves.{Sided}
-use Rattle.moves.proofs.Halving.{few-actions, sided-none, sided-more, side-length}
+use Rattle.tables.proofs.Bounds.{few-actions}
+use Rattle.moves.proofs.Halving.{sided-none, sided-more, side-length}
 use Rattle.moves.proofs.fill_side.Statement.{statement}
 use Rattle.moves.proofs.fill_side.Tie as tie
 
@@ -25,7 +26,7 @@ loop-holds : tie.Need-loop-holds Inv-loop μ-loop
 loop-holds c =
     let start = c .before .before .before in
     let w = start .args .table .now in
-    (search needs, omega (arith, c .actions .ensures, few-actions w (start .pre .0)), sided-none (game w) (start .args .first) (start .args .count) (start .args .side .now) (start .pre .1))
+    (search needs, omega (arith, c .actions .ensures, few-actions w (sized w (start .pre .0))), sided-none (game w) (start .args .first) (start .args .count) (start .args .side .now) (start .pre .1))
 
 fill-half-requires : tie.Need-fill-half-requires Inv-loop μ-loop
 fill-half-requires c κs =

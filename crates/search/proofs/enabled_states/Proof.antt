@@ -9,7 +9,7 @@ use Rattle.games.specs.Format.{maxStates}
 use Rattle.games.specs.Words.{game}
 use Rattle.tables.proofs.Checks.{sized}
 use Rattle.search.specs.Stages.{EnabledStates}
-use Rattle.search.proofs.Turns.{few-states}
+use Rattle.tables.proofs.Bounds.{few-states}
 use Rattle.search.proofs.First.{states-none, states-hit, states-skip}
 use Rattle.search.proofs.enabled_states.Statement.{statement}
 use Rattle.search.proofs.enabled_states.Tie as tie

@@ -11,7 +11,7 @@ use Rattle.games.specs.Format.{maxActions, maxStates}
 use Rattle.games.specs.Game.{Game}
 use Rattle.games.specs.Words.{game}
 use Rattle.tables.proofs.Checks.{sized}
-use Rattle.search.proofs.Turns.{few-states, few-actions}
+use Rattle.tables.proofs.Bounds.{few-states, few-actions}
 use Rattle.search.proofs.First.{ByAction, actions-none, actions-more, actions-front, actions-below, first-bits}
 use Rattle.search.proofs.first_family.Statement.{statement}
 use Rattle.search.proofs.first_family.Tie as tie

@@ -5,7 +5,7 @@ use mathlib.Core.Bool.{Bool, not, _&&_}
 use native.Mathlib.Omega.{arith}
 use Rattle.tables.proofs.Checks.{sized}
 use Rattle.search.specs.Stages.{safelyEnabled}
-use Rattle.search.proofs.Turns.{few-states}
+use Rattle.tables.proofs.Bounds.{few-states}
 use Rattle.search.proofs.safely_enabled.Statement.{statement}
 use Rattle.search.proofs.safely_enabled.Tie as tie
 

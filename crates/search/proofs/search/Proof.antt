@@ -10,7 +10,7 @@ use Rattle.families.proofs.Lanes.{lane-there}
 use Rattle.games.specs.Game.{Game, Accepted}
 use Rattle.games.specs.Words.{game}
 use Rattle.tables.proofs.Checks.{sized, accepted}
-use Rattle.search.proofs.Turns.{few-states}
+use Rattle.tables.proofs.Bounds.{few-states}
 use Rattle.search.proofs.Searching.{first-lost, first-settled, first-on}
 use Rattle.search.proofs.search.Statement.{statement}
 use Rattle.search.proofs.search.Tie as tie

@@ -16,7 +16,7 @@ use Rattle.games.specs.Step.{good}
 use Rattle.tables.proofs.Checks.{sized, accepted}
 use Rattle.search.specs.Stages.{Same}
 use Rattle.search.specs.Found.{Reached}
-use Rattle.search.proofs.Turns.{sets-few}
+use Rattle.tables.proofs.Bounds.{few-sets}
 use Rattle.search.proofs.Searching.{good-stage, good-next, searching-bound, turn-lost, turn-settled, turn-on}
 use Rattle.search.proofs.settle.Statement.{statement}
 use Rattle.search.proofs.settle.Tie as tie
@@ -64,7 +64,7 @@ loop-holds : tie.Need-loop-holds Inv-loop μ-loop
 loop-holds c =
     let start = c .before .before .before .before .before in
     let w = start .args .table .now in
-    (sets-few w (sized w (start .pre .0 .fine)), start .pre .2, start .pre .1)
+    (few-sets w (sized w (start .pre .0 .fine)), start .pre .2, start .pre .1)
 
 pass-requires : tie.Need-pass-requires Inv-loop μ-loop
 pass-requires c κs =

@@ -13,8 +13,7 @@ use Rattle.families.specs.Bits.{has}
 use Rattle.families.proofs.Lanes.{lane-there}
 use Rattle.games.specs.Verdict.{startSets, startSet}
 use Rattle.games.specs.Words.{game}
-use Rattle.games.proofs.Lasting.{start-below}
-use Rattle.games.proofs.Starts.{starts-passed, starts-stop}
+use Rattle.games.proofs.Starts.{start-below, starts-passed, starts-stop}
 use Rattle.tables.proofs.Checks.{sized, accepted}
 use Rattle.search.proofs.starts_in.Statement.{statement}
 use Rattle.search.proofs.starts_in.Tie as tie
