@@ -1,0 +1,5 @@
+pub mod Writing
+pub mod Decimals
+pub mod Readers
+pub mod RoundTrip
+pub mod Examples
