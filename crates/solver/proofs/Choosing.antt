@@ -1,6 +1,6 @@
 -- Laws of a cell's words: trying the actions, the cell for each observation.
 -- Assumes nothing.
-use mathlib.Core.Path.{_≡_, sym, ap, ap₂, _∙_, subst, fun-ext}
+use mathlib.Core.Path.{_≡_, sym, ap, ap₂, _∙_, subst}
 use mathlib.Core.Bool.{true, false}
 use mathlib.Core.List.{List, [], _∷_}
 use Prim.Native.Nat.{ℕ, _+_, _^_, _≤_, _<_}
@@ -10,12 +10,13 @@ use Rattle.sets.specs.Mask.{common}
 use Rattle.sets.specs.Bounded.{Found, nothing, found, first, orElse, gather, all}
 use Rattle.sets.specs.Family.{holds}
 use Rattle.sets.proofs.Logic.{clash}
+use Rattle.sets.proofs.Fills.{gather-ext}
 use Rattle.sets.proofs.Bounded.{first-nothing, first-skip, first-stop, all-refuted}
 use Rattle.games.specs.Format.{maxActions, maxObservations, kindCell, kindNext}
 use Rattle.games.specs.Game.{Game, Accepted}
 use Rattle.games.specs.Step.{after, meets, lowest}
 use Rattle.games.specs.Verdict.{settled, cells}
-use Rattle.games.specs.Words.{word}
+use Rattle.games.specs.Fields.{word}
 use Rattle.games.specs.Automaton.{holding, chosen}
 use Rattle.games.proofs.Steps.{step-action}
 use Rattle.games.proofs.Settling.{cells-hold, settled-step}
@@ -26,9 +27,6 @@ use Rattle.moves.proofs.Posting.{posted-post}
 use Rattle.search.specs.Stages.{shownIn}
 use Rattle.solver.specs.Writing.{SettledSet, setWords}
 use Rattle.search.proofs.Turns.{meets-blocked, meets-shown}
-
-pub gather-ext : (n : ℕ) (p q : ℕ → List ℕ) → ((j : ℕ) → p j ≡ q j) → gather n p ≡ gather n q
-gather-ext n p q h = ap (gather n) (fun-ext h)
 
 -- no action below a meets the step
 pub record Trying (g : Game) (s o last a : ℕ) (out : List ℕ) : Type 0 where
@@ -111,7 +109,7 @@ set-words g l e s a u o x h c f i =
     ap₂ (λ (y : ℕ) (r : List ℕ). y ∷ r) (i ∙ ap (word kindCell s 0) (sym c))
     (ap₂ (λ (n : ℕ) (k : List ℕ). gather n (λ j. nextWord g k u j ∷ [])) h e
     ∙ gather-ext (g .observations) (λ j. nextWord g (cells g) u j ∷ []) (λ j. word kindNext (holding (cells g) (after g s (chosen g s) j)) j 0 ∷ [])
-    (λ j. ap (λ (t : ℕ). word kindNext (holding (cells g) t) j 0 ∷ []) (f j ∙ ap (λ (b : ℕ). after g s b j) (sym c))))
+    (λ j b. ap (λ (t : ℕ). word kindNext (holding (cells g) t) j 0 ∷ []) (f j ∙ ap (λ (b : ℕ). after g s b j) (sym c))))
 
 pub next-word : (g : Game) (l : List ℕ) (u j r c b t : ℕ) → r ≡ word kindNext c j 0 → c ≡ holding l t → t ≡ common u b → b ≡ g .shown j → r ≡ nextWord g l u j
 next-word g l u j r c b t is named cut shown =

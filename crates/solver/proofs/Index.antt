@@ -10,11 +10,15 @@ use native.Mathlib.Omega.{arith}
 use lib.ListN.{length, getD, set, length-set}
 use lib.Pow.{pow-mono}
 use lib.Seq.{getD-set-same, getD-set-other}
+use lib.Dec.{ltb}
 use borrow.Author.Count.{below-none, below-more}
+use borrow.Author.Tests.{ltb-true, ltb-false}
 use Rattle.sets.specs.Mask.{subset}
+use Rattle.sets.specs.Bounded.{firstFrom}
 use Rattle.sets.specs.Family.{holds}
 use Rattle.sets.proofs.Logic.{decided, refuted, same-truth}
 use Rattle.sets.proofs.Mask.{subset-le}
+use Rattle.sets.proofs.Reaching.{from-within, from-below}
 use Rattle.sets.proofs.Family.{holds-found, mem-maximal, maximal-length}
 use Rattle.families.specs.Bits.{laneSets, maxLanes, has, Bits}
 use Rattle.families.proofs.Lanes.{lanes-few}
@@ -61,8 +65,14 @@ module _ (l : List ℕ) (s : ℕ) where
 
 -- ---- where the cells of a lane start
 
-pub passed-more : (l : List ℕ) (bound i : ℕ) → AllBelow l bound i → i < length l → getD l i 0 < bound → AllBelow l bound (i + 1)
-passed-more l bound i w b h = record { within = omega arith; below = below-more (λ c. getD l c 0 < bound) i (w .below) h }
+-- all sets before the first place from i on that reaches the bound are below it, where those before i are
+pub below-from : (l : List ℕ) (bound i r : ℕ) → AllBelow l bound i → r ≡ firstFrom l i bound → AllBelow l bound r
+below-from l bound i r w e =
+    subst (AllBelow l bound) (sym e)
+    (record {
+      within = from-within l i bound;
+      below = λ c h. ⊎-elim (λ t. w .below c (ltb-true c i t)) (λ t. from-below l i bound c (ltb-false c i t) h) (decided (ltb c i));
+    })
 
 -- the lanes below `lane` are marked, and all sets before place i are below it
 pub record Marking (l : List ℕ) (lane i : ℕ) (starts : List ℕ) : Type 0 where

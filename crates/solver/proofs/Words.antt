@@ -9,15 +9,12 @@ use native.Mathlib.Omega.{arith}
 use lib.ListN.{length, take, drop, set, length-set, length-drop}
 use lib.Seq.{drop-set-add, take-suc-set, take-all, set-split}
 use Rattle.sets.specs.Bounded.{gather}
-use Rattle.games.specs.Format.{maxActions, maxObservations, kindCard, kindFirst}
+use Rattle.games.specs.Format.{kindCard, kindFirst}
 use Rattle.games.specs.Game.{Game}
 use Rattle.games.specs.Verdict.{startSets, startSet, cells}
 use Rattle.games.specs.Automaton.{holding}
-use Rattle.games.specs.Words.{game, word}
-use Rattle.tables.specs.Check.{checked}
-use Rattle.games.specs.declared.Checked.the-variants.{Fine}
-use Rattle.tables.proofs.Checks.{sized}
-use Rattle.tables.proofs.Bounds.{game-limited}
+use Rattle.games.specs.Fields.{word}
+use Rattle.games.specs.Words.{frontLength}
 use Rattle.solver.specs.Writing.{frontWords}
 
 pub size-is : (g : Game) (n size : ℕ) → n ≡ g .states → size ≡ 2 ^ n → size ≡ 2 ^ g .states
@@ -53,17 +50,10 @@ module _ (o : ℕ) (f : ℕ → ℕ) where
       ∙ ap (λ (d : List ℕ). x ∷ d)
       (sym (take-all j (drop 1 out) (omega (arith, length-drop 1 out, w .size))) ∙ w .front ∙ ap (λ (n : ℕ). gather n (λ i. f i ∷ [])) e)
 
--- bounds on an accepted table's numbers
-module _ (w : List ℕ) (fine : checked w ≡ Fine) where
-  pub observations-few : game w .observations ≤ maxObservations
-  observations-few = game-limited w (sized w fine) .most-observations
-
-  pub actions-few : game w .actions ≤ maxActions
-  actions-few = game-limited w (sized w fine) .most-actions
-
 -- one first word for each start set
-pub sets-are : (g : Game) → startSets g ≡ g .observations
-sets-are g = refl
+pub sets-front : (g : Game) → 1 + startSets g ≡ frontLength (g .observations)
+unfolding startSets
+sets-front g = refl
 
 -- the first word of start set j
 abbrev pub firstWord : Game → List ℕ → ℕ → ℕ

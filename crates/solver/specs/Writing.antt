@@ -13,7 +13,8 @@ use Rattle.games.specs.Game.{Game}
 use Rattle.games.specs.Step.{after}
 use Rattle.games.specs.Verdict.{startSets, startSet, settled, cells}
 use Rattle.games.specs.Automaton.{noCell, holding, chosen}
-use Rattle.games.specs.Words.{game, word}
+use Rattle.games.specs.Fields.{word}
+use Rattle.games.specs.Words.{game}
 use Rattle.tables.specs.Check.{checked}
 use Rattle.games.specs.declared.Checked.the-variants.{Fine}
 use Rattle.solver.specs.declared.Held.{Held}

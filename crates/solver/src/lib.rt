@@ -1,26 +1,27 @@
 // The solver: the search on sets, and the card.
 ghost use mathlib.Core.Path.{_≡_};
-ghost use Prim.Native.Nat.{_+_, _/_, _<_, _≤_, _^_};
+ghost use Prim.Native.Nat.{_/_, _<_, _≤_, _^_};
 ghost use mathlib.Core.List.{_++_};
 ghost use lib.ListN.{length, drop};
 ghost use Rattle.games.specs.Format.{maxStates};
-ghost use Rattle.games.specs.Words.{game, cardLength};
+ghost use Rattle.games.specs.Answers.{leaves};
+ghost use Rattle.games.specs.Words.{game, frontLength, partLength, cardLength};
 ghost use Rattle.tables.specs.Check.{checked};
 ghost use Rattle.games.specs.declared.Checked.the-variants.{Fine};
 ghost use Rattle.families.specs.Bits.{laneSets, maxLanes, lanes as lanesOf, Bits};
 ghost use Rattle.moves.specs.Halves.{sideWords, Tabled, Ready};
 ghost use Rattle.games.specs.Verdict.{settled as settledFamily, cells as cellsOf, verdict, Yes};
-ghost use Rattle.solver.specs.Solve.{workWords, leaves, byVerdict, cardOf, outcome, solved, Promise};
-ghost use Rattle.solver.specs.Writing.{heldBy, named as namedBy, AllBelow, Starts, Index, Listed, SettledSet, frontWords, setWords};
+ghost use Rattle.solver.specs.Solve.{workWords, byVerdict, cardOf, rooms, solved, Promise};
+ghost use Rattle.solver.specs.Writing.{heldBy, named as namedBy, Starts, Index, Listed, SettledSet, frontWords, setWords};
 use families::LANE_SETS;
 use families::MAX_LANES;
 use games::Action;
 use games::Cell;
+use games::Checked;
 use games::NO_CELL;
 use games::Observation;
 use moves::Posted;
 use search::Ended;
-use tables::Checked;
 
 // The number of sets of n states.
 fn set_count(n: u32) -> usize
@@ -28,21 +29,6 @@ fn set_count(n: u32) -> usize
     ensures { λ r. ⌜ r ≡ 2 ^ n ⌝ }
 {
     1usize << n
-}
-
-// The first cell from `from` on whose mask is `bound` or more.
-fn first_from(cells: &[u32], from: usize, bound: u32) -> usize
-    requires { ⌜ AllBelow (now cells) bound from ⌝ }
-    ensures { λ r. ⌜ AllBelow (now (cells .entry)) bound r ⌝ }
-{
-    let mut i = from;
-    while i < cells.len() {
-        if bound <= cells[i] {
-            return i;
-        }
-        i += 1;
-    }
-    i
 }
 
 // For each lane of sets, the first cell that is not below it.
@@ -53,7 +39,7 @@ fn mark_starts(cells: &[u32], starts: &mut [usize])
     let mut at: usize = 0;
     let mut lane: usize = 0;
     while lane < starts.len() {
-        at = first_from(cells, at, LANE_SETS * lane as u32);
+        at = sets::first_from(cells, at, LANE_SETS * lane as u32);
         starts[lane] = at;
         lane += 1;
     }
@@ -101,7 +87,7 @@ fn named(held: Held) -> Cell
 // The card's head and first cells.
 fn write_front(table: &[u32], family: &[u64], starts: &[usize], cells: &[u32], out: &mut [u32])
     requires { ⌜ Listed (now table) (now family) (now starts) (now cells)
-        × (length (now out) ≡ 1 + game (now table) .observations) ⌝ }
+        × (length (now out) ≡ frontLength (game (now table) .observations)) ⌝ }
     ensures { λ _. ⌜ now (out .exit) ≡ frontWords (game (now (table .entry))) ⌝ }
 {
     let sets = tables::start_sets(table);
@@ -136,7 +122,7 @@ fn write_cell(
     out: &mut [u32],
 )
     requires { ⌜ Listed (now table) (now family) (now starts) (now cells) × Tabled (game (now table)) (now low) (now high)
-        × SettledSet (game (now table)) s × (length (now out) ≡ 1 + game (now table) .observations) ⌝ }
+        × SettledSet (game (now table)) s × (length (now out) ≡ partLength (game (now table) .observations)) ⌝ }
     ensures { λ _. ⌜ now (out .exit) ≡ setWords (game (now (table .entry))) s ⌝ }
 {
     let o = tables::observations(table);
@@ -176,11 +162,13 @@ fn write_card(
     ensures { λ _. ⌜ now (card .exit) ≡ cardOf (game (now (table .entry)))
         ++ drop (cardLength (length (now (cells .entry))) (game (now (table .entry)) .observations)) (now (card .entry)) ⌝ }
 {
-    let part = 1 + tables::observations(table) as usize;
-    write_front(table, family, starts, cells, &mut card[..part]);
+    let o = tables::observations(table);
+    let front = games::front_length(o);
+    let part = games::part_length(o);
+    write_front(table, family, starts, cells, &mut card[..front]);
     let mut c: usize = 0;
     while c < cells.len() {
-        let at = part + c * part;
+        let at = cards::cell_place(o, Cell(c as u32));
         write_cell(
             table,
             low,
@@ -217,14 +205,13 @@ fn grant(
     ensures { λ r. ⌜ leaves r (now (card .exit))
         ≡ byVerdict (game (now (table .entry))) (now (card .entry)) (Yes settled (length (now (cells .entry)))) ⌝ }
 {
-    let part = 1 + tables::observations(table) as usize;
-    let m = cells.len();
-    let need = part + m * part;
+    let m = cells.len() as u32;
+    let need = games::card_length(m, tables::observations(table));
     if card.len() < need {
         return Answer::Refused(9, need);
     }
     write_card(table, low, high, family, starts, cells, card);
-    Answer::Yes(settled, m as u32)
+    Answer::Yes(settled, m)
 }
 
 // The cells of a yes in front of the work, and the card from them.
@@ -311,7 +298,8 @@ fn decide(table: &[u32], work: &mut [u32], card: &mut [u32]) -> Answer
 
 // Solve: the verdict on a table and the card of a yes.
 pub fn solve(table: &[u32], work: &mut [u32], card: &mut [u32]) -> Answer
-    ensures determined { λ r. ⌜ outcome r (now (work .exit)) (now (card .exit)) ≡ solved (now (table .entry)) (now (work .entry)) (now (card .entry)) ⌝ }
+    ensures determined { λ r. ⌜ leaves r (rooms (now (work .exit)) (now (card .exit)))
+        ≡ solved (now (table .entry)) (now (work .entry)) (now (card .entry)) ⌝ }
     ensures promised { λ r. ⌜ Promise (now (table .entry)) (now (work .entry)) (now (card .entry)) r (now (card .exit)) ⌝ }
 {
     let checked = tables::check(table);

@@ -19,6 +19,10 @@ Inv-loop table first count side₀ actions a₀ side a = (a ≤ actions) × (act
 abbrev μ-loop : tie.MeasureT-loop
 μ-loop table first count side₀ actions a₀ side a = actions - a
 
+-- where the function begins
+abbrev entry : tie.At-loop Inv-loop μ-loop → tie.Start Inv-loop μ-loop
+entry at = at .before .before .before .before
+
 actions-requires : tie.Need-actions-requires Inv-loop μ-loop
 actions-requires c κs = let start = c .before .before in sized (start .args .table .now) (start .pre .0)
 
@@ -31,7 +35,7 @@ loop-holds c =
 fill-half-requires : tie.Need-fill-half-requires Inv-loop μ-loop
 fill-half-requires c κs =
     let at = c .before .before in
-    let start = at .before .before .before .before in (
+    let start = entry at in (
       record {
         fine = start .pre .0;
         action = omega (arith, at .before .actions .ensures, c .before .loop-test .taken);
@@ -45,7 +49,7 @@ loop-again : tie.Need-loop-again Inv-loop μ-loop
 loop-again c =
     let filled = c .before .before in
     let at = filled .before .before .before in
-    let start = at .before .before .before .before in (
+    let start = entry at in (
       search needs,
       at .loop .inv .1,
       sided-more (game (start .args .table .now)) (start .args .first) (start .args .count) (at .loop .a) (at .loop .side) (filled .fill-half .last .1 .1 .1 .1 .0)
@@ -53,12 +57,12 @@ loop-again c =
     )
 
 same-length : tie.Need-same-length Inv-loop μ-loop
-same-length c = c .before .loop .inv .2 .size ∙ sym (c .before .before .before .before .before .pre .1)
+same-length c = c .before .loop .inv .2 .size ∙ sym (entry (c .before) .pre .1)
 
 returns : tie.Need-returns Inv-loop μ-loop
 returns c =
     let at = c .before in
-    let start = at .before .before .before .before in
+    let start = entry at in
     let e : at .loop .a ≡ game (start .args .table .now) .actions = omega (arith, at .before .actions .ensures) in
     rw e at (at .loop .inv .2)
 

@@ -20,6 +20,10 @@ Inv-loop table a n mask₀ i₀ mask i = (n ≤ maxStates) × (i ≤ n) × Enabl
 abbrev μ-loop : tie.MeasureT-loop
 μ-loop table a n mask₀ i₀ mask i = n - i
 
+-- where the function begins
+abbrev entry : tie.At-loop Inv-loop μ-loop → tie.Start Inv-loop μ-loop
+entry at = at .before .before .before
+
 states-requires : tie.Need-states-requires Inv-loop μ-loop
 states-requires c κs = sized (c .before .args .table .now) (c .before .pre .0)
 
@@ -30,12 +34,12 @@ loop-holds c =
     (subst (λ (m : ℕ). m ≤ maxStates) (sym (c .states .ensures)) (few-states w (sized w (start .pre .0))), search needs, states-none (game w) (start .args .a .0))
 
 safely-enabled-requires : tie.Need-safely-enabled-requires Inv-loop μ-loop
-safely-enabled-requires c κs = let start = c .before .before .before .before in (start .pre .0, start .pre .1, omega arith)
+safely-enabled-requires c κs = let start = entry (c .before) in (start .pre .0, start .pre .1, omega arith)
 
 loop-again : tie.Need-loop-again Inv-loop μ-loop
 loop-again c =
     let at = c .before .before .before in
-    let start = at .before .before .before in
+    let start = entry at in
     let g = game (start .args .table .now) in
     let a = start .args .a .0 in (
       at .loop .inv .0,
@@ -49,7 +53,7 @@ loop-again c =
 returns : tie.Need-returns Inv-loop μ-loop
 returns c =
     let at = c .before in
-    let start = at .before .before .before in
+    let start = entry at in
     let g = game (start .args .table .now) in
     let e : at .loop .i ≡ g .states = omega arith in
     rw e at (at .loop .inv .2)

@@ -22,9 +22,13 @@ Inv-loop table family actions masks₀ a₀ masks a = (actions ≤ maxActions) �
 abbrev μ-loop : tie.MeasureT-loop
 μ-loop table family actions masks₀ a₀ masks a = actions - a
 
+-- where the function begins
+abbrev entry : tie.At-loop Inv-loop μ-loop → tie.Start Inv-loop μ-loop
+entry at = at .before .before .before .before
+
 -- the game, and what the loop leaves: the states of all actions, in front
 abbrev played : tie.At-loop Inv-loop μ-loop → Game
-played at = game (at .before .before .before .before .args .table .now)
+played at = game (entry at .args .table .now)
 
 abbrev masks-of : tie.At-loop Inv-loop μ-loop → List ℕ
 masks-of at = take (at .before .actions .result) (at .loop .masks)
@@ -36,7 +40,7 @@ front c =
     let e : at .loop .a ≡ g .actions = omega arith in
     let is = at .before .actions .ensures in (
       length-take-le _ _ (omega (arith, at .loop .inv .2)) ∙ is,
-      rw is (actions-front g (at .loop .masks) (rw e at (at .loop .inv .3))),
+      subst (λ (n : ℕ). ByAction g (g .actions) (take n (at .loop .masks))) (sym is) (actions-front g (at .loop .masks) (rw e at (at .loop .inv .3))),
     )
 
 actions-requires : tie.Need-actions-requires Inv-loop μ-loop
@@ -49,12 +53,12 @@ loop-holds c =
     (subst (λ (m : ℕ). m ≤ maxActions) (sym (c .actions .ensures)) (few-actions w (sized w (start .pre .0))), search needs, search needs, actions-none (game w) (replicate maxActions 0))
 
 enabled-states-requires : tie.Need-enabled-states-requires Inv-loop μ-loop
-enabled-states-requires c κs = (c .before .before .before .before .before .pre .0, omega arith)
+enabled-states-requires c κs = (entry (c .before) .pre .0, omega arith)
 
 loop-again : tie.Need-loop-again Inv-loop μ-loop
 loop-again c =
     let at = c .before .before in
-    let start = at .before .before .before .before in
+    let start = entry at in
     (at .loop .inv .0, search needs, length-set (at .loop .masks) (at .loop .a) (c .enabled-states .result) ∙ at .loop .inv .2, actions-more (game (start .args .table .now)) (at .loop .masks) (at .loop .a) (c .enabled-states .result) (omega (arith, at .loop .inv .2)) (c .enabled-states .ensures) (at .loop .inv .3))
 
 array-share-prefix-masks : tie.Need-array-share-prefix-masks Inv-loop μ-loop
@@ -64,13 +68,13 @@ slice-aggregate-below : tie.Need-slice-aggregate-below Inv-loop μ-loop
 slice-aggregate-below c = let at = c .before .before in sym (length-take-le _ _ (omega (arith, at .loop .inv .2)))
 
 states-requires : tie.Need-states-requires Inv-loop μ-loop
-states-requires c κs = let start = c .before .before .before .before .before .before in sized (start .args .table .now) (start .pre .0)
+states-requires c κs = let start = entry (c .before .before) in sized (start .args .table .now) (start .pre .0)
 
 below-requires : tie.Need-below-requires Inv-loop μ-loop
 below-requires c κs =
     let left = c .before .before .before in
     let f = front left in
-    let start = left .before .before .before .before .before in
+    let start = entry (left .before) in
     let w = start .args .table .now in
     let n = c .before .states .ensures in
     record {
@@ -82,7 +86,7 @@ below-requires c κs =
 same-length : tie.Need-same-length Inv-loop μ-loop
 same-length c =
     let b = c .before .before in
-    let start = b .before .before .before .before .before .before .before .before .before in
+    let start = entry (b .before .before .before .before .before) in
     rw (b .before .before .states .ensures) at (b .below .ensures .size) ∙ sym (start .pre .1)
 
 returns : tie.Need-returns Inv-loop μ-loop
@@ -90,7 +94,7 @@ returns c =
     let b = c .before .before in
     let left = b .before .before .before .before in
     let f = front left in
-    let start = left .before .before .before .before .before in
+    let start = entry (left .before) in
     first-bits (game (start .args .table .now)) _ (f .0) (f .1) _ (rw (b .before .before .states .ensures) at (b .below .ensures))
 
 pub first-family-spec : {M : Type 1} → statement M

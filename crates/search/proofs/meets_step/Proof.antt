@@ -22,6 +22,10 @@ Inv-loop table low high family s actions a₀ a = (a ≤ actions) × (any a (mee
 abbrev μ-loop : tie.MeasureT-loop
 μ-loop table low high family s actions a₀ a = actions - a
 
+-- where the function begins
+abbrev entry : tie.At-loop Inv-loop μ-loop → tie.Start Inv-loop μ-loop
+entry at = at .before .before .before .before .before .before .before .before
+
 bad-requires : tie.Need-bad-requires Inv-loop μ-loop
 bad-requires c κs = let start = c .before .before .before .before in sized (start .args .table .now) (start .pre .0 .fine)
 
@@ -40,21 +44,21 @@ loop-holds c = (search needs, any-zero _)
 returns-2 : tie.Need-returns-2 Inv-loop μ-loop
 returns-2 c =
     let at = c .before .before .before in
-    let start = at .before .before .before .before .before .before .before .before in
+    let start = entry at in
     let g = game (start .args .table .now) in
     step-hit g (has (start .args .family .now)) (start .args .s) (rw (at .before .before .before .bad .ensures) at (at .before .before .if1 .left)) (at .loop .a) (omega arith) (cc)
 
 loop-again : tie.Need-loop-again Inv-loop μ-loop
 loop-again c =
     let at = c .before .before .before in
-    let start = at .before .before .before .before .before .before .before .before in
+    let start = entry at in
     let g = game (start .args .table .now) in
     (search needs, any-more (at .loop .a) (meets g (has (start .args .family .now)) (start .args .s)) ∙ or-false-intro (at .loop .inv .1) (cc))
 
 returns-3 : tie.Need-returns-3 Inv-loop μ-loop
 returns-3 c =
     let at = c .before in
-    let start = at .before .before .before .before .before .before .before .before in
+    let start = entry at in
     let g = game (start .args .table .now) in
     let e : at .loop .a ≡ g .actions = omega arith in
     step-none g (has (start .args .family .now)) (start .args .s) (rw e at (at .loop .inv .1))

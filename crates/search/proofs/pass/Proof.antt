@@ -19,6 +19,10 @@ Inv-loop table low high family next₀ lane₀ next lane = (length family ≤ ma
 abbrev μ-loop : tie.MeasureT-loop
 μ-loop table low high family next₀ lane₀ next lane = lane
 
+-- where the function begins
+abbrev entry : tie.At-loop Inv-loop μ-loop → tie.Start Inv-loop μ-loop
+entry at = at .before .before .before .before .before .before
+
 loop-holds : tie.Need-loop-holds Inv-loop μ-loop
 loop-holds c =
     let start = c .before .before .before .before .before in
@@ -33,7 +37,7 @@ larger-requires c κs =
 pass-lane-requires : tie.Need-pass-lane-requires Inv-loop μ-loop
 pass-lane-requires c κs =
     let at = c .before .before .before in
-    let start = at .before .before .before .before .before .before in
+    let start = entry at in
     (start .pre .0, start .pre .1, omega arith, covered-sound (game (start .args .table .now)) (start .args .family .now) (start .pre .1) (at .loop .next) (at .loop .lane) (at .loop .lane - 1) (omega arith) (at .loop .inv .2) (c .larger .result) (omega arith) (c .larger .ensures))
 
 slice-write-next : tie.Need-slice-write-next Inv-loop μ-loop
@@ -42,16 +46,16 @@ slice-write-next c = let at = c .before .before .before .before in omega (arith,
 loop-again : tie.Need-loop-again Inv-loop μ-loop
 loop-again c =
     let at = c .before .before .before .before in
-    let start = at .before .before .before .before .before .before in
+    let start = entry at in
     (at .loop .inv .0, omega arith, passing-more (game (start .args .table .now)) (start .args .family .now) (start .pre .1) (at .loop .next) (at .loop .lane) (at .loop .lane - 1) (omega arith) (at .loop .inv .2) (omega arith) (c .pass-lane .result) (c .pass-lane .ensures))
 
 same-length : tie.Need-same-length Inv-loop μ-loop
-same-length c = c .before .loop .inv .2 .size ∙ sym (c .before .before .before .before .before .before .before .pre .2)
+same-length c = c .before .loop .inv .2 .size ∙ sym (entry (c .before) .pre .2)
 
 returns : tie.Need-returns Inv-loop μ-loop
 returns c =
     let at = c .before in
-    let start = at .before .before .before .before .before .before in
+    let start = entry at in
     let e : at .loop .lane ≡ 0 = omega arith in
     passing-end (game (start .args .table .now)) (start .args .family .now) (start .pre .1) (at .loop .next) (rw e at (at .loop .inv .2))
 

@@ -15,12 +15,16 @@ use Rattle.search.proofs.Searching.{first-lost, first-settled, first-on
 use Rattle.search.proofs.search.Statement.{statement}
 use Rattle.search.proofs.search.Tie as tie
 
+-- where the function begins
+abbrev entry : tie.After-single → tie.Start
+entry c = c .before .before .before .before .before .before .before
+
 -- the game, that its table was accepted, and the number of its sets
 abbrev played : tie.After-single → Game
-played c = game (c .before .before .before .before .before .before .before .args .table .now)
+played c = game (entry c .args .table .now)
 
 fine : (c : tie.After-single) → Accepted (played c)
-fine c = let start = c .before .before .before .before .before .before .before in accepted (start .args .table .now) (start .pre .0 .fine)
+fine c = let start = entry c in accepted (start .args .table .now) (start .pre .0 .fine)
 
 sets-are : (c : tie.After-single) → c .single .result ≡ 2 ^ played c .states
 sets-are c = c .single .ensures ∙ ap (λ (n : ℕ). 2 ^ n) (c .before .states .ensures)
@@ -65,7 +69,7 @@ settle-requires c κs =
     let tested = c .before .before .before .before .before .before in
     let first = tested .before .before .before .before in
     let whole = first .before .before in (
-      whole .before .before .before .before .before .before .before .pre .0,
+      entry whole .pre .0,
       first-on (played whole) (fine whole) _ (first .first-family .ensures)
           (sym (tested .starts-in .ensures) ∙ not-false (tested .starts-in .result) (c .before .before .before .before .before .if1 .left))
           (rw (sets-are whole) at (sym (c .before .before .before .has .ensures) ∙ c .before .before .if2 .left)),

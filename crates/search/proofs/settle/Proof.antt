@@ -27,16 +27,20 @@ Inv-loop table low high family₀ next₀ k₀ family next k = (2 ^ game table .
 abbrev μ-loop : tie.MeasureT-loop
 μ-loop table low high family₀ next₀ k₀ family next k = 2 ^ game table .states - k
 
+-- where the function begins
+abbrev entry : tie.At-loop Inv-loop μ-loop → tie.Start Inv-loop μ-loop
+entry at = at .before .before .before .before .before .before
+
 -- the game, and that its table was accepted
 abbrev played : tie.At-loop Inv-loop μ-loop → Game
-played at = game (at .before .before .before .before .before .before .args .table .now)
+played at = game (entry at .args .table .now)
 
 fine : (at : tie.At-loop Inv-loop μ-loop) → Accepted (played at)
-fine at = let start = at .before .before .before .before .before .before in accepted (start .args .table .now) (start .pre .0 .fine)
+fine at = let start = entry at in accepted (start .args .table .now) (start .pre .0 .fine)
 
 -- as long as it was at the start
-kept : (at : tie.At-loop Inv-loop μ-loop) → length (at .loop .family) ≡ length (at .before .before .before .before .before .before .args .family .now)
-kept at = let start = at .before .before .before .before .before .before in at .loop .inv .2 .family .size ∙ sym (start .pre .1 .family .size)
+kept : (at : tie.At-loop Inv-loop μ-loop) → length (at .loop .family) ≡ length (entry at .args .family .now)
+kept at = let start = entry at in at .loop .inv .2 .family .size ∙ sym (start .pre .1 .family .size)
 
 -- not yet settled
 below : (at : tie.At-loop Inv-loop μ-loop) → at .loop .k < 2 ^ played at .states
@@ -57,8 +61,15 @@ passed p =
 as-long : (p : tie.After-pass Inv-loop μ-loop) → length (left p) ≡ length (turn p .loop .family)
 as-long p = passed p .size ∙ sym (turn p .loop .inv .2 .family .size)
 
-next-kept : (p : tie.After-pass Inv-loop μ-loop) → length (left p) ≡ length (turn p .before .before .before .before .before .before .args .next .now)
-next-kept p = as-long p ∙ kept (turn p) ∙ sym (turn p .before .before .before .before .before .before .pre .2)
+-- the pass before the test of the start sets, and this test before the words are compared
+abbrev pass-of : tie.After-starts-in Inv-loop μ-loop → tie.After-pass Inv-loop μ-loop
+pass-of t = t .before .before .before .before
+
+abbrev tested-of : tie.After-same Inv-loop μ-loop → tie.After-starts-in Inv-loop μ-loop
+tested-of s = s .before .before .before .before
+
+next-kept : (p : tie.After-pass Inv-loop μ-loop) → length (left p) ≡ length (entry (turn p) .args .next .now)
+next-kept p = as-long p ∙ kept (turn p) ∙ sym (entry (turn p) .pre .2)
 
 loop-holds : tie.Need-loop-holds Inv-loop μ-loop
 loop-holds c =
@@ -69,7 +80,7 @@ loop-holds c =
 pass-requires : tie.Need-pass-requires Inv-loop μ-loop
 pass-requires c κs =
     let at = c .before .before in
-    let ready = at .before .before .before .before .before .before .pre .0 in
+    let ready = entry at .pre .0 in
     (ready, good-stage (played at) (fine at) (at .loop .k) (at .loop .family) (at .loop .inv .2 .family), at .loop .inv .1)
 
 add-round : tie.Need-add-round Inv-loop μ-loop
@@ -78,47 +89,47 @@ add-round c = let at = c .before .before .before .before .before in omega (arith
 starts-in-requires : tie.Need-starts-in-requires Inv-loop μ-loop
 starts-in-requires c κs =
     let p = c .before .before .before in
-    (turn p .before .before .before .before .before .before .pre .0 .fine, passed p .size)
+    (entry (turn p) .pre .0 .fine, passed p .size)
 
 same-length : tie.Need-same-length Inv-loop μ-loop
-same-length c = kept (c .before .before .before .before .before .before .before .before)
+same-length c = kept (turn (pass-of (c .before)))
 
 same-length-2 : tie.Need-same-length-2 Inv-loop μ-loop
-same-length-2 c = next-kept (c .before .before .before .before .before)
+same-length-2 c = next-kept (pass-of (c .before))
 
 returns : tie.Need-returns Inv-loop μ-loop
 returns c =
     let tested = c .before in
-    let p = tested .before .before .before .before in
+    let p = pass-of tested in
     let at = turn p in
     turn-lost (played at) (fine at) (at .loop .k) (at .loop .family) (at .loop .inv .2) (left p) (passed p) (sym (tested .starts-in .ensures) ∙ not-true (tested .starts-in .result) (c .if1 .taken))
 
 same-requires : tie.Need-same-requires Inv-loop μ-loop
-same-requires c κs = sym (as-long (c .before .before .before .before .before .before .before))
+same-requires c κs = sym (as-long (pass-of (c .before .before .before)))
 
 same-length-3 : tie.Need-same-length-3 Inv-loop μ-loop
-same-length-3 c = kept (c .before .before .before .before .before .before .before .before .before .before .before .before)
+same-length-3 c = kept (turn (pass-of (tested-of (c .before))))
 
 same-length-4 : tie.Need-same-length-4 Inv-loop μ-loop
-same-length-4 c = next-kept (c .before .before .before .before .before .before .before .before .before)
+same-length-4 c = next-kept (pass-of (tested-of (c .before)))
 
 returns-2 : tie.Need-returns-2 Inv-loop μ-loop
 returns-2 c =
-    let p = c .before .before .before .before .before .before .before .before .before in
+    let p = pass-of (tested-of (c .before)) in
     let at = turn p in
     turn-settled (played at) (fine at) (at .loop .k) (at .loop .family) (at .loop .inv .2) (left p) (passed p) (subst (λ (b : Bool). Same b (at .loop .family) (left p)) (c .if2 .taken) (c .before .same .ensures))
 
 copy-requires : tie.Need-copy-requires Inv-loop μ-loop
-copy-requires c κs = as-long (c .before .before .before .before .before .before .before .before .before .before .before)
+copy-requires c κs = as-long (pass-of (tested-of (c .before .before .before)))
 
 loop-less : tie.Need-loop-less Inv-loop μ-loop
-loop-less c = let at = c .before .before .before .before .before .before .before .before .before .before .before .before .before .before .before .before .before in omega (arith, below at)
+loop-less c = omega (arith, below (turn (pass-of (tested-of (c .before .before .before .before .before .before)))))
 
 loop-again : tie.Need-loop-again Inv-loop μ-loop
 loop-again c =
     let compared = c .before .before .before .before .before .before in
-    let tested = compared .before .before .before .before in
-    let p = tested .before .before .before .before in
+    let tested = tested-of compared in
+    let p = pass-of tested in
     let at = turn p in
     let copied = c .before .before .copy in
     let e : copied .last .1 .0 ≡ left p = copied .ensures in (

@@ -24,6 +24,10 @@ Inv-loop table family u o j₀ j = (j ≤ o) × (all j (λ i. has family (common
 abbrev μ-loop : tie.MeasureT-loop
 μ-loop table family u o j₀ j = o - j
 
+-- where the function begins
+abbrev entry : tie.At-loop Inv-loop μ-loop → tie.Start Inv-loop μ-loop
+entry at = at .before .before .before .before
+
 observations-requires : tie.Need-observations-requires Inv-loop μ-loop
 observations-requires c κs = let start = c .before .before in sized (start .args .table .now) (start .pre .0)
 
@@ -32,13 +36,13 @@ loop-holds c = (search needs, all-zero _)
 
 shown-requires : tie.Need-shown-requires Inv-loop μ-loop
 shown-requires c κs =
-    let start = c .before .before .before .before .before in
+    let start = entry (c .before) in
     (sized (start .args .table .now) (start .pre .0), omega arith)
 
 has-requires : tie.Need-has-requires Inv-loop μ-loop
 has-requires c κs =
     let at = c .before .before in
-    let start = at .before .before .before .before in
+    let start = entry at in
     let w = start .args .table .now in
     let u = start .args .u in
     let j = at .loop .j in
@@ -48,21 +52,21 @@ returns : tie.Need-returns Inv-loop μ-loop
 returns c =
     let tested = c .before in
     let at = tested .before .before .before in
-    let start = at .before .before .before .before in
+    let start = entry at in
     shown-fails (game (start .args .table .now)) (has (start .args .family .now)) (start .args .u) (at .loop .j) (omega arith)
     (rw (tested .before .shown .ensures) at (sym (tested .has .ensures) ∙ not-true (tested .has .result) (c .if1 .taken)))
 
 returns-2 : tie.Need-returns-2 Inv-loop μ-loop
 returns-2 c =
     let tested = c .before .before in
-    let start = tested .before .before .before .before .before .before .before in
+    let start = entry (tested .before .before .before) in
     shown-whole (game (start .args .table .now)) (has (start .args .family .now)) (start .args .u) (start .pre .1 .down) (rw (c .if2 .taken) at (sym (tested .has .ensures) ∙ not-false (tested .has .result) (c .before .if1 .left)))
 
 loop-again : tie.Need-loop-again Inv-loop μ-loop
 loop-again c =
     let tested = c .before .before in
     let at = tested .before .before .before in
-    let start = at .before .before .before .before in (
+    let start = entry at in (
       search needs,
       all-more (at .loop .j) (λ i. has (start .args .family .now) (common (start .args .u) (game (start .args .table .now) .shown i)))
           ∙ and-intro (at .loop .inv .1) (rw (tested .before .shown .ensures) at (sym (tested .has .ensures) ∙ not-false (tested .has .result) (c .before .if1 .left))),
@@ -71,7 +75,7 @@ loop-again c =
 returns-3 : tie.Need-returns-3 Inv-loop μ-loop
 returns-3 c =
     let at = c .before in
-    let start = at .before .before .before .before in
+    let start = entry at in
     let g = game (start .args .table .now) in
     let e : at .loop .j ≡ g .observations = omega arith in
     shown-holds g (has (start .args .family .now)) (start .args .u) (rw e at (at .loop .inv .1))

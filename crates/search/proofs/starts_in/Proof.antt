@@ -24,18 +24,22 @@ Inv-loop table family starts j₀ j = (j ≤ starts) × (all j (λ i. has family
 abbrev μ-loop : tie.MeasureT-loop
 μ-loop table family starts j₀ j = starts - j
 
+-- where the function begins
+abbrev entry : tie.At-loop Inv-loop μ-loop → tie.Start Inv-loop μ-loop
+entry at = at .before .before .before .before
+
 start-sets-requires : tie.Need-start-sets-requires Inv-loop μ-loop
 start-sets-requires c κs = let start = c .before .before in sized (start .args .table .now) (start .pre .0)
 
 start-set-requires : tie.Need-start-set-requires Inv-loop μ-loop
 start-set-requires c κs =
-    let start = c .before .before .before .before .before in
+    let start = entry (c .before) in
     (sized (start .args .table .now) (start .pre .0), omega arith)
 
 has-requires : tie.Need-has-requires Inv-loop μ-loop
 has-requires c κs =
     let at = c .before .before in
-    let start = at .before .before .before .before in
+    let start = entry at in
     let w = start .args .table .now in
     let g = game w in
     rw (start .pre .1, c .start-set .ensures) (lane-there (g .states) (startSet g (at .loop .j)) (start-below g (accepted w (start .pre .0)) (at .loop .j)))
@@ -44,7 +48,7 @@ returns : tie.Need-returns Inv-loop μ-loop
 returns c =
     let tested = c .before in
     let at = tested .before .before .before in
-    let start = at .before .before .before .before in
+    let start = entry at in
     sym (starts-stop (game (start .args .table .now)) (has (start .args .family .now)) (at .loop .j) (omega arith)
     (rw (tested .before .start-set .ensures) at (sym (tested .has .ensures) ∙ not-true (tested .has .result) (c .if1 .taken))))
 
@@ -52,7 +56,7 @@ loop-again : tie.Need-loop-again Inv-loop μ-loop
 loop-again c =
     let tested = c .before in
     let at = tested .before .before .before in
-    let start = at .before .before .before .before in (
+    let start = entry at in (
       search needs,
       all-more (at .loop .j) (λ i. has (start .args .family .now) (startSet (game (start .args .table .now)) i))
           ∙ and-intro (at .loop .inv .1) (rw (tested .before .start-set .ensures) at (sym (tested .has .ensures) ∙ not-false (tested .has .result) (c .if1 .left))),
@@ -61,7 +65,7 @@ loop-again c =
 returns-2 : tie.Need-returns-2 Inv-loop μ-loop
 returns-2 c =
     let at = c .before in
-    let start = at .before .before .before .before in
+    let start = entry at in
     let g = game (start .args .table .now) in
     let e : at .loop .j ≡ startSets g = omega arith in
     sym (starts-passed g (has (start .args .family .now)) (rw e at (at .loop .inv .1)))

@@ -11,16 +11,20 @@ use Rattle.games.specs.Game.{Game}
 use Rattle.games.specs.Words.{game}
 use Rattle.games.specs.Verdict.{Yes, cells}
 use Rattle.tables.proofs.Checks.{sized, accepted}
-use Rattle.search.proofs.Turns.{few-states}
+use Rattle.tables.proofs.Bounds.{few-states}
 use Rattle.solver.specs.Solve.{byVerdict}
 use Rattle.solver.proofs.Index.{settled-index}
 use Rattle.solver.proofs.Collecting.{settled-closed, put-front, put-within}
 use Rattle.solver.proofs.accept.Statement.{statement}
 use Rattle.solver.proofs.accept.Tie as tie
 
--- where the cells are collected: the game, and what stands in front of the work
+-- where the function begins, from where the cells are collected
+abbrev entry : tie.After-collect → tie.Start
+entry c = c .before .before .before .before .before .before .before .before .before
+
+-- there: the game, and what stands in front of the work
 abbrev played : tie.After-collect → Game
-played c = game (c .before .before .before .before .before .before .before .before .before .args .table .now)
+played c = game (entry c .args .table .now)
 
 abbrev worked : tie.After-collect → List ℕ
 worked c = c .collect .last .1 .1 .0
@@ -28,7 +32,7 @@ worked c = c .collect .last .1 .1 .0
 front : (c : tie.After-collect) → (take (c .collect .result) (worked c) ≡ cells (played c)) × (c .collect .result ≤ length (worked c))
 front c =
     let n = c .before .before .states .ensures in
-    let start = c .before .before .before .before .before .before .before .before .before in
+    let start = entry c in
     let family = start .args .family .now in
     let work = start .args .work .now in
     let e = c .collect .ensures in (
@@ -57,7 +61,7 @@ grant-requires : tie.Need-grant-requires
 grant-requires c κs =
     let marked = c .before .before .before .before in
     let collected = marked .before .before .before .before .before in
-    let start = collected .before .before .before .before .before .before .before .before .before in
+    let start = entry collected in
     let w = start .args .table .now in
     let fine = start .pre .0 .fine in
     let is = front collected .0 in (
@@ -74,7 +78,7 @@ returns : tie.Need-returns
 returns c =
     let granted = c .before .before in
     let collected = granted .before .before .before .before .before .before .before .before .before .before in
-    let x = collected .before .before .before .before .before .before .before .before .before .args in
+    let x = entry collected .args in
     granted .grant .ensures ∙ ap (λ (m : ℕ). byVerdict (played collected) (x .card .now) (Yes (x .settled) m)) (ap length (front collected .0))
 
 pub accept-spec : {M : Type 1} → statement M

@@ -9,11 +9,15 @@ use Rattle.solver.proofs.Answers.{decided-no, decided-yes}
 use Rattle.solver.proofs.answer_with.Statement.{statement}
 use Rattle.solver.proofs.answer_with.Tie as tie
 
+-- where the function begins, from the search
+abbrev entry : tie.After-search → tie.Start
+entry s = s .before .before .before .before .before .before .before .before .before .before
+
 accept-requires : tie.Need-accept-requires
 accept-requires c κs =
     let told = c .before .before .before .before .found2 .given in
     let searched = c .before .before .before .before .before .before .before .before .before .before in
-    let start = searched .before .before .before .before .before .before .before .before .before .before in
+    let start = entry searched in
     let s = searched .search in
     (start .pre .0, subst (λ (r : Ended). Searched (game (start .args .table .now)) r (s .last .1 .1 .1 .0)) (told .1) (s .ensures) .family, start .pre .3)
 
@@ -21,7 +25,7 @@ returns : tie.Need-returns
 returns c =
     let told = c .before .found .given in
     let searched = c .before .before .before .before .before .before .before in
-    let x = searched .before .before .before .before .before .before .before .before .before .before .args in
+    let x = entry searched .args in
     let g = game (x .table .now) in
     let s = searched .search in
     decided-no g (x .card .now) (told .0 .0) (subst (λ (r : Ended). Searched g r (s .last .1 .1 .1 .0)) (told .1) (s .ensures) .0)
@@ -31,7 +35,7 @@ returns-2 c =
     let accepted = c .before .before .before .before in
     let told = accepted .before .before .before .before .before .found2 .given in
     let searched = accepted .before .before .before .before .before .before .before .before .before .before .before in
-    let x = searched .before .before .before .before .before .before .before .before .before .before .args in
+    let x = entry searched .args in
     let g = game (x .table .now) in
     let s = searched .search in
     let w = subst (λ (r : Ended). Searched g r (s .last .1 .1 .1 .0)) (told .1) (s .ensures) in

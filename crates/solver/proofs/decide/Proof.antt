@@ -11,14 +11,19 @@ use Rattle.families.specs.Bits.{lanes, maxLanes}
 use Rattle.games.specs.Format.{maxStates}
 use Rattle.games.specs.Words.{game}
 use Rattle.tables.proofs.Checks.{sized}
-use Rattle.search.proofs.Turns.{few-states, table-lanes}
+use Rattle.tables.proofs.Bounds.{few-states}
+use Rattle.search.proofs.Turns.{table-lanes}
 use Rattle.solver.proofs.decide.Statement.{statement}
 use Rattle.solver.proofs.decide.Tie as tie
 
--- where the lanes are counted: as many as the table's sets take, and there is room for them
-lanes-are : (c : tie.After-lane-count) → (c .lane-count .result ≡ lanes (game (c .before .before .before .before .before .args .table .now) .states)) × (c .lane-count .result ≤ maxLanes)
+-- where the function begins, from where the lanes are counted
+abbrev entry : tie.After-lane-count → tie.Start
+entry c = c .before .before .before .before .before
+
+-- as many as the table's sets take, and there is room for them
+lanes-are : (c : tie.After-lane-count) → (c .lane-count .result ≡ lanes (game (entry c .args .table .now) .states)) × (c .lane-count .result ≤ maxLanes)
 lanes-are c =
-    let start = c .before .before .before .before .before in
+    let start = entry c in
     let w = start .args .table .now in
     let e : c .lane-count .result ≡ lanes (game w .states) = c .lane-count .ensures ∙ ap lanes (c .before .states .ensures) in
     (e, subst (λ (m : ℕ). m ≤ maxLanes) (sym e) (table-lanes w (sized w (start .pre .0))))
@@ -38,37 +43,40 @@ lane-count-requires c κs =
     let w = start .args .table .now in
     subst (λ (m : ℕ). m ≤ maxStates) (sym (c .states .ensures)) (few-states w (sized w (start .pre .0)))
 
--- the rooms for the two families, from where they are made
+-- the rooms for the two families: where the lanes were counted
+abbrev counted : tie.After-room → tie.After-lane-count
+counted r = r .before .before .before .before .before .before .before .before
+
 array-borrow-prefix-family : tie.Need-array-borrow-prefix-family
 array-borrow-prefix-family c =
     let r = c .before .before .before in
-    within (r .before .before .before .before .before .before .before .before) (r .room .result) (r .room .ensures)
+    within (counted r) (r .room .result) (r .room .ensures)
 
 slice-aggregate-answer-with-3 : tie.Need-slice-aggregate-answer-with-3
 slice-aggregate-answer-with-3 c =
     let r = c .before .before .before .before in
-    sym (front (r .before .before .before .before .before .before .before .before) (r .room .result) (r .room .ensures))
+    sym (front (counted r) (r .room .result) (r .room .ensures))
 
 array-borrow-prefix-next : tie.Need-array-borrow-prefix-next
 array-borrow-prefix-next c =
     let r = c .before .before .before in
-    within (r .before .before .before .before .before .before .before .before .before) (r .room2 .result) (r .room2 .ensures)
+    within (counted (r .before)) (r .room2 .result) (r .room2 .ensures)
 
 slice-aggregate-answer-with-4 : tie.Need-slice-aggregate-answer-with-4
 slice-aggregate-answer-with-4 c =
     let r = c .before .before .before .before in
-    sym (front (r .before .before .before .before .before .before .before .before .before) (r .room2 .result) (r .room2 .ensures))
+    sym (front (counted (r .before)) (r .room2 .result) (r .room2 .ensures))
 
 answer-with-requires : tie.Need-answer-with-requires
 answer-with-requires c κs =
     let r = c .before .before .before .before .before .before in
     let filled = r .before .before .before .before in
-    let counted = filled .before .before .before .before .before in
-    let start = counted .before .before .before .before .before in
-    let first = front counted (r .before .room .result) (r .before .room .ensures) in (
+    let count = counted (r .before) in
+    let start = entry count in
+    let first = front count (r .before .room .result) (r .before .room .ensures) in (
       record { fine = start .pre .0; tabled = filled .fill .ensures },
-      first ∙ lanes-are counted .0,
-      front counted (r .room2 .result) (r .room2 .ensures) ∙ sym first,
+      first ∙ lanes-are count .0,
+      front count (r .room2 .result) (r .room2 .ensures) ∙ sym first,
       start .pre .1,
     )
 

@@ -19,6 +19,10 @@ Inv-loop family starts cells t i₀ i = Unheld cells t i
 abbrev μ-loop : tie.MeasureT-loop
 μ-loop family starts cells t i₀ i = length cells - i
 
+-- where the function begins
+abbrev entry : tie.At-loop Inv-loop μ-loop → tie.Start Inv-loop μ-loop
+entry at = at .before .before .before .before .before .before .before .before
+
 has-requires : tie.Need-has-requires Inv-loop μ-loop
 has-requires c κs = c .before .before .before .pre .1
 
@@ -52,25 +56,25 @@ loop-holds c =
 cast-t19 : tie.Need-cast-t19 Inv-loop μ-loop
 cast-t19 c =
     let at = c .before .before .before in
-    omega (arith, c .before .before .loop-test .taken, at .before .before .before .before .before .before .before .before .pre .0 .few)
+    omega (arith, c .before .before .loop-test .taken, entry at .pre .0 .few)
 
 returns-3 : tie.Need-returns-3 Inv-loop μ-loop
 returns-3 c =
     let at = c .before .before .before in
-    let x = at .before .before .before .before .before .before .before .before .args in
+    let x = entry at .args in
     let w = unheld-stop (x .cells .now) (x .t) (at .loop .i) (at .loop .inv) (at .before .before .if2 .left) (c .before .before .loop-test .taken) (eq-eqb _ _ (c .if3 .taken)) in
     held-cell (x .cells .now) (x .t) (at .loop .i) (w .0) (w .1)
 
 loop-again : tie.Need-loop-again Inv-loop μ-loop
 loop-again c =
     let at = c .before .before .before in
-    let x = at .before .before .before .before .before .before .before .before .args in
+    let x = entry at .args in
     unheld-more (x .cells .now) (x .t) (at .loop .i) (at .loop .inv) (c .before .before .loop-test .taken) (ne-eqb _ _ (c .if3 .left))
 
 returns-4 : tie.Need-returns-4 Inv-loop μ-loop
 returns-4 c =
     let at = c .before in
-    let x = at .before .before .before .before .before .before .before .before .args in
+    let x = entry at .args in
     held-nowhere (x .cells .now) (x .t) (unheld-end (x .cells .now) (x .t) (at .loop .i) (at .loop .inv) (c .loop-test .left))
 
 pub holding-spec : {M : Type 1} → statement M

@@ -17,13 +17,15 @@ use Rattle.sets.proofs.Logic.{and-intro}
 use Rattle.families.proofs.Lanes.{lane-there}
 use Rattle.games.specs.Format.{lowValues, maxActions, maxObservations, kindCell}
 use Rattle.games.specs.Game.{Game, Accepted}
-use Rattle.games.specs.Words.{game, word}
+use Rattle.games.specs.Fields.{word}
+use Rattle.games.specs.Words.{game}
 use Rattle.games.specs.Verdict.{settled}
 use Rattle.games.specs.Automaton.{holding}
 use Rattle.games.proofs.Holding.{holding-small}
 use Rattle.tables.proofs.Checks.{sized, accepted}
-use Rattle.search.proofs.Turns.{shown-below, sets-few}
-use Rattle.solver.proofs.Words.{Filled, filled-none, filled-more, filled-end, observations-few, actions-few}
+use Rattle.tables.proofs.Bounds.{few-observations, few-actions, few-sets}
+use Rattle.search.proofs.Turns.{shown-below}
+use Rattle.solver.proofs.Words.{Filled, filled-none, filled-more, filled-end}
 use Rattle.solver.proofs.Index.{nowhere-unheld, by-holding}
 use Rattle.solver.proofs.Choosing.{Trying, trying-next, trying-with, chosen-is, never-none, blocked-fails, uncovered-fails, covered-meets, after-is, settled-held, nextWord, next-word, set-words}
 use Rattle.solver.proofs.write_cell.Statement.{statement}
@@ -67,14 +69,17 @@ look p = p .before .before
 
 -- ---- what is known there
 
+abbrev entry : Turn → tie.Start Inv-loop2 μ-loop2 Inv-loop μ-loop Inv-actions μ-actions
+entry t = t .before .before .before .before .before .before .before .before .before .before
+
 abbrev played : Turn → Game
-played t = game (t .before .before .before .before .before .before .before .before .before .before .args .table .now)
+played t = game (entry t .args .table .now)
 
 abbrev listed : Turn → List ℕ
-listed t = t .before .before .before .before .before .before .before .before .before .before .args .cells .now
+listed t = entry t .args .cells .now
 
 abbrev acting : Turn → ℕ
-acting t = t .before .before .before .before .before .before .before .before .before .before .args .s
+acting t = entry t .args .s
 
 abbrev observed : Turn → ℕ
 observed t = t .before .before .observations .result
@@ -83,7 +88,7 @@ abbrev last : Turn → ℕ
 last t = t .before .actions2 .result
 
 fine : (t : Turn) → Accepted (played t)
-fine t = let start = t .before .before .before .before .before .before .before .before .before .before in accepted (start .args .table .now) (start .pre .0 .fine)
+fine t = let start = entry t in accepted (start .args .table .now) (start .pre .0 .fine)
 
 -- the successors of the set
 abbrev after-it : Look → ℕ
@@ -110,7 +115,7 @@ held : (p : Part) → settled (played (turn (look p))) (shows p) ≡ holds (list
 held p =
     let t = turn (look p) in
     ap (λ (x : ℕ). settled (played t) (common (after-it (look p)) x)) (sym (p .shown .ensures))
-    ∙ settled-held (played t) (fine t) (listed t) (t .before .before .before .before .before .before .before .before .before .before .pre .0 .are) (part p) (below p)
+    ∙ settled-held (played t) (fine t) (listed t) (entry t .pre .0 .are) (part p) (below p)
 
 -- the cell named
 abbrev asked : tie.After-known-told2 Inv-loop2 μ-loop2 Inv-loop μ-loop Inv-actions μ-actions → Part
@@ -138,9 +143,9 @@ actions-holds c =
     let o = c .before .observations .ensures in
     record {
       observations-are = o;
-      observations-few = subst (λ (n : ℕ). n ≤ maxObservations) (sym o) (observations-few w (start .pre .0 .fine));
+      observations-few = subst (λ (n : ℕ). n ≤ maxObservations) (sym o) (few-observations w (sized w (start .pre .0 .fine)));
       actions-are = c .actions2 .ensures;
-      actions-few = subst (λ (n : ℕ). n ≤ maxActions) (sym (c .actions2 .ensures)) (actions-few w (start .pre .0 .fine));
+      actions-few = subst (λ (n : ℕ). n ≤ maxActions) (sym (c .actions2 .ensures)) (few-actions w (sized w (start .pre .0 .fine)));
       within = omega arith;
       size = start .pre .3 ∙ ap (λ (n : ℕ). 1 + n) (sym o);
       none = first-zero _;
@@ -149,7 +154,7 @@ actions-holds c =
 post-requires : tie.Need-post-requires Inv-loop2 μ-loop2 Inv-loop μ-loop Inv-actions μ-actions
 post-requires c κs =
     let t = c .before in
-    let pre = t .before .before .before .before .before .before .before .before .before .before .pre in
+    let pre = entry t .pre in
     (record { fine = pre .0 .fine; tabled = pre .1 }, pre .2 .below, omega (arith, t .actions .inv .actions-are))
 
 actions-again : tie.Need-actions-again Inv-loop2 μ-loop2 Inv-loop μ-loop Inv-actions μ-actions
@@ -167,14 +172,14 @@ loop-holds c =
 shown-requires : tie.Need-shown-requires Inv-loop2 μ-loop2 Inv-loop μ-loop Inv-actions μ-actions
 shown-requires c κs =
     let t = turn (c .before) in
-    let start = t .before .before .before .before .before .before .before .before .before .before in
+    let start = entry t in
     (sized (start .args .table .now) (start .pre .0 .fine), omega (arith, t .actions .inv .observations-are))
 
 holding-requires : tie.Need-holding-requires Inv-loop2 μ-loop2 Inv-loop μ-loop Inv-actions μ-actions
 holding-requires c κs =
     let p = c .before in
     let t = turn (look p) in
-    let l = t .before .before .before .before .before .before .before .before .before .before .pre .0 in
+    let l = entry t .pre .0 in
     (l .index, rw (l .wide) (lane-there (played t .states) (part p) (below p)))
 
 add-a-2 : tie.Need-add-a-2 Inv-loop2 μ-loop2 Inv-loop μ-loop Inv-actions μ-actions
@@ -205,7 +210,7 @@ naming-requires : tie.Need-naming-requires Inv-loop2 μ-loop2 Inv-loop μ-loop I
 naming-requires c κs =
     let p = asked c in
     let t = turn (look p) in
-    let few = t .before .before .before .before .before .before .before .before .before .before .pre .0 .index .few in
+    let few = entry t .pre .0 .index .few in
     (search needs, subst (λ (x : ℕ). x < lowValues) (sym (named c .1)) (holding-small _ _ few), omega (arith, there p, t .actions .inv .observations-are, t .actions .inv .observations-few))
 
 slice-write-out : tie.Need-slice-write-out Inv-loop2 μ-loop2 Inv-loop μ-loop Inv-actions μ-actions
@@ -233,9 +238,9 @@ picking-requires : tie.Need-picking-requires Inv-loop2 μ-loop2 Inv-loop μ-loop
 picking-requires c κs =
     let l = c .before in
     let t = turn l in
-    let start = t .before .before .before .before .before .before .before .before .before .before in
+    let start = entry t in
     let w = start .args .table .now in
-    (omega (arith, start .pre .2 .below, sets-few w (sized w (start .pre .0 .fine))), omega (arith, l .loop .inv .0, l .before .before .before .before .before .actions-test .taken, t .actions .inv .actions-few))
+    (omega (arith, start .pre .2 .below, few-sets w (sized w (start .pre .0 .fine))), omega (arith, l .loop .inv .0, l .before .before .before .before .before .actions-test .taken, t .actions .inv .actions-few))
 
 slice-write-out-2 : tie.Need-slice-write-out-2 Inv-loop2 μ-loop2 Inv-loop μ-loop Inv-actions μ-actions
 slice-write-out-2 c = omega (arith, c .before .before .loop .inv .3 .size)
@@ -244,7 +249,7 @@ same-length : tie.Need-same-length Inv-loop2 μ-loop2 Inv-loop μ-loop Inv-actio
 same-length c =
     let l = c .before .before in
     let t = turn l in
-    length-set (l .loop .out) 0 (c .picking .result) ∙ l .loop .inv .3 .size ∙ ap (λ (n : ℕ). 1 + n) (t .actions .inv .observations-are) ∙ sym (t .before .before .before .before .before .before .before .before .before .before .pre .3)
+    length-set (l .loop .out) 0 (c .picking .result) ∙ l .loop .inv .3 .size ∙ ap (λ (n : ℕ). 1 + n) (t .actions .inv .observations-are) ∙ sym (entry t .pre .3)
 
 returns : tie.Need-returns Inv-loop2 μ-loop2 Inv-loop μ-loop Inv-actions μ-actions
 returns c =
@@ -259,19 +264,19 @@ returns c =
     let e : l .loop .j ≡ played t .observations = le-antisymm (l .loop .inv .1) left ∙ is in
     let m = covered-meets (played t) (acting t) a (answer .result) (answer .ensures) u posted (rw e at (l .loop .inv .2)) in
     filled-end (observed t) (nextWord (played t) (listed t) u) (l .loop .j) (l .loop .out) (c .picking .result) left (l .loop .inv .1) (l .loop .inv .4)
-    ∙ set-words (played t) (listed t) (t .before .before .before .before .before .before .before .before .before .before .pre .0 .are) (acting t) a u (observed t) (c .picking .result) is
+    ∙ set-words (played t) (listed t) (entry t .pre .0 .are) (acting t) a u (observed t) (c .picking .result) is
     (chosen-is (played t) (acting t) (observed t) (last t) a (l .loop .out) (l .loop .inv .3) (l .before .before .before .before .before .actions-test .taken) m)
     (after-is (played t) (acting t) a (answer .result) (answer .ensures) u posted) (c .picking .ensures ∙ ap (word kindCell (acting t) 0) (l .loop .inv .0))
 
 same-length-2 : tie.Need-same-length-2 Inv-loop2 μ-loop2 Inv-loop μ-loop Inv-actions μ-actions
 same-length-2 c =
     let t = c .before in
-    t .actions .inv .size ∙ ap (λ (n : ℕ). 1 + n) (t .actions .inv .observations-are) ∙ sym (t .before .before .before .before .before .before .before .before .before .before .pre .3)
+    t .actions .inv .size ∙ ap (λ (n : ℕ). 1 + n) (t .actions .inv .observations-are) ∙ sym (entry t .pre .3)
 
 returns-2 : tie.Need-returns-2 Inv-loop2 μ-loop2 Inv-loop μ-loop Inv-actions μ-actions
 returns-2 c =
     let t = c .before in
-    absurd (never-none (played t) (acting t) (observed t) (last t) (t .actions .a) (t .actions .out) (t .actions .inv) (fine t) (t .before .before .before .before .before .before .before .before .before .before .pre .2) (c .actions-test .left))
+    absurd (never-none (played t) (acting t) (observed t) (last t) (t .actions .a) (t .actions .out) (t .actions .inv) (fine t) (entry t .pre .2) (c .actions-test .left))
 
 pub write-cell-spec : {M : Type 1} → statement M
 write-cell-spec =

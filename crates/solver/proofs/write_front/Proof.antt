@@ -11,13 +11,15 @@ use Rattle.games.specs.Format.{lowValues, maxObservations, kindCard, kindFirst}
 use Rattle.games.specs.Game.{Game}
 use Rattle.games.specs.Verdict.{startSet}
 use Rattle.games.specs.Automaton.{holding}
-use Rattle.games.specs.Words.{game, word}
+use Rattle.games.specs.Fields.{word}
+use Rattle.games.specs.Words.{game}
 use Rattle.games.proofs.Holding.{holding-small}
-use Rattle.games.proofs.Lasting.{start-below}
+use Rattle.games.proofs.Starts.{start-below}
+use Rattle.tables.proofs.Bounds.{few-observations, few-actions}
 use Rattle.tables.proofs.Checks.{sized, accepted}
 use Rattle.solver.specs.Writing.{named}
 use Rattle.solver.proofs.Index.{named-holding}
-use Rattle.solver.proofs.Words.{Filled, filled-none, filled-more, filled-end, observations-few, actions-few, sets-are, firstWord, front-is}
+use Rattle.solver.proofs.Words.{Filled, filled-none, filled-more, filled-end, sets-front, firstWord, front-is}
 use Rattle.solver.proofs.write_front.Statement.{statement}
 use Rattle.solver.proofs.write_front.Tie as tie
 
@@ -27,15 +29,19 @@ Inv-loop table family starts cells out₀ sets j₀ out j = (sets ≤ maxObserva
 abbrev μ-loop : tie.MeasureT-loop
 μ-loop table family starts cells out₀ sets j₀ out j = sets - j
 
+-- where the function begins
+abbrev entry : tie.At-loop Inv-loop μ-loop → tie.Start Inv-loop μ-loop
+entry at = at .before .before .before .before .before .before .before
+
 -- the turn for a start set, and the cell named for it
 abbrev turn : tie.After-named Inv-loop μ-loop → tie.At-loop Inv-loop μ-loop
 turn c = c .before .before .before .before
 
 abbrev played : tie.At-loop Inv-loop μ-loop → Game
-played t = game (t .before .before .before .before .before .before .before .args .table .now)
+played t = game (entry t .args .table .now)
 
 abbrev listed : tie.At-loop Inv-loop μ-loop → List ℕ
-listed t = t .before .before .before .before .before .before .before .args .cells .now
+listed t = entry t .args .cells .now
 
 first-cell : (c : tie.After-named Inv-loop μ-loop) → c .named .result .0 ≡ holding (listed (turn c)) (startSet (played (turn c)) (turn c .loop .j))
 first-cell c =
@@ -50,28 +56,28 @@ loop-holds : tie.Need-loop-holds Inv-loop μ-loop
 loop-holds c =
     let start = c .before .before .before .before .before .before in
     let w = start .args .table .now in
-    let e = c .start-sets .ensures ∙ sets-are (game w) in (
-      subst (λ (n : ℕ). n ≤ maxObservations) (sym e) (observations-few w (start .pre .0 .fine)),
+    let e = ap (λ (n : ℕ). 1 + n) (c .start-sets .ensures) ∙ sets-front (game w) in (
+      omega (arith, e, few-observations w (sized w (start .pre .0 .fine))),
       search needs,
-      filled-none (c .start-sets .result) (firstWord (game w) (start .args .cells .now)) (start .args .out .now) (start .pre .1 ∙ ap (λ (n : ℕ). 1 + n) (sym e)),
+      filled-none (c .start-sets .result) (firstWord (game w) (start .args .cells .now)) (start .args .out .now) (start .pre .1 ∙ sym e),
     )
 
 start-set-requires : tie.Need-start-set-requires Inv-loop μ-loop
 start-set-requires c κs =
-    let start = c .before .before .before .before .before .before .before .before in
+    let start = entry (c .before) in
     (sized (start .args .table .now) (start .pre .0 .fine), omega arith)
 
 holding-requires : tie.Need-holding-requires Inv-loop μ-loop
 holding-requires c κs =
     let at = c .before .before in
-    let start = at .before .before .before .before .before .before .before in
+    let start = entry at in
     let w = start .args .table .now in
     let l = start .pre .0 in
     (l .index, rw (l .wide, c .start-set .ensures) (lane-there (game w .states) (startSet (game w) (at .loop .j)) (start-below (game w) (accepted w (l .fine)) (at .loop .j))))
 
 naming-requires : tie.Need-naming-requires Inv-loop μ-loop
 naming-requires c κs =
-    let few = turn c .before .before .before .before .before .before .before .pre .0 .index .few in
+    let few = entry (turn c) .pre .0 .index .few in
     (search needs, subst (λ (x : ℕ). x < lowValues) (sym (first-cell c)) (holding-small _ _ few), omega arith)
 
 slice-write-out : tie.Need-slice-write-out Inv-loop μ-loop
@@ -87,23 +93,23 @@ loop-again c =
     )
 
 cast-word : tie.Need-cast-word Inv-loop μ-loop
-cast-word c = omega (arith, c .before .before .before .before .before .before .before .before .pre .0 .index .few)
+cast-word c = omega (arith, entry (c .before) .pre .0 .index .few)
 
 observations-requires : tie.Need-observations-requires Inv-loop μ-loop
-observations-requires c κs = let start = c .before .before .before .before .before .before .before .before in sized (start .args .table .now) (start .pre .0 .fine)
+observations-requires c κs = let start = entry (c .before) in sized (start .args .table .now) (start .pre .0 .fine)
 
 actions-requires : tie.Need-actions-requires Inv-loop μ-loop
-actions-requires c κs = let start = c .before .before .before .before .before .before .before .before .before in sized (start .args .table .now) (start .pre .0 .fine)
+actions-requires c κs = let start = entry (c .before .before) in sized (start .args .table .now) (start .pre .0 .fine)
 
 word-requires : tie.Need-word-requires Inv-loop μ-loop
 word-requires c κs =
-    let start = c .before .before .before .before .before .before .before .before .before .before in
+    let start = entry (c .before .before .before) in
     let w = start .args .table .now in
     let l = start .pre .0 in (
       search needs,
       omega (arith, l .index .few),
-      omega (arith, c .before .observations .ensures, observations-few w (l .fine)),
-      omega (arith, c .actions .ensures, actions-few w (l .fine)),
+      omega (arith, c .before .observations .ensures, few-observations w (sized w (l .fine))),
+      omega (arith, c .actions .ensures, few-actions w (sized w (l .fine))),
     )
 
 slice-write-out-2 : tie.Need-slice-write-out-2 Inv-loop μ-loop
@@ -112,13 +118,13 @@ slice-write-out-2 c = omega (arith, c .before .before .before .before .loop .inv
 same-length : tie.Need-same-length Inv-loop μ-loop
 same-length c =
     let at = c .before .before .before .before in
-    let start = at .before .before .before .before .before .before .before in
-    length-set (at .loop .out) 0 (c .word .result) ∙ at .loop .inv .2 .size ∙ ap (λ (n : ℕ). 1 + n) (at .before .start-sets .ensures ∙ sets-are (game (start .args .table .now))) ∙ sym (start .pre .1)
+    let start = entry at in
+    length-set (at .loop .out) 0 (c .word .result) ∙ at .loop .inv .2 .size ∙ ap (λ (n : ℕ). 1 + n) (at .before .start-sets .ensures) ∙ sets-front (game (start .args .table .now)) ∙ sym (start .pre .1)
 
 returns : tie.Need-returns Inv-loop μ-loop
 returns c =
     let at = c .before .before .before .before in
-    let start = at .before .before .before .before .before .before .before in
+    let start = entry at in
     let g = game (start .args .table .now) in
     let l = start .args .cells .now in
     let n = at .before .start-sets .result in
