@@ -108,6 +108,7 @@ module _ (w : List ℕ) (fine : checked w ≡ Fine) where
       let same = written-observations (card g) a o card-fits in
       let F : Fitting (automaton words) a o = subst₂ (Fitting (automaton words)) (written-actions (card g) a o card-fits) same (fitting words ok) in
       record {
+        right = ok;
         second = wins;
         runs = λ p played under.
             ran-way words ok (subst (λ (n : ℕ). Way (automaton words) n (seen p)) (sym same) (play-way g (automaton words) wins F p played under));
