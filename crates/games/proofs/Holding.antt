@@ -58,7 +58,7 @@ module _ (l : List ℕ) (s : ℕ) where
   holds-at : (c : ℕ) → c < length l → holdsAt l s c ≡ true → holds l s ≡ true
   holds-at c b e = holds-intro l s (getD l c 0) (at-mem l c b) e
 
-  pub unheld-at : holds l s ≡ false → (c : ℕ) → c < length l → holdsAt l s c ≡ false
+  unheld-at : holds l s ≡ false → (c : ℕ) → c < length l → holdsAt l s c ≡ false
   unheld-at h c b = refuted (holdsAt l s c) (λ e. clash (holds-at c b e) h)
 
   pub holding-unheld : holds l s ≡ false → holding l s ≡ noCell

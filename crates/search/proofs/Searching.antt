@@ -33,7 +33,7 @@ not-over a b h = ⊎-elim (λ e. leb-true a b e) (λ e. absurd (h (leb-false a b
 
 module _ (g : Game) (A : Accepted g) where
   -- the first round in which a start set is lost is the verdict's
-  pub lost-verdict : (k : ℕ) → startsIn g (good g k) ≡ false → ((j : ℕ) → j < k → startsIn g (good g j) ≡ true) → (verdict g ≡ No k) × (k < 2 ^ g .states)
+  lost-verdict : (k : ℕ) → startsIn g (good g k) ≡ false → ((j : ℕ) → j < k → startsIn g (good g j) ≡ true) → (verdict g ≡ No k) × (k < 2 ^ g .states)
   lost-verdict k lost before =
       let out : startsIn g (settled g) ≡ false =
       refuted (startsIn g (settled g))
@@ -46,7 +46,7 @@ module _ (g : Game) (A : Accepted g) where
       (verdict-no g out ∙ ap No e, subst (λ (n : ℕ). n < 2 ^ g .states) e (d .below))
 
   -- the first place where the families are the same is the settling count
-  pub settling-is : (k : ℕ) → fixed g k ≡ true → ((j : ℕ) → j < k → fixed g j ≡ false) → settling g ≡ k
+  settling-is : (k : ℕ) → fixed g k ≡ true → ((j : ℕ) → j < k → fixed g j ≡ false) → settling g ≡ k
   settling-is k here before =
       let s = settles g A in
       le-antisymm

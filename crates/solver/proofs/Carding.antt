@@ -10,12 +10,9 @@ use lib.ListN.{length, getD, take, drop, length-append, length-drop, take-append
 use lib.Seq.{take-at, drop-drop, drop-append-add, length-take-le}
 use borrow.Rule.Slice.PartMut.{putMid, postOf, drop-put, same-len-mid, mid-len}
 use Rattle.sets.specs.Bounded.{gather}
-use Rattle.games.specs.Format.{kindFirst, kindNext}
 use Rattle.games.specs.Game.{Game, Accepted}
-use Rattle.games.specs.Step.{after}
-use Rattle.games.specs.Verdict.{startSets, startSet, cells}
-use Rattle.games.specs.Automaton.{card, chosen, holding}
-use Rattle.games.specs.Fields.{word}
+use Rattle.games.specs.Verdict.{startSets, cells}
+use Rattle.games.specs.Automaton.{card}
 use Rattle.games.specs.Words.{frontLength, partLength, cardLength, cellWords, cardWords}
 use Rattle.games.proofs.Winning.{cell-settled}
 use Rattle.cards.specs.Card.{cellPlace}
@@ -24,17 +21,17 @@ use Rattle.solver.specs.Writing.{SettledSet, frontWords, setWords}
 use Rattle.solver.specs.Solve.{cardOf}
 use Rattle.solver.proofs.Words.{sets-front}
 
-pub set-words-length : (g : Game) (s : ℕ) → length (setWords g s) ≡ partLength (g .observations)
+-- a word, and n words behind it
+words-length : (n : ℕ) (f : ℕ → ℕ) → suc (length (gather n (λ j. f j ∷ []))) ≡ 1 + n
+words-length n f = omega (arith, gather-length n 1 (λ j. f j ∷ []) (λ i l. refl))
+
+set-words-length : (g : Game) (s : ℕ) → length (setWords g s) ≡ partLength (g .observations)
 unfolding setWords
-set-words-length g s =
-    let e = gather-length (g .observations) 1 (λ j. word kindNext (holding (cells g) (after g s (chosen g s) j)) j 0 ∷ []) (λ i l. refl) in
-    omega (arith, e)
+set-words-length g s = words-length (g .observations) _
 
 front-words-length : (g : Game) → length (frontWords g) ≡ frontLength (g .observations)
 unfolding frontWords
-front-words-length g =
-    let e = gather-length (startSets g) 1 (λ j. word kindFirst (holding (cells g) (startSet g j)) j 0 ∷ []) (λ i l. refl) in
-    omega (arith, e, sets-front g)
+front-words-length g = words-length (startSets g) _ ∙ sets-front g
 
 -- the card is its front and the words of each cell
 card-is : (g : Game) (l : List ℕ) → l ≡ cells g → frontWords g ++ gather (length l) (λ i. setWords g (getD l i 0)) ≡ cardOf g

@@ -29,7 +29,7 @@ use Rattle.solver.specs.Writing.{SettledSet, setWords}
 use Rattle.search.proofs.Turns.{meets-blocked, meets-shown}
 
 -- no action below a meets the step
-pub record Trying (g : Game) (s o last a : ℕ) (out : List ℕ) : Type 0 where
+pub record NoneMeets (g : Game) (s o last a : ℕ) (out : List ℕ) : Type 0 where
   pub observations-are : o ≡ g .observations
   pub observations-few : o ≤ maxObservations
   pub actions-are : last ≡ g .actions
@@ -42,9 +42,9 @@ pub record Trying (g : Game) (s o last a : ℕ) (out : List ℕ) : Type 0 where
 abbrev pub nextWord : Game → List ℕ → ℕ → ℕ → ℕ
 nextWord g l u j = word kindNext (holding l (common u (g .shown j))) j 0
 
-module _ (g : Game) (s o last a : ℕ) (out : List ℕ) (w : Trying g s o last a out) where
-  pub trying-next : meets g (settled g) s a ≡ false → a < last → Trying g s o last (a + 1) out
-  trying-next h b =
+module _ (g : Game) (s o last a : ℕ) (out : List ℕ) (w : NoneMeets g s o last a out) where
+  pub none-next : meets g (settled g) s a ≡ false → a < last → NoneMeets g s o last (a + 1) out
+  none-next h b =
       record {
         observations-are = w .observations-are;
         observations-few = w .observations-few;
@@ -56,8 +56,8 @@ module _ (g : Game) (s o last a : ℕ) (out : List ℕ) (w : Trying g s o last a
       }
 
   -- another content of the part
-  pub trying-with : (e : List ℕ) → length e ≡ 1 + o → Trying g s o last a e
-  trying-with e h =
+  pub none-with : (e : List ℕ) → length e ≡ 1 + o → NoneMeets g s o last a e
+  none-with e h =
       record {
         observations-are = w .observations-are;
         observations-few = w .observations-few;

@@ -2,17 +2,17 @@
 -- Assumes nothing.
 use borrow.Author.Needs.{needs}
 use mathlib.Core.List.{List}
-use mathlib.Core.Path.{_≡_, sym, ap, _∙_}
+use mathlib.Core.Path.{_≡_, sym}
 use Prim.Native.Nat.{ℕ, _≤_}
 use native.Mathlib.Omega.{arith}
 use lib.ListN.{length, take}
 use lib.Seq.{length-take-le}
 use Rattle.games.specs.Game.{Game}
 use Rattle.games.specs.Words.{game}
-use Rattle.games.specs.Verdict.{Yes, cells}
+use Rattle.games.specs.Verdict.{cells}
 use Rattle.tables.proofs.Checks.{sized, accepted}
 use Rattle.tables.proofs.Bounds.{few-states}
-use Rattle.solver.specs.Solve.{byVerdict}
+use Rattle.solver.proofs.Answers.{granted-cells}
 use Rattle.solver.proofs.Index.{settled-index}
 use Rattle.solver.proofs.Collecting.{settled-closed, put-front, put-within}
 use Rattle.solver.proofs.accept.Statement.{statement}
@@ -79,7 +79,7 @@ returns c =
     let granted = c .before .before in
     let collected = granted .before .before .before .before .before .before .before .before .before .before in
     let x = entry collected .args in
-    granted .grant .ensures ∙ ap (λ (m : ℕ). byVerdict (played collected) (x .card .now) (Yes (x .settled) m)) (ap length (front collected .0))
+    granted-cells (played collected) (x .card .now) (x .settled) _ _ (front collected .0) (granted .grant .ensures)
 
 pub accept-spec : {M : Type 1} → statement M
 accept-spec =

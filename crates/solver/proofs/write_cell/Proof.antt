@@ -27,7 +27,7 @@ use Rattle.tables.proofs.Bounds.{few-observations, few-actions, few-sets}
 use Rattle.search.proofs.Turns.{shown-below}
 use Rattle.solver.proofs.Words.{Filled, filled-none, filled-more, filled-end}
 use Rattle.solver.proofs.Index.{nowhere-unheld, by-holding}
-use Rattle.solver.proofs.Choosing.{Trying, trying-next, trying-with, chosen-is, never-none, blocked-fails, uncovered-fails, covered-meets, after-is, settled-held, nextWord, next-word, set-words}
+use Rattle.solver.proofs.Choosing.{NoneMeets, none-next, none-with, chosen-is, never-none, blocked-fails, uncovered-fails, covered-meets, after-is, settled-held, nextWord, next-word, set-words}
 use Rattle.solver.proofs.write_cell.Statement.{statement}
 use Rattle.solver.proofs.write_cell.Tie as tie
 
@@ -39,13 +39,13 @@ abbrev μ-loop2 : tie.MeasureT-loop2
 μ-loop2 table low high family starts cells s out o a₀ u j t a-end a = 0
 
 abbrev Inv-loop : tie.InvT-loop
-Inv-loop table low high family starts cells s out₀ o a₀ u j₀ a-end out a j = (a ≡ a₀) × (j ≤ o) × (all j (λ i. settled (game table) (common u (game table .shown i))) ≡ true) × Trying (game table) s o a-end a₀ out × Filled o (nextWord (game table) cells u) j out
+Inv-loop table low high family starts cells s out₀ o a₀ u j₀ a-end out a j = (a ≡ a₀) × (j ≤ o) × (all j (λ i. settled (game table) (common u (game table .shown i))) ≡ true) × NoneMeets (game table) s o a-end a₀ out × Filled o (nextWord (game table) cells u) j out
 
 abbrev μ-loop : tie.MeasureT-loop
 μ-loop table low high family starts cells s out₀ o a₀ u j₀ a-end out a j = o - j
 
 abbrev Inv-actions : tie.InvT-actions
-Inv-actions table low high family starts cells s out₀ o a₀ a-end out a = Trying (game table) s o a-end a out
+Inv-actions table low high family starts cells s out₀ o a₀ a-end out a = NoneMeets (game table) s o a-end a out
 
 abbrev μ-actions : tie.MeasureT-actions
 μ-actions table low high family starts cells s out₀ o a₀ a-end out a = a-end - a
@@ -161,7 +161,7 @@ actions-again : tie.Need-actions-again Inv-loop2 μ-loop2 Inv-loop μ-loop Inv-a
 actions-again c =
     let answer = c .before .before .post in
     let t = c .before .before .before .before in
-    trying-next (played t) (acting t) (observed t) (last t) (t .actions .a) (t .actions .out) (t .actions .inv)
+    none-next (played t) (acting t) (observed t) (last t) (t .actions .a) (t .actions .out) (t .actions .inv)
     (blocked-fails (played t) (acting t) (t .actions .a) (answer .result) (answer .ensures) (c .enum-told .given .1)) (omega arith)
 
 loop-holds : tie.Need-loop-holds Inv-loop2 μ-loop2 Inv-loop μ-loop Inv-actions μ-actions
@@ -202,7 +202,7 @@ actions-again-2 c =
     let same : found .before .loop2 .a ≡ t .actions .a = found .before .loop2 .inv ∙ l .loop .inv .0 in
     let lost = held p ∙ nowhere-unheld (listed t) (part p) (found .holding .result) (found .holding .ensures) (c .enum-told2 .given .1) in
     rw same
-    (trying-next (played t) (acting t) (observed t) (last t) (t .actions .a) (l .loop .out) (l .loop .inv .3)
+    (none-next (played t) (acting t) (observed t) (last t) (t .actions .a) (l .loop .out) (l .loop .inv .3)
     (uncovered-fails (played t) (acting t) (t .actions .a) (answer .result) (answer .ensures) (after-it l) (l .before .before .posted .given .1) (l .loop .j) (there p) lost)
     (omega (arith, l .before .before .before .before .before .actions-test .taken)))
 
@@ -229,7 +229,7 @@ loop-again c =
       loop .inv ∙ l .loop .inv .0,
       omega (arith, p .before .loop-test .taken),
       all-more j (λ i. settled (played t) (common (after-it l) (played t .shown i))) ∙ and-intro (l .loop .inv .2) (named told .0),
-      trying-with (played t) (acting t) (observed t) (last t) (t .actions .a) out (l .loop .inv .3) (set out (1 + j) w) (length-set out (1 + j) w ∙ l .loop .inv .3 .size),
+      none-with (played t) (acting t) (observed t) (last t) (t .actions .a) out (l .loop .inv .3) (set out (1 + j) w) (length-set out (1 + j) w ∙ l .loop .inv .3 .size),
       filled-more (observed t) (nextWord (played t) (listed t) (after-it l)) j out w (p .before .loop-test .taken)
           (next-word (played t) (listed t) (after-it l) j w _ (p .shown .result) (part p) (c .naming .ensures) (named told .1) refl (p .shown .ensures)) (l .loop .inv .4),
     )
