@@ -1,7 +1,7 @@
 -- Laws of the printed texts: a cell's field by its case, a card's lines as its words have them, the lines of a loop over the
 -- observations, and that a card's parts together are the whole text.
 -- Assumes nothing.
-use mathlib.Core.Path.{_≡_, refl, sym, ap, ap₂, subst, _∙_}
+use mathlib.Core.Path.{_≡_, sym, ap, ap₂, subst, _∙_}
 use mathlib.Core.List.{List, _++_, append-nil, append-assoc}
 use Prim.Native.Nat.{ℕ, _+_, _*_, _≤_, _<_}
 use native.Mathlib.Numerals.{add-one}
@@ -88,11 +88,16 @@ module _ (line : ℕ → List ℕ) (o : ℕ) where
 
 -- ---- a card part by part
 
--- what a program prints of a buffer that a text was written into from its front, up to the place behind it, is the text
-pub wrote-taken : {s d e : List ℕ} {r : ℕ} → Wrote s 0 d r e → r ≤ length d → take r e ≡ s
-wrote-taken {s} {d} {e} {r} w l =
-    let h : r ≡ length s = omega (arith, w .next) in
-    rw (wrote-front w (omega arith), h) (take-append-seam s (drop (length s) d))
+-- a text in the front of a buffer that has room for it: what a program prints up to the place behind it is the text
+module _ {s d e : List ℕ} {r : ℕ} (v : Wrote s 0 d r e) (l : r ≤ length d) where
+  pub front-taken : take r e ≡ s
+  front-taken =
+      let h : r ≡ length s = omega (arith, v .next) in
+      rw (wrote-front v (omega arith), h) (take-append-seam s (drop (length s) d))
+
+  -- and as many bytes
+  pub front-length : r ≡ length (take r e)
+  front-length = let h : r ≡ length s = omega (arith, v .next) in h ∙ ap length (sym front-taken)
 
 module _ (t : ℕ) (w : List ℕ) where
   -- what is printed before the part of cell i: the line of the yes, the first lines, the parts of the cells below i

@@ -1,4 +1,4 @@
--- `printout::put_cell` meets its contract: the pieces one behind the other.
+-- `printout::put_cell` meets its contract: the line's pieces are written one behind the other.
 -- Assumes nothing.
 use borrow.Author.Needs.{needs}
 use Rattle.text.proofs.Writing.{wrote-then}
@@ -26,6 +26,7 @@ put-cell-spec =
     let set = picked .before .before .before .before .before in
     let cell = set .before .before .before .before in
     let word = cell .before .before .before .before .before in (
-      wrote-then (wrote-then (wrote-then (wrote-then (word .put-bytes .ensures) (cell .put-field .ensures .0)) (set .put-field2 .ensures .0)) (picked .put-field3 .ensures .0)) (end .put .ensures),
+      wrote-then (wrote-then (wrote-then (wrote-then (word .put-bytes .ensures) (cell .put-field .ensures .0)) (set .put-field2 .ensures .0))
+          (picked .put-field3 .ensures .0)) (end .put .ensures),
       search needs,
     )))

@@ -31,7 +31,8 @@ put-front-spec =
     (λ c κs.
     let turn = c .before .before in
     let number = turn .before .before in
-    omega (arith, below-fits _ _ _ (number .before .before .before .before .pre .0) (number .number-field .ensures) _ (turn .loop-test .taken) (turn .before .loop .inv)))
+    let asked = number .before .before .before .before .pre in
+    omega (arith, below-fits _ _ _ (asked .0) (number .number-field .ensures) _ (turn .loop-test .taken) (turn .before .loop .inv)))
     (λ c. search needs)
     (λ c. search needs)
     (λ c.

@@ -1,4 +1,4 @@
--- `printout::put_next` meets its contract: the pieces one behind the other.
+-- `printout::put_next` meets its contract: the line's pieces are written one behind the other.
 -- Assumes nothing.
 use borrow.Author.Needs.{needs}
 use Rattle.text.proofs.Writing.{wrote-then}
@@ -26,6 +26,7 @@ put-next-spec =
     let seen = to .before .before .before .before in
     let cell = seen .before .before .before .before .before in
     let word = cell .before .before .before .before .before in (
-      wrote-then (wrote-then (wrote-then (wrote-then (word .put-bytes .ensures) (cell .put-field .ensures .0)) (seen .put-field2 .ensures .0)) (to .put-cell-field .ensures .0)) (end .put .ensures),
+      wrote-then (wrote-then (wrote-then (wrote-then (word .put-bytes .ensures) (cell .put-field .ensures .0)) (seen .put-field2 .ensures .0))
+          (to .put-cell-field .ensures .0)) (end .put .ensures),
       search needs,
     )))

@@ -33,7 +33,8 @@ put-part-spec =
     let turn = c .before .before in
     let own = turn .before .before .before .before in
     let number = own .before .before in
-    omega (arith, own .put-own .ensures .1, below-fits _ _ _ (number .before .before .before .before .pre .0) (number .number-field .ensures) _ (turn .loop-test .taken) (turn .before .loop .inv)))
+    let asked = number .before .before .before .before .pre in
+    omega (arith, own .put-own .ensures .1, below-fits _ _ _ (asked .0) (number .number-field .ensures) _ (turn .loop-test .taken) (turn .before .loop .inv)))
     (λ c. search needs)
     (λ c. search needs)
     (λ c.
@@ -45,5 +46,6 @@ put-part-spec =
     (λ c.
     let own = c .before .before .before .before in
     let number = own .before .before in
-    let nexts = below-all _ _ _ (number .before .before .before .before .pre .0) (number .number-field .ensures) _ (c .loop-test .left) (c .before .loop .inv) in
+    let asked = number .before .before .before .before .pre in
+    let nexts = below-all _ _ _ (asked .0) (number .number-field .ensures) _ (c .loop-test .left) (c .before .loop .inv) in
     (wrote-then (own .put-own .ensures .0) (nexts .0), omega (arith, nexts .1, own .put-own .ensures .1))))
