@@ -1,5 +1,6 @@
 // A card run over a list of observations: the actions, or the first refusal and how many were taken before it. And a runner in a
 // local, opened and moved: it goes on after a refusal, from the cell it stayed in.
+use entry_rows::card_rows::print_move;
 use games::Observation;
 use rows::print;
 use rows::print::say;
@@ -8,7 +9,6 @@ use rows::stations::C_CARD;
 use rows::stations::GUARD;
 use runner::Ran;
 use runner::Stood;
-use small_rows::card_rows::print_move;
 
 fn run(name: &[u8], card: &[u32], seen: &[u32]) {
     let mut out = [GUARD; 5];
