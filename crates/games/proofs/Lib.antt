@@ -9,5 +9,6 @@ pub mod Memory
 pub mod Losing
 pub mod Lasting
 pub mod Settling
+pub mod Holding
 pub mod Winning
 pub mod Decided

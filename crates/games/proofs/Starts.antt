@@ -6,7 +6,8 @@ use Prim.Native.Nat.{ℕ, _^_, _<_}
 use Rattle.sets.specs.Mask.{member}
 use Rattle.sets.specs.Family.{Family}
 use Rattle.sets.proofs.Logic.{and-intro, and-left, and-right}
-use Rattle.sets.proofs.Bounded.{all-at, all-intro, all-fails}
+use Rattle.sets.specs.Bounded.{all}
+use Rattle.sets.proofs.Bounded.{all-at, all-intro, all-fails, all-refuted, all-ext}
 use Rattle.sets.proofs.Mask.{member-and, common-lt-left}
 use Rattle.games.specs.Game.{Game, Accepted, Shows}
 use Rattle.games.specs.Verdict.{startSets, startSet, startsIn}
@@ -43,3 +44,16 @@ module _ (g : Game) where
     pub starts-fail : startsIn g F ≡ false → (o : ℕ) × (o < startSets g) × (F (startSet g o) ≡ false)
     unfolding startsIn
     starts-fail h = all-fails (startSets g) (λ o. F (startSet g o)) h
+
+    -- as code goes through them
+    pub starts-passed : all (startSets g) (λ o. F (startSet g o)) ≡ true → startsIn g F ≡ true
+    unfolding startsIn
+    starts-passed h = h
+
+    pub starts-stop : (o : ℕ) → o < startSets g → F (startSet g o) ≡ false → startsIn g F ≡ false
+    unfolding startsIn
+    starts-stop o l h = all-refuted (startSets g) (λ j. F (startSet g j)) o l h
+
+    pub starts-ext : (G : Family) → ((o : ℕ) → o < startSets g → F (startSet g o) ≡ G (startSet g o)) → startsIn g F ≡ startsIn g G
+    unfolding startsIn
+    starts-ext G h = all-ext (startSets g) (λ o. F (startSet g o)) (λ o. G (startSet g o)) h

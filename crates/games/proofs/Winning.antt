@@ -7,27 +7,24 @@ use mathlib.Core.Bool.{Bool, true, false, cond}
 use mathlib.Core.List.{List, [], _∷_}
 use Prim.Native.Nat.{ℕ, suc, _^_, _<_}
 use native.Mathlib.Omega.{arith}
-use lib.Dec.{eqb, ltb}
+use lib.Dec.{ltb}
 use lib.ListN.{length, getD}
-use borrow.Author.Tests.{ne-eqb, lt-ltb, ltb-true}
-use Rattle.sets.specs.Mask.{member, subset}
-use Rattle.sets.specs.Bounded.{Found, first, orElse}
-use Rattle.sets.specs.Family.{holds}
-use Rattle.sets.proofs.Logic.{decided, clash}
-use Rattle.sets.proofs.Bounded.{first-some, first-found}
-use Rattle.sets.proofs.Mask.{member-zero, subset-member}
-use Rattle.sets.proofs.Family.{at-mem, mem-at, holds-found, mem-maximal}
+use borrow.Author.Tests.{lt-ltb, ltb-true}
+use Rattle.sets.specs.Mask.{member}
+use Rattle.sets.proofs.Logic.{decided}
+use Rattle.sets.proofs.Family.{at-mem, mem-maximal}
 use Rattle.games.specs.Game.{Game, Accepted, Shows, enabled}
 use Rattle.games.specs.Play.{Play, begin, more, PlayOf, last, seen, rounds}
 use Rattle.games.specs.Step.{after, lowest, step, antichain}
 use Rattle.games.specs.Verdict.{startSet, startsIn, settled, cells}
-use Rattle.games.specs.Automaton.{Automaton, noCell, nextCell, cellFrom, cellAfter, actionAfter, holding, chosen, card}
+use Rattle.games.specs.Automaton.{Automaton, noCell, nextCell, cellFrom, cellAfter, actionAfter, chosen, card}
 use Rattle.games.specs.Demands.{UnderCard, Keeps, Second}
 use Rattle.games.proofs.Steps.{after-below}
 use Rattle.games.proofs.Memory.{from, memory, Acts, holds-on, memory-lasts}
 use Rattle.games.proofs.Starts.{start-below, start-member, starts-at}
 use Rattle.games.proofs.Lasting.{lowest-below, stepped-survives, stepped-in, stepped-member}
 use Rattle.games.proofs.Settling.{settled-step, cells-hold}
+use Rattle.games.proofs.Holding.{Held, held-by}
 
 -- the memory theorem's memory, where it is an automaton's cell
 from-cell : (B : Automaton) (c : ℕ) (h : List ℕ) → from noCell (B .begins) (nextCell B) c h ≡ cellFrom B c h
@@ -44,28 +41,6 @@ memory-cell B (o ∷ h) = from-cell B (B .begins o) h
 pub next-cell : (B : Automaton) (c o : ℕ) → c < B .size → nextCell B c o ≡ B .next c o
 unfolding nextCell
 next-cell B c o l = rw (lt-ltb c (B .size) l)
-
--- a set with a member that some cell holds has a holding cell
-pub record Held (l : List ℕ) (s i : ℕ) : Type 0 where
-  pub below : holding l s < length l
-  pub holds-it : subset s (getD l (holding l s) 0) ≡ true
-  pub has : member (getD l (holding l s) 0) i ≡ true
-
-pub held-by : (l : List ℕ) (s i : ℕ) → holds l s ≡ true → member s i ≡ true → Held l s i
-unfolding holding
-held-by l s i h m =
-    let test : ℕ → Bool = λ c. subset s (getD l c 0) in
-    let t = holds-found l s h in
-    let c = mem-at l (t .0) (t .1) in
-    let f = first-some (length l) test (c .0) (c .1) (subst (λ (u : ℕ). subset s u ≡ true) (sym (c .2)) (t .2)) in
-    let w = first-found (length l) test (f .0) (f .1) in
-    let some : eqb s 0 ≡ false = ne-eqb s 0 (λ e. clash m (subst (λ (u : ℕ). member u i ≡ false) (sym e) (member-zero i))) in
-    let e : holding l s ≡ f .0 = ap (λ (b : Bool). cond b noCell (orElse (first (length l) test) noCell)) some ∙ ap (λ (x : Found). orElse x noCell) (f .1) in
-    record {
-      below = subst (λ (c : ℕ). c < length l) (sym e) (w .0);
-      holds-it = subst (λ (c : ℕ). subset s (getD l c 0) ≡ true) (sym e) (w .1);
-      has = subset-member s (getD l (holding l s) 0) (subst (λ (c : ℕ). subset s (getD l c 0) ≡ true) (sym e) (w .1)) i m;
-    }
 
 -- an automaton whose cells cover the plays: a start state is held by the first cell named; at a member of a cell's set the action survives,
 -- and each successor is held by the next cell named

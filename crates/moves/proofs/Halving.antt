@@ -5,16 +5,16 @@ use mathlib.Core.Logic.{_⊎_, inl, inr, ⊎-elim}
 use mathlib.Core.Bool.{Bool, true, false, cond, _||_}
 use mathlib.Core.List.{List, _++_}
 use Prim.Native.Nat.{ℕ, zero, suc, _+_, _-_, _*_, _/_, _%_, _^_, _≤_, _<_, min}
-use native.Mathlib.Nat.{mod-le, le-refl, le-step, le-trans, not-suc-le-zero, pow-suc, add-sub-cancel-left, mul-le-mul-right, suc-mul}
+use native.Mathlib.Nat.{mod-le, le-refl, le-step, le-trans, not-suc-le-zero, pow-suc, add-sub-cancel-left}
 use native.Mathlib.Numerals.{add-one}
 use native.Mathlib.Omega.{arith}
 use lib.Dec.{eqb, ltb}
 use lib.ListN.{length, getD, take, drop, set, length-set, List·getD-append}
 use lib.Pow.{pow-mono, shr-shr, field, mod-mod-pow, shr-lt}
-use lib.Seq.{getD-set-same, getD-set-other, length-take-le, getD-take, getD-drop, getD-append-add}
+use lib.Seq.{getD-set-same, getD-set-other, length-take-le, getD-take, getD-append-add}
 use borrow.Rule.Slice.PartMut.{putMid, postOf, same-len-mid, mid-len}
 use borrow.Author.Count.{below-more}
-use borrow.Author.Tests.{eqb-true, not-true, not-false, ltb-true, ltb-false}
+use borrow.Author.Tests.{ltb-true, ltb-false}
 use Rattle.sets.specs.Mask.{member, union, unionOver}
 use Rattle.sets.proofs.Logic.{decided, same-truth, or-left, or-right, or-cases}
 use Rattle.sets.proofs.Mask.{member-beyond, member-or, member-single, single-le, member-add-same, member-add-other, ext-all, unionOver-zero, unionOver-hit, unionOver-skip, unionOver-found, unionOver-intro, unionOver-ext, unionOver-lt}
@@ -22,15 +22,13 @@ use Rattle.games.specs.Format.{maxStates, maxActions}
 use Rattle.games.specs.Game.{Game, Accepted, enabled}
 use Rattle.games.specs.Step.{enabledAt, post}
 use Rattle.games.proofs.Steps.{enabled-at, enabled-fails}
-use Rattle.games.specs.Words.{game, lowField, headStates, headActions, headObservations, tableLength}
+use Rattle.games.specs.Words.{game}
 use Rattle.tables.specs.Check.{checked}
-use Rattle.tables.specs.Layout.{Sized}
-use Rattle.tables.specs.declared.Checked.the-variants.{Fine}
+use Rattle.games.specs.declared.Checked.the-variants.{Fine}
 use Rattle.tables.proofs.Checks.{sized}
-use Rattle.tables.proofs.Bounds.{game-limited}
-use Rattle.tables.specs.Walk.{walked}
-use Rattle.tables.specs.declared.Walked.the-variants.{Blocked, Post}
-use Rattle.moves.specs.Halves.{halfStates, halfSets, sideWords, blockedMark, mark, marked, Doubled, Halved, Sided, Tabled}
+use Rattle.tables.proofs.Bounds.{few-states}
+use Rattle.moves.specs.declared.Posted.the-variants.{Blocked, Post}
+use Rattle.moves.specs.Halves.{posted, halfStates, halfSets, sideWords, blockedMark, mark, Doubled, Halved, Sided, Tabled}
 
 -- the union sees only the members below the bound
 members-same : (n s t : ℕ) (f : ℕ → ℕ) → ((i : ℕ) → i < n → member s i ≡ member t i) → unionOver n s f ≡ unionOver n t f
@@ -66,84 +64,80 @@ module _ (size w : ℕ) (d : List ℕ) where
   pub doubling-end : (x : ℕ) (e : List ℕ) → size ≤ x → Doubling size w x d e → Doubled size w d e
   doubling-end x e h k = record { same = k .same; front = k .front; behind = λ y l. k .behind y (omega arith) }
 
--- ---- one half: after i move words the sets of i states are known
+-- ---- one half: after i states their sets are known; state i leads to F i
 
-pub record Halving (moves : List ℕ) (i size : ℕ) (half : List ℕ) : Type 0 where
-  pub within : i ≤ length moves
+pub record Halving (F : ℕ → ℕ) (count i size : ℕ) (half : List ℕ) : Type 0 where
+  pub within : i ≤ count
   pub power : size ≡ 2 ^ i
   pub length-is : length half ≡ halfSets
-  pub at : (h : ℕ) → h < size → getD half h 0 ≡ unionOver i h (marked moves)
+  pub at : (h : ℕ) → h < size → getD half h 0 ≡ unionOver i h F
 
-pub halving-none : (moves d : List ℕ) → length d ≡ halfSets → Halving moves 0 1 (set d 0 0)
-halving-none moves d r =
-    record {
-      within = omega arith;
-      power = refl;
-      length-is = length-set d 0 0 ∙ r;
-      at = λ h l. at-zero h (omega arith);
-    }
-  where
-    at-zero : (h : ℕ) → h ≡ 0 → getD (set d 0 0) h 0 ≡ unionOver 0 h (marked moves)
-    at-zero h e = ap (λ (x : ℕ). getD (set d 0 0) x 0) e ∙ getD-set-same d 0 0 0 (omega arith) ∙ sym (unionOver-zero h (marked moves))
-
-module _ (moves : List ℕ) (i : ℕ) where
-  -- a set without state i, and the same set with it
-  old-set : (h : ℕ) → h < 2 ^ i → unionOver (i + 1) h (marked moves) ≡ unionOver i h (marked moves)
-  old-set h l = unionOver-skip i h (marked moves) (member-beyond i h i l (le-refl i))
-
-  new-set : (x : ℕ) → x < 2 ^ i → unionOver (i + 1) (x + 2 ^ i) (marked moves) ≡ union (unionOver i x (marked moves)) (marked moves i)
-  new-set x l =
-      let out = member-beyond i x i l (le-refl i) in
-      unionOver-hit i (x + 2 ^ i) (marked moves) (member-add-same x i out)
-      ∙ ap (λ (u : ℕ). union u (marked moves i))
-      (members-same i (x + 2 ^ i) x (marked moves) (λ j b. member-add-other x i out j (λ e. omega arith)))
-
-  pub halving-more : (size w : ℕ) (d e : List ℕ) → i < length moves → w ≡ marked moves i → Halving moves i size d → Doubled size w d e → Halving moves (i + 1) (size + size) e
-  halving-more size w d e l is k b =
+module _ (F : ℕ → ℕ) (count : ℕ) where
+  pub halving-none : (d : List ℕ) → length d ≡ halfSets → Halving F count 0 1 (set d 0 0)
+  halving-none d r =
       record {
         within = omega arith;
-        power = double-power;
-        length-is = b .same ∙ k .length-is;
-        at = λ h m. ⊎-elim (λ f. low h (ltb-true h size f)) (λ f. high h m (ltb-false h size f)) (decided (ltb h size));
+        power = refl;
+        length-is = length-set d 0 0 ∙ r;
+        at = λ h l. at-zero h (omega arith);
       }
     where
-      double-power : size + size ≡ 2 ^ (i + 1)
-      double-power = omega (arith, k .power, ap (λ (n : ℕ). 2 ^ n) (add-one i) ∙ pow-suc 2 i)
+      at-zero : (h : ℕ) → h ≡ 0 → getD (set d 0 0) h 0 ≡ unionOver 0 h F
+      at-zero h e = ap (λ (x : ℕ). getD (set d 0 0) x 0) e ∙ getD-set-same d 0 0 0 (omega arith) ∙ sym (unionOver-zero h F)
 
-      low : (h : ℕ) → h < size → getD e h 0 ≡ unionOver (i + 1) h (marked moves)
-      low h f = b .front h f ∙ k .at h f ∙ sym (old-set h (subst (λ (n : ℕ). h < n) (k .power) f))
+  module _ (i : ℕ) where
+    -- a set without state i, and the same set with it
+    old-set : (h : ℕ) → h < 2 ^ i → unionOver (i + 1) h F ≡ unionOver i h F
+    old-set h l = unionOver-skip i h F (member-beyond i h i l (le-refl i))
 
-      high : (h : ℕ) → h < size + size → size ≤ h → getD e h 0 ≡ unionOver (i + 1) h (marked moves)
-      high h m f =
-          let x = h - size in
-          let small : x < size = omega arith in
-          ap (λ (y : ℕ). getD e y 0) (sym-sum h f)
-          ∙ b .behind x small
-          ∙ ap₂ union (k .at x small) is
-          ∙ sym (new-set x (subst (λ (n : ℕ). x < n) (k .power) small))
-          ∙ ap (λ (y : ℕ). unionOver (i + 1) y (marked moves)) (sum-is h f)
-        where
-          sym-sum : (h : ℕ) → size ≤ h → h ≡ size + (h - size)
-          sym-sum h f = omega arith
+    new-set : (x : ℕ) → x < 2 ^ i → unionOver (i + 1) (x + 2 ^ i) F ≡ union (unionOver i x F) (F i)
+    new-set x l =
+        let out = member-beyond i x i l (le-refl i) in
+        unionOver-hit i (x + 2 ^ i) F (member-add-same x i out)
+        ∙ ap (λ (u : ℕ). union u (F i)) (members-same i (x + 2 ^ i) x F (λ j b. member-add-other x i out j (λ e. omega arith)))
 
-          sum-is : (h : ℕ) → size ≤ h → h - size + 2 ^ i ≡ h
-          sum-is h f = omega (arith, k .power)
+    pub halving-more : (size w : ℕ) (d e : List ℕ) → i < count → w ≡ F i → Halving F count i size d → Doubled size w d e → Halving F count (i + 1) (size + size) e
+    halving-more size w d e l is k b =
+        record {
+          within = omega arith;
+          power = double-power;
+          length-is = b .same ∙ k .length-is;
+          at = λ h m. ⊎-elim (λ f. low h (ltb-true h size f)) (λ f. high h m (ltb-false h size f)) (decided (ltb h size));
+        }
+      where
+        double-power : size + size ≡ 2 ^ (i + 1)
+        double-power = omega (arith, k .power, ap (λ (n : ℕ). 2 ^ n) (add-one i) ∙ pow-suc 2 i)
 
-pub halving-end : (moves half : List ℕ) (i size : ℕ) → length moves ≤ i → Halving moves i size half → Halved moves half
-halving-end moves half i size h k =
-    let e : i ≡ length moves = omega (arith, k .within) in
-    record {
-      size = k .length-is;
-      at = λ x l.
-          k .at x (subst (λ (n : ℕ). x < n) (sym (k .power ∙ ap (λ (n : ℕ). 2 ^ n) e)) l)
-          ∙ ap (λ (n : ℕ). unionOver n x (marked moves)) e;
-    }
+        low : (h : ℕ) → h < size → getD e h 0 ≡ unionOver (i + 1) h F
+        low h f = b .front h f ∙ k .at h f ∙ sym (old-set h (subst (λ (n : ℕ). h < n) (k .power) f))
 
--- the doubled part fits
-pub halving-room : (moves half : List ℕ) (i size : ℕ) → i < length moves → length moves ≤ halfStates → Halving moves i size half → size + size ≤ length half
-halving-room moves half i size l b k =
-    let m = pow-mono {i = suc i} {j = halfStates} (le-trans l b) in
-    omega (arith, k .length-is, k .power, pow-suc 2 i)
+        high : (h : ℕ) → h < size + size → size ≤ h → getD e h 0 ≡ unionOver (i + 1) h F
+        high h m f =
+            let x = h - size in
+            let small : x < size = omega arith in
+            ap (λ (y : ℕ). getD e y 0) (sym-sum h f)
+            ∙ b .behind x small
+            ∙ ap₂ union (k .at x small) is
+            ∙ sym (new-set x (subst (λ (n : ℕ). x < n) (k .power) small))
+            ∙ ap (λ (y : ℕ). unionOver (i + 1) y F) (sum-is h f)
+          where
+            sym-sum : (h : ℕ) → size ≤ h → h ≡ size + (h - size)
+            sym-sum h f = omega arith
+
+            sum-is : (h : ℕ) → size ≤ h → h - size + 2 ^ i ≡ h
+            sum-is h f = omega (arith, k .power)
+
+  module _ (i size : ℕ) (half : List ℕ) (k : Halving F count i size half) where
+    pub halving-end : count ≤ i → (x : ℕ) → x < 2 ^ count → getD half x 0 ≡ unionOver count x F
+    halving-end h x l =
+        let e : i ≡ count = omega (arith, k .within) in
+        k .at x (subst (λ (n : ℕ). x < n) (sym (k .power ∙ ap (λ (n : ℕ). 2 ^ n) e)) l) ∙ ap (λ (n : ℕ). unionOver n x F) e
+
+    -- the doubled part fits
+    pub halving-room : i < count → count ≤ halfStates → size + size ≤ length half
+    halving-room l b =
+        let m = pow-mono {i = suc i} {j = halfStates} (le-trans l b) in
+        omega (arith, k .length-is, k .power, pow-suc 2 i)
 
 -- ---- a set by its two halves
 
@@ -210,12 +204,20 @@ module _ (n k s : ℕ) (F : ℕ → ℕ) (within : k ≤ n) (few : k ≤ halfSta
 
 -- ---- what the marks tell
 
+-- the successors where the action is enabled, else the mark
+pub enabled-mark : (g : Game) (a i : ℕ) → enabled g i a ≡ true → mark g a i ≡ g .successors a i
+unfolding mark
+enabled-mark g a i h = ap (λ (c : Bool). cond c (g .successors a i) blockedMark) h
+
+pub blocked-mark : (g : Game) (a i : ℕ) → enabled g i a ≡ false → mark g a i ≡ blockedMark
+unfolding mark
+blocked-mark g a i h = ap (λ (c : Bool). cond c (g .successors a i) blockedMark) h
+
 module _ (g : Game) (A : Accepted g) (few : g .states ≤ maxStates) (s a : ℕ) (b : a < g .actions) where
-  unmarked : enabledAt g s a ≡ true → unionOver (g .states) s (λ i. mark (g .successors a i)) ≡ post g s a
-  unfolding post enabled
+  unmarked : enabledAt g s a ≡ true → unionOver (g .states) s (mark g a) ≡ post g s a
+  unfolding post
   unmarked h =
-      unionOver-ext (g .states) s (λ i. mark (g .successors a i)) (g .successors a)
-      (λ i l m. ap (λ (c : Bool). cond c blockedMark (g .successors a i)) (not-true (eqb (g .successors a i) 0) (enabled-at g s a h i l m)))
+      unionOver-ext (g .states) s (mark g a) (g .successors a) (λ i l m. enabled-mark g a i (enabled-at g s a h i l m))
 
   post-small : post g s a < blockedMark
   unfolding post
@@ -224,34 +226,26 @@ module _ (g : Game) (A : Accepted g) (few : g .states ≤ maxStates) (s a : ℕ)
       let q = pow-mono {i = g .states} {j = 16} (omega arith) in
       omega arith
 
-  mark-shows : enabledAt g s a ≡ false → blockedMark ≤ unionOver (g .states) s (λ i. mark (g .successors a i))
-  unfolding enabled
+  mark-shows : enabledAt g s a ≡ false → blockedMark ≤ unionOver (g .states) s (mark g a)
   mark-shows h =
       let w = enabled-fails g s a h in
-      let z : g .successors a (w .0) ≡ 0 = eqb-true (g .successors a (w .0)) 0 (not-false (eqb (g .successors a (w .0)) 0) (w .3)) in
-      let m : mark (g .successors a (w .0)) ≡ blockedMark = ap mark z in
-      single-le (unionOver (g .states) s (λ i. mark (g .successors a i))) 16
-      (unionOver-intro (g .states) s (λ i. mark (g .successors a i)) 16 (w .0) (w .1) (w .2) (ap (λ (x : ℕ). member x 16) m ∙ member-single 16))
+      single-le (unionOver (g .states) s (mark g a)) 16
+      (unionOver-intro (g .states) s (mark g a) 16 (w .0) (w .1) (w .2)
+      (ap (λ (x : ℕ). member x 16) (blocked-mark g a (w .0) (w .3)) ∙ member-single 16))
 
-  pub walked-open : (u : ℕ) → u ≡ unionOver (g .states) s (λ i. mark (g .successors a i)) → u < blockedMark → Post u ≡ walked g s a
-  unfolding walked
-  walked-open u e l =
+  pub posted-open : (u : ℕ) → u ≡ unionOver (g .states) s (mark g a) → u < blockedMark → Post u ≡ posted g s a
+  unfolding posted
+  posted-open u e l =
       ⊎-elim (λ h. ap Post (e ∙ unmarked h) ∙ sym (ap (λ (c : Bool). cond c (Post (post g s a)) Blocked) h))
       (λ h. let m = mark-shows h in absurd (omega arith)) (decided (enabledAt g s a))
 
-  pub walked-shut : (u : ℕ) → u ≡ unionOver (g .states) s (λ i. mark (g .successors a i)) → blockedMark ≤ u → Blocked ≡ walked g s a
-  unfolding walked
-  walked-shut u e l =
+  pub posted-shut : (u : ℕ) → u ≡ unionOver (g .states) s (mark g a) → blockedMark ≤ u → Blocked ≡ posted g s a
+  unfolding posted
+  posted-shut u e l =
       ⊎-elim (λ h. let m = unmarked h in let p = post-small in absurd (omega arith))
       (λ h. sym (ap (λ (c : Bool). cond c (Post (post g s a)) Blocked) h)) (decided (enabledAt g s a))
 
 -- ---- filling a side, one action behind the other
-
-pub few-actions : (w : List ℕ) → checked w ≡ Fine → game w .actions ≤ maxActions
-few-actions w h = game-limited w (sized w h) .most-actions
-
-pub few-states : (w : List ℕ) → checked w ≡ Fine → game w .states ≤ maxStates
-few-states w h = game-limited w (sized w h) .most-states
 
 -- a part that was written is read at its place, and what lies before it as it was
 put-before : (a k p : ℕ) (xs ys : List ℕ) → p < a → a ≤ length xs → getD (putMid a k xs ys) p 0 ≡ getD xs p 0
@@ -268,19 +262,15 @@ module _ (g : Game) (first count : ℕ) where
   pub sided-none : (side : List ℕ) → length side ≡ sideWords → Sided g first count 0 side
   sided-none side h = record { size = h; at = λ a h l b. absurd (not-suc-le-zero l) }
 
-  pub sided-more : (a : ℕ) (side moves e : List ℕ) → a < maxActions → count ≤ halfStates → length moves ≡ count → ((i : ℕ) → i < count → marked moves i ≡ mark (g .successors a (first + i))) → Sided g first count a side → Halved moves e → Sided g first count (a + 1) (putMid (a * halfSets) (a * halfSets + halfSets - a * halfSets) side e)
-  sided-more a side moves e l few long is w h =
+  pub sided-more : (a : ℕ) (side e : List ℕ) → a < maxActions → count ≤ halfStates → Sided g first count a side → Halved g a first count e → Sided g first count (a + 1) (putMid (a * halfSets) (a * halfSets + halfSets - a * halfSets) side e)
+  sided-more a side e l few w h =
       let at = a * halfSets in
       let inside : at + halfSets ≤ length side = omega (arith, w .size) in
       record {
         size = same-len-mid at (at + halfSets - at) side e (h .size ∙ sym (mid-len at (at + halfSets) side inside ∙ add-sub-cancel-left at halfSets)) ∙ w .size;
-        at = λ c x d y. below-more (λ b. (x : ℕ) → x < 2 ^ count → getD (putMid at (at + halfSets - at) side e) (b * halfSets + x) 0 ≡ unionOver count x (λ i. mark (g .successors b (first + i)))) a
+        at = λ c x d y. below-more (λ b. (x : ℕ) → x < 2 ^ count → getD (putMid at (at + halfSets - at) side e) (b * halfSets + x) 0 ≡ unionOver count x (λ i. mark g b (first + i))) a
             (λ b c x y. put-before at (at + halfSets - at) (b * halfSets + x) side e (before b x c (small x y)) (omega (arith, w .size)) ∙ w .at b x c y)
-            (λ x y.
-            put-inside at (at + halfSets - at) x side e (omega (arith, h .size, small x y)) (omega (arith, w .size))
-            ∙ h .at x (subst (λ (n : ℕ). x < 2 ^ n) (sym long) y)
-            ∙ ap (λ (n : ℕ). unionOver n x (marked moves)) long
-            ∙ unionOver-ext count x (marked moves) (λ i. mark (g .successors a (first + i))) (λ i b m. is i b))
+            (λ x y. put-inside at (at + halfSets - at) x side e (omega (arith, h .size, small x y)) (omega (arith, w .size)) ∙ h .at x y)
             c d x y;
       }
     where
@@ -290,37 +280,14 @@ module _ (g : Game) (first count : ℕ) where
       before : (b x : ℕ) → b < a → x < halfSets → b * halfSets + x < a * halfSets
       before b x c y = omega arith
 
--- the row's words give the successors
-pub row-marks : (w : List ℕ) → Sized w → (a first count i : ℕ) → a < game w .actions → first + count ≤ game w .states → i < count → marked (take count (drop (tableLength (headStates (getD w 0 0)) a (headObservations (getD w 0 0)) + first) w)) i ≡ mark (game w .successors a (first + i))
-unfolding game
-row-marks w z a first count i l b h =
-    ap (λ (x : ℕ). mark (lowField x))
-    (getD-take count (drop (tableLength (headStates (getD w 0 0)) a (headObservations (getD w 0 0)) + first) w) i 0 h
-    ∙ getD-drop (tableLength (headStates (getD w 0 0)) a (headObservations (getD w 0 0)) + first) w i 0
-    ∙ ap (λ (p : ℕ). getD w p 0) (omega arith))
-
 pub high-small : (w : List ℕ) → checked w ≡ Fine → (s : ℕ) → s < 2 ^ game w .states → s / halfSets < halfSets
 high-small w h s l =
-    let p = pow-mono {i = game w .states} {j = maxStates} (few-states w h) in
+    let p = pow-mono {i = game w .states} {j = maxStates} (few-states w (sized w h)) in
     omega arith
 
--- an action's row lies in the table, and so does a part of it
-pub row-inside : (w : List ℕ) → Sized w → (a first count : ℕ) → a < game w .actions → first + count ≤ game w .states → tableLength (headStates (getD w 0 0)) a (headObservations (getD w 0 0)) + first + count ≤ length w
-unfolding game
-row-inside w z a first count l b =
-    let m = mul-le-mul-right {m = suc a} {n = headActions (getD w 0 0)} (headStates (getD w 0 0)) l in
-    omega (arith, suc-mul a (headStates (getD w 0 0)), z .long)
-
--- a part that is lent has the words asked for
-pub part-length : (w : List ℕ) (from count : ℕ) → from + count ≤ length w → length (take (from + count - from) (drop from w)) ≡ count
-part-length w from count h = mid-len from (from + count) w h ∙ add-sub-cancel-left from count
-
+-- the part of an action that is lent
 pub side-length : (side : List ℕ) (a : ℕ) → length side ≡ sideWords → a < maxActions → length (take (a * halfSets + halfSets - a * halfSets) (drop (a * halfSets) side)) ≡ halfSets
-side-length side a h l = part-length side (a * halfSets) halfSets (omega arith)
-
-pub part-marks : (w : List ℕ) → Sized w → (a first count row : ℕ) → row ≡ tableLength (headStates (getD w 0 0)) a (headObservations (getD w 0 0)) → a < game w .actions → first + count ≤ game w .states → (i : ℕ) → i < count → marked (take (row + first + count - (row + first)) (drop (row + first) w)) i ≡ mark (game w .successors a (first + i))
-part-marks w z a first count row e l b i h =
-    ap₂ (λ (n p : ℕ). marked (take n (drop (p + first) w)) i) (add-sub-cancel-left (row + first) count) e ∙ row-marks w z a first count i l b h
+side-length side a h l = mid-len (a * halfSets) (a * halfSets + halfSets) side (omega arith) ∙ add-sub-cancel-left (a * halfSets) halfSets
 
 -- both sides together
 pub sides-tabled : (g : Game) (k : ℕ) (low high : List ℕ) → g .states ≤ maxStates → k ≡ min (g .states) halfStates → Sided g 0 k (g .actions) low → Sided g k (g .states - k) (g .actions) high → Tabled g low high
@@ -330,9 +297,9 @@ sides-tabled g k low high few is l h =
       high-size = h .size;
       at = λ a s b c.
           ap₂ union
-          (l .at a (s % halfSets) b (low-below s c) ∙ unionOver-ext k (s % halfSets) (λ i. mark (g .successors a (0 + i))) (λ i. mark (g .successors a i)) (λ i x m. ap (λ (j : ℕ). mark (g .successors a j)) (omega arith)))
+          (l .at a (s % halfSets) b (low-below s c) ∙ unionOver-ext k (s % halfSets) (λ i. mark g a (0 + i)) (mark g a) (λ i x m. ap (mark g a) (omega arith)))
           (h .at a (s / halfSets) b (high-below s c))
-          ∙ halves (g .states) k s (λ i. mark (g .successors a i)) (omega arith) (omega arith) (which (g .states) k is);
+          ∙ halves (g .states) k s (mark g a) (omega arith) (omega arith) (which (g .states) k is);
     }
   where
     which : (n k : ℕ) → k ≡ min n halfStates → (k ≡ n) ⊎ (k ≡ halfStates)

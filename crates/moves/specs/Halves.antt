@@ -3,13 +3,21 @@
 use mathlib.Core.Path.{_≡_}
 use mathlib.Core.Bool.{cond}
 use mathlib.Core.List.{List}
-use Prim.Native.Nat.{ℕ, _+_, _*_, _/_, _%_, _^_, _<_}
-use lib.Dec.{eqb}
+use Prim.Native.Nat.{ℕ, _+_, _*_, _/_, _%_, _^_, _≤_, _<_}
 use lib.ListN.{length, getD}
 use Rattle.sets.specs.Mask.{union, unionOver}
 use Rattle.games.specs.Format.{maxStates, maxActions, lowValues}
-use Rattle.games.specs.Game.{Game}
-use Rattle.games.specs.Words.{lowField}
+use Rattle.games.specs.Game.{Game, enabled}
+use Rattle.games.specs.Step.{enabledAt, post}
+use Rattle.games.specs.Words.{game}
+use Rattle.tables.specs.Check.{checked}
+use Rattle.games.specs.declared.Checked.the-variants.{Fine}
+use Rattle.moves.specs.declared.Posted.{Posted}
+use Rattle.moves.specs.declared.Posted.the-variants.{Blocked, Post}
+
+-- what a set comes to under an action: the successors of the whole set, where the action is enabled at all its members
+unfoldable pub posted : Game → ℕ → ℕ → Posted
+posted g s a = cond (enabledAt g s a) (Post (post g s a)) Blocked
 
 -- the states of a half, and their sets
 abbrev pub halfStates : ℕ
@@ -22,16 +30,20 @@ halfSets = 2 ^ halfStates
 abbrev pub sideWords : ℕ
 sideWords = maxActions * halfSets
 
--- above every mask: it stands for the successors where the action is blocked
+-- above every mask: it stands for the successors where the action is not enabled
 abbrev pub blockedMark : ℕ
 blockedMark = lowValues
 
-abbrev pub mark : ℕ → ℕ
-mark s = cond (eqb s 0) blockedMark s
+-- a state's successors under an action, or the mark
+unfoldable pub mark : Game → (a i : ℕ) → ℕ
+mark g a i = cond (enabled g i a) (g .successors a i) blockedMark
 
--- the marked successors that a row of move words gives
-abbrev pub marked : List ℕ → ℕ → ℕ
-marked moves i = mark (lowField (getD moves i 0))
+-- an accepted table, an action of it, and the states from `first` on, no more than a half has
+pub record InHalf (table : List ℕ) (a first count : ℕ) : Type 0 where
+  pub fine : checked table ≡ Fine
+  pub action : a < game table .actions
+  pub states : first + count ≤ game table .states
+  pub few : count ≤ halfStates
 
 -- the list e is d with its first `size` entries again behind them, united with w
 pub record Doubled (size w : ℕ) (d e : List ℕ) : Type 0 where
@@ -39,18 +51,24 @@ pub record Doubled (size w : ℕ) (d e : List ℕ) : Type 0 where
   pub front : (x : ℕ) → x < size → getD e x 0 ≡ getD d x 0
   pub behind : (x : ℕ) → x < size → getD e (size + x) 0 ≡ union (getD d x 0) w
 
--- entry h is what the members of h lead to, by a row of at most `halfStates` move words
-pub record Halved (moves half : List ℕ) : Type 0 where
+-- entry h is what the members of h lead to under the action, state i of the half being state `first` + i
+pub record Halved (g : Game) (a first count : ℕ) (half : List ℕ) : Type 0 where
   pub size : length half ≡ halfSets
-  pub at : (h : ℕ) → h < 2 ^ length moves → getD half h 0 ≡ unionOver (length moves) h (marked moves)
+  pub at : (h : ℕ) → h < 2 ^ count → getD half h 0 ≡ unionOver count h (λ i. mark g a (first + i))
 
--- for each of the first `upTo` actions, entry h of its `halfSets` is what the members of h lead to, state i of the half being state `first` + i
+-- for each of the first `upTo` actions, its `halfSets` entries are such a half
 pub record Sided (g : Game) (first count upTo : ℕ) (side : List ℕ) : Type 0 where
   pub size : length side ≡ sideWords
-  pub at : (a h : ℕ) → a < upTo → h < 2 ^ count → getD side (a * halfSets + h) 0 ≡ unionOver count h (λ i. mark (g .successors a (first + i)))
+  pub at : (a h : ℕ) → a < upTo → h < 2 ^ count → getD side (a * halfSets + h) 0 ≡ unionOver count h (λ i. mark g a (first + i))
 
 -- for each action and each set, the two entries give the marked successors
 pub record Tabled (g : Game) (low high : List ℕ) : Type 0 where
   pub low-size : length low ≡ sideWords
   pub high-size : length high ≡ sideWords
-  pub at : (a s : ℕ) → a < g .actions → s < 2 ^ g .states → union (getD low (a * halfSets + s % halfSets) 0) (getD high (a * halfSets + s / halfSets) 0) ≡ unionOver (g .states) s (λ i. mark (g .successors a i))
+  pub at : (a s : ℕ) → a < g .actions → s < 2 ^ g .states →
+      union (getD low (a * halfSets + s % halfSets) 0) (getD high (a * halfSets + s / halfSets) 0) ≡ unionOver (g .states) s (mark g a)
+
+-- an accepted table and the two tables of its moves
+pub record Ready (table low high : List ℕ) : Type 0 where
+  pub fine : checked table ≡ Fine
+  pub tabled : Tabled (game table) low high

@@ -3,16 +3,16 @@
 ghost use mathlib.Core.Path.{_≡_};
 ghost use Prim.Native.Nat.{_+_, _*_, _^_, _<_, _≤_, min};
 ghost use lib.ListN.{length};
-ghost use Rattle.games.specs.Words.{game, lowField};
+ghost use Rattle.games.specs.Words.{game};
 ghost use Rattle.tables.specs.Check.{checked};
-ghost use Rattle.tables.specs.Walk.{walked};
-ghost use Rattle.tables.specs.declared.Checked.the-variants.{Fine};
-ghost use Rattle.moves.specs.Halves.{halfStates, halfSets, sideWords, mark, Doubled, Halved, Sided, Tabled};
+ghost use Rattle.tables.specs.Layout.{Sized};
+ghost use Rattle.games.specs.declared.Checked.the-variants.{Fine};
+ghost use Rattle.moves.specs.Halves.{posted, halfStates, halfSets, sideWords, mark as marked, InHalf, Doubled, Halved, Sided, Tabled, Ready};
 use games::Action;
-use tables::Walked;
+use games::State;
 
 // The states of a half, their sets, and the words for these.
-const HALF_STATES: usize = (games::MAX_STATES as usize + 1) / 2;
+const HALF_STATES: u32 = (games::MAX_STATES + 1) / 2;
 
 const HALF_SETS: u32 = 1 << HALF_STATES;
 
@@ -21,7 +21,7 @@ const HALF_WORDS: usize = HALF_SETS as usize;
 // The words of one of the two tables: a half for each action.
 pub const SIDE_WORDS: usize = games::MAX_ACTIONS as usize * HALF_WORDS;
 
-// Above every mask: it stands for the successors where the action is blocked.
+// Above every mask: it stands for the successors where the action is not enabled.
 const BLOCKED: u32 = games::LOW_VALUES;
 
 // The first entries again behind them, united with the successors of one state more.
@@ -36,50 +36,50 @@ fn double(half: &mut [u32], size: usize, w: u32)
     }
 }
 
-// A move word's successors, or the mark where the action is blocked.
-fn mark_word(w: u32) -> u32
-    ensures { λ r. ⌜ r ≡ mark (lowField w) ⌝ }
+// The state's successors under the action, or the mark where it is not enabled.
+fn mark(table: &[u32], a: Action, i: State) -> u32
+    requires { ⌜ Sized (now table) × (a .0 < game (now table) .actions) × (i .0 < game (now table) .states) ⌝ }
+    ensures { λ r. ⌜ r ≡ marked (game (now (table .entry))) (a .0) (i .0) ⌝ }
 {
-    if w % games::LOW_VALUES == 0 {
-        BLOCKED
+    if tables::enabled(table, a, i) {
+        tables::successors(table, a, i)
     } else {
-        w % games::LOW_VALUES
+        BLOCKED
     }
 }
 
-// What every set of the row's states leads to; the row has at most `HALF_STATES` move words.
-fn fill_half(half: &mut [u32], moves: &[u32])
-    requires { ⌜ (length (now half) ≡ halfSets) × (length (now moves) ≤ halfStates) ⌝ }
-    ensures { λ _. ⌜ Halved (now (moves .entry)) (now (half .exit)) ⌝ }
+// What every set of `count` states, from `first` on, leads to under the action.
+fn fill_half(table: &[u32], a: Action, first: u32, count: u32, half: &mut [u32])
+    requires { ⌜ InHalf (now table) (a .0) first count × (length (now half) ≡ halfSets) ⌝ }
+    ensures { λ _. ⌜ Halved (game (now (table .entry))) (a .0) first count (now (half .exit)) ⌝ }
 {
     half[0] = 0;
     let mut size: usize = 1;
-    let mut i: usize = 0;
-    while i < moves.len() {
-        double(half, size, mark_word(moves[i]));
+    let mut i: u32 = 0;
+    while i < count {
+        double(half, size, mark(table, a, State(first + i)));
         size = size + size;
         i += 1;
     }
 }
 
-// One side of each action's moves: `count` move words of its row, from `first` on; `HALF_WORDS` for each action.
-fn fill_side(table: &[u32], side: &mut [u32], first: usize, count: usize)
-    requires { ⌜ (checked (now table) ≡ Fine) × (length (now side) ≡ sideWords) × (first + count ≤ game (now table) .states) × (count ≤ halfStates) ⌝ }
+// The same for each action; `HALF_WORDS` for each.
+fn fill_side(table: &[u32], first: u32, count: u32, side: &mut [u32])
+    requires { ⌜ (checked (now table) ≡ Fine) × (length (now side) ≡ sideWords)
+        × (first + count ≤ game (now table) .states) × (count ≤ halfStates) ⌝ }
     ensures { λ _. ⌜ Sided (game (now (table .entry))) first count (game (now (table .entry)) .actions) (now (side .exit)) ⌝ }
 {
     let actions = tables::actions(table);
     let mut a: u32 = 0;
     while a < actions {
-        let from = tables::row(table[0], a) + first;
-        let to = from + count;
         let at = a as usize * HALF_WORDS;
         let end = at + HALF_WORDS;
-        fill_half(&mut side[at..end], &table[from..to]);
+        fill_half(table, Action(a), first, count, &mut side[at..end]);
         a += 1;
     }
 }
 
-fn low_states(n: usize) -> usize
+fn low_states(n: u32) -> u32
     ensures { λ r. ⌜ r ≡ min n halfStates ⌝ }
 {
     if n < HALF_STATES { n } else { HALF_STATES }
@@ -90,22 +90,31 @@ pub fn fill(table: &[u32], low: &mut [u32], high: &mut [u32])
     requires { ⌜ (checked (now table) ≡ Fine) × (length (now low) ≡ sideWords) × (length (now high) ≡ sideWords) ⌝ }
     ensures { λ _. ⌜ Tabled (game (now (table .entry))) (now (low .exit)) (now (high .exit)) ⌝ }
 {
-    let n = tables::states(table) as usize;
+    let n = tables::states(table);
     let split = low_states(n);
-    fill_side(table, low, 0, split);
-    fill_side(table, high, split, n - split);
+    fill_side(table, 0, split, low);
+    fill_side(table, split, n - split, high);
 }
 
-// What the set comes to under the action: `tables::walk` in two reads.
-pub fn post(table: &[u32], low: &[u32], high: &[u32], s: u32, a: Action) -> Walked
-    requires { ⌜ (checked (now table) ≡ Fine) × Tabled (game (now table)) (now low) (now high) × (s < 2 ^ game (now table) .states) × (a .0 < game (now table) .actions) ⌝ }
-    ensures { λ r. ⌜ r ≡ walked (game (now (table .entry))) s (a .0) ⌝ }
+// What a set comes to under an action.
+pub enum Posted {
+    // the action is not enabled at a member
+    Blocked,
+    // the successors of the whole set
+    Post(u32),
+}
+
+// The set's successors under the action, in two reads.
+pub fn post(table: &[u32], low: &[u32], high: &[u32], s: u32, a: Action) -> Posted
+    requires { ⌜ Ready (now table) (now low) (now high)
+        × (s < 2 ^ game (now table) .states) × (a .0 < game (now table) .actions) ⌝ }
+    ensures { λ r. ⌜ r ≡ posted (game (now (table .entry))) s (a .0) ⌝ }
 {
     let at = (a.0 * HALF_SETS) as usize;
     let u = low[at + (s % HALF_SETS) as usize] | high[at + (s / HALF_SETS) as usize];
     if u < BLOCKED {
-        Walked::Post(u)
+        Posted::Post(u)
     } else {
-        Walked::Blocked
+        Posted::Blocked
     }
 }

@@ -6,7 +6,6 @@ use mathlib.Core.Bool.{Bool, true, false, not, _&&_, _||_, or-false}
 use Prim.Native.Nat.{ℕ, _+_, _^_, _<_}
 use native.Mathlib.Nat.{le-refl, lt-of-lt-of-le}
 use native.Mathlib.Omega.{arith}
-use lib.Dec.{eqb}
 use lib.ListN.{length, getD, set, take}
 use lib.Seq.{getD-set-same, getD-set-other, getD-take}
 use lib.Pow.{pow-pos, pow-mono, pow-lt}
@@ -22,11 +21,6 @@ use Rattle.games.specs.Game.{Game, enabled}
 use Rattle.games.specs.Step.{safe, good}
 use Rattle.games.proofs.Steps.{safe-at, enabled-at, enabled-intro, meets-intro, meets-enabled, step-safe, step-action, step-intro}
 use Rattle.search.specs.Stages.{safelyEnabled, EnabledStates}
-
--- one action and one state: z is the successors, b whether the state is bad
-pub safely-enabled : (g : Game) (a i z : ℕ) (b : Bool) → z ≡ g .successors a i → b ≡ member (g .bad) i → (not (eqb z 0) && not b) ≡ safelyEnabled g a i
-unfolding safelyEnabled enabled
-safely-enabled g a i z b e f = ap (λ (x : ℕ). not (eqb x 0) && not b) e ∙ ap (λ (x : Bool). not (eqb (g .successors a i) 0) && not x) f
 
 module _ (g : Game) (a : ℕ) where
   pub states-none : EnabledStates g a 0 0

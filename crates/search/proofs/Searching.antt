@@ -12,11 +12,9 @@ use lib.Dec.{leb}
 use lib.Pow.{pow-pos, ones-lt}
 use borrow.Author.Count.{below-none, below-more}
 use borrow.Author.Tests.{leb-true, leb-false}
-use Rattle.sets.specs.Bounded.{all}
-use Rattle.sets.specs.Mask.{member, common, subset}
+use Rattle.sets.specs.Mask.{member, subset}
 use Rattle.sets.specs.Family.{Family}
 use Rattle.sets.proofs.Logic.{decided, clash, refuted, same-truth}
-use Rattle.sets.proofs.Bounded.{all-intro, all-ext}
 use Rattle.sets.proofs.Mask.{subset-lt, subset-intro, member-rest, member-zero}
 use Rattle.sets.proofs.Family.{same-intro}
 use Rattle.families.specs.Bits.{has, Bits}
@@ -24,10 +22,10 @@ use Rattle.games.specs.Game.{Game, Accepted}
 use Rattle.games.specs.Step.{step, good, fixed, settling}
 use Rattle.games.specs.Verdict.{No, startSet, startsIn, settled, lostRound, verdict}
 use Rattle.games.proofs.Steps.{good-falls, good-subset, step-ext}
-use Rattle.games.proofs.Lasting.{start-below, starts-at}
+use Rattle.games.proofs.Starts.{start-below, starts-at, starts-all, starts-ext}
 use Rattle.games.proofs.Settling.{settles, settled-good, lost-round, fixed-at}
 use Rattle.games.proofs.Decided.{verdict-no}
-use Rattle.search.specs.Stages.{shownIn, Stage}
+use Rattle.search.specs.Stages.{Stage}
 use Rattle.search.specs.Found.{SettledAt, Reached}
 
 not-over : (a b : ℕ) → (b < a → ⊥) → a ≤ b
@@ -36,11 +34,10 @@ not-over a b h = ⊎-elim (λ e. leb-true a b e) (λ e. absurd (h (leb-false a b
 module _ (g : Game) (A : Accepted g) where
   -- the first round in which a start set is lost is the verdict's
   pub lost-verdict : (k : ℕ) → startsIn g (good g k) ≡ false → ((j : ℕ) → j < k → startsIn g (good g j) ≡ true) → (verdict g ≡ No k) × (k < 2 ^ g .states)
-  unfolding startsIn
   lost-verdict k lost before =
       let out : startsIn g (settled g) ≡ false =
       refuted (startsIn g (settled g))
-      (λ h. clash (all-intro (g .observations) (λ o. good g k (startSet g o)) (λ o l. settled-good g A k (startSet g o) (start-below g A o) (starts-at g A (settled g) h o l))) lost) in
+      (λ h. clash (starts-all g (good g k) (λ o l. settled-good g A k (startSet g o) (start-below g A o) (starts-at g (settled g) h o l))) lost) in
       let d = lost-round g A out in
       let e : lostRound g ≡ k =
       le-antisymm
@@ -83,17 +80,15 @@ module _ (g : Game) (A : Accepted g) where
           within = v .within;
         }
 
-    pub starts-shown : shownIn g (has bits) (g .start) ≡ startsIn g (good g k)
-    unfolding shownIn startsIn startSet
-    starts-shown = all-ext (g .observations) (λ o. has bits (common (g .start) (g .shown o))) (λ o. good g k (common (g .start) (g .shown o))) (λ o l. w .at (common (g .start) (g .shown o)) (start-below g A o))
-
-  every-start : startsIn g (good g 0) ≡ true
-  unfolding startsIn good
-  every-start = all-intro (g .observations) (λ o. good g 0 (startSet g o)) (λ o l. refl)
+    starts-good : startsIn g (has bits) ≡ startsIn g (good g k)
+    starts-good = starts-ext g (has bits) (good g k) (λ o l. w .at (startSet g o) (start-below g A o))
 
   good-none : (s : ℕ) → good g 0 s ≡ true
   unfolding good
   good-none s = refl
+
+  every-start : startsIn g (good g 0) ≡ true
+  every-start = starts-all g (good g 0) (λ o l. good-none (startSet g o))
 
   settled-is : (k : ℕ) → settling g ≡ k → good g k ≡ settled g
   unfolding settled
@@ -113,8 +108,8 @@ module _ (g : Game) (A : Accepted g) where
   -- ---- the first family
 
   module _ (bits : List ℕ) (w : Bits (g .states) (good g 1) bits) where
-    pub first-lost : shownIn g (has bits) (g .start) ≡ false → (verdict g ≡ No 1) × (1 < 2 ^ g .states)
-    first-lost h = lost-verdict 1 (sym (starts-shown 1 bits w) ∙ h) (below-more (λ j. startsIn g (good g j) ≡ true) 0 (below-none (λ j. startsIn g (good g j) ≡ true)) every-start)
+    pub first-lost : startsIn g (has bits) ≡ false → (verdict g ≡ No 1) × (1 < 2 ^ g .states)
+    first-lost h = lost-verdict 1 (sym (starts-good 1 bits w) ∙ h) (below-more (λ j. startsIn g (good g j) ≡ true) 0 (below-none (λ j. startsIn g (good g j) ≡ true)) every-start)
 
     -- every set is in a set of all states
     all-holds : (s : ℕ) → s < 2 ^ g .states → subset s (2 ^ g .states - 1) ≡ true
@@ -126,16 +121,16 @@ module _ (g : Game) (A : Accepted g) where
         same-intro (g .states) (good g 0) (good g 1)
         (λ s l. good-none s ∙ sym (good-subset g 1 (2 ^ g .states - 1) s (all-holds s l) (sym (w .at (2 ^ g .states - 1) (ones-lt (g .states))) ∙ h)))
 
-    pub first-settled : shownIn g (has bits) (g .start) ≡ true → has bits (2 ^ g .states - 1) ≡ true → SettledAt g 0 bits
+    pub first-settled : startsIn g (has bits) ≡ true → has bits (2 ^ g .states - 1) ≡ true → SettledAt g 0 bits
     first-settled y h =
         let f = whole-fixed h in
         settled-at 0 bits (record { size = w .size; at = λ s l. w .at s l ∙ sym (fixed-at g A 0 f s l); within = w .within }) f (below-none (λ j. fixed g j ≡ false)) every-start
 
-    pub first-on : shownIn g (has bits) (g .start) ≡ true → has bits (2 ^ g .states - 1) ≡ false → Reached g 1 bits
+    pub first-on : startsIn g (has bits) ≡ true → has bits (2 ^ g .states - 1) ≡ false → Reached g 1 bits
     first-on y h =
         record {
           family = w;
-          starts = below-more (λ j. startsIn g (good g j) ≡ true) 1 (below-more (λ j. startsIn g (good g j) ≡ true) 0 (below-none (λ j. startsIn g (good g j) ≡ true)) every-start) (sym (starts-shown 1 bits w) ∙ y);
+          starts = below-more (λ j. startsIn g (good g j) ≡ true) 1 (below-more (λ j. startsIn g (good g j) ≡ true) 0 (below-none (λ j. startsIn g (good g j) ≡ true)) every-start) (sym (starts-good 1 bits w) ∙ y);
           unsettled = below-more (λ j. fixed g j ≡ false) 0 (below-none (λ j. fixed g j ≡ false))
               (refuted (fixed g 0) (λ f. clash (sym (fixed-at g A 0 f (2 ^ g .states - 1) (ones-lt (g .states))) ∙ good-none (2 ^ g .states - 1)) (sym (w .at (2 ^ g .states - 1) (ones-lt (g .states))) ∙ h)));
         }
@@ -148,8 +143,8 @@ module _ (g : Game) (A : Accepted g) where
     searching-bound = let s = settles g A in omega (arith, s .below, not-over k (settling g) (λ l. clash (s .agrees) (w .unsettled (settling g) l)))
 
     module _ (next : List ℕ) (v : Bits (g .states) (good g (k + 1)) next) where
-      pub turn-lost : shownIn g (has next) (g .start) ≡ false → (verdict g ≡ No (k + 1)) × (k + 1 < 2 ^ g .states)
-      turn-lost h = lost-verdict (k + 1) (sym (starts-shown (k + 1) next v) ∙ h) (w .starts)
+      pub turn-lost : startsIn g (has next) ≡ false → (verdict g ≡ No (k + 1)) × (k + 1 < 2 ^ g .states)
+      turn-lost h = lost-verdict (k + 1) (sym (starts-good (k + 1) next v) ∙ h) (w .starts)
 
       next-at : (s : ℕ) → s < 2 ^ g .states → has next s ≡ good g (suc k) s
       next-at s l = v .at s l ∙ ap (λ (j : ℕ). good g j s) (add-one k)
@@ -168,10 +163,10 @@ module _ (g : Game) (A : Accepted g) where
           (λ h. let l = w .family .within s h in next-at s l ∙ sym (fixed-at g A k f s l) ∙ sym (w .family .at s l) ∙ h)
           (λ h. let l = v .within s h in w .family .at s l ∙ fixed-at g A k f s l ∙ sym (next-at s l) ∙ h)
 
-      pub turn-on : shownIn g (has next) (g .start) ≡ true → (((s : ℕ) → has bits s ≡ has next s) → ⊥) → Reached g (k + 1) next
+      pub turn-on : startsIn g (has next) ≡ true → (((s : ℕ) → has bits s ≡ has next s) → ⊥) → Reached g (k + 1) next
       turn-on h e =
           record {
             family = v;
-            starts = below-more (λ j. startsIn g (good g j) ≡ true) (k + 1) (w .starts) (sym (starts-shown (k + 1) next v) ∙ h);
+            starts = below-more (λ j. startsIn g (good g j) ≡ true) (k + 1) (w .starts) (sym (starts-good (k + 1) next v) ∙ h);
             unsettled = below-more (λ j. fixed g j ≡ false) k (w .unsettled) (refuted (fixed g k) (λ f. e (agreed f)));
           }

@@ -6,7 +6,6 @@ use mathlib.Core.Bool.{Bool, true, false, _&&_}
 use mathlib.Core.List.{List}
 use Prim.Native.Nat.{ℕ, _-_, _^_, _≤_, _<_}
 use native.Mathlib.Omega.{arith}
-use lib.Pow.{pow-mono}
 use borrow.Author.Tests.{eq-eqb, ne-eqb}
 use Rattle.sets.specs.Mask.{common}
 use Rattle.sets.specs.Bounded.{all, any}
@@ -16,41 +15,30 @@ use Rattle.sets.proofs.Bounded.{all-intro, all-refuted, any-intro}
 use Rattle.sets.proofs.Mask.{common-lt, common-subset-left}
 use Rattle.families.specs.Bits.{maxLanes, lanes}
 use Rattle.families.proofs.Lanes.{lanes-few}
-use Rattle.games.specs.Format.{maxActions, maxSets, maxStates}
 use Rattle.games.specs.Game.{Game, Accepted}
 use Rattle.games.specs.Step.{safe, enabledAt, post, after, meets, step}
 use Rattle.games.specs.Words.{game}
 use Rattle.tables.specs.Layout.{Sized}
-use Rattle.tables.specs.Walk.{walked}
-use Rattle.tables.specs.declared.Walked.{Walked}
-use Rattle.tables.specs.declared.Walked.the-variants.{Blocked, Post}
+use Rattle.tables.proofs.Bounds.{few-states}
+use Rattle.moves.specs.declared.Posted.{Posted}
+use Rattle.moves.specs.declared.Posted.the-variants.{Blocked, Post}
+use Rattle.moves.specs.Halves.{posted}
+use Rattle.moves.proofs.Posting.{posted-blocked, posted-post}
 use Rattle.search.specs.Stages.{shownIn}
 
-module _ (g : Game) (F : Family) (s a : ℕ) (r : Walked) (is : r ≡ walked g s a) where
-  pub walked-post : (u : ℕ) → r ≡ Post u → (enabledAt g s a ≡ true) × (post g s a ≡ u)
-  unfolding walked
-  walked-post u e =
-      ⊎-elim
-      (λ h. (h, let w : walked g s a ≡ Post (post g s a) = rw h in (cc)))
-      (λ h. let w : walked g s a ≡ Blocked = rw h in let z : _≡_ {A = ℕ} 0 1 = cc in absurd (omega arith))
-      (decided (enabledAt g s a))
-
+module _ (g : Game) (F : Family) (s a : ℕ) (r : Posted) (is : r ≡ posted g s a) where
   -- the action meets the step where the sets after it are good
   pub meets-shown : (u : ℕ) → r ≡ Post u → shownIn g F u ≡ meets g F s a
   unfolding meets after shownIn
   meets-shown u e =
-      let w = walked-post u e in
+      let w = posted-post g s a r is u e in
       sym
       (ap (λ (b : Bool). b && all (g .observations) (λ o. F (common (post g s a) (g .shown o)))) (w .0)
       ∙ ap (λ (v : ℕ). all (g .observations) (λ o. F (common v (g .shown o)))) (w .1))
 
   pub meets-blocked : r ≡ Blocked → false ≡ meets g F s a
-  unfolding walked meets
-  meets-blocked e =
-      sym
-      (and-false-left (all (g .observations) (λ o. F (after g s a o)))
-      (refuted (enabledAt g s a)
-      (λ h. let w : walked g s a ≡ Post (post g s a) = rw h in let z : _≡_ {A = ℕ} 0 1 = cc in absurd (omega arith))))
+  unfolding meets
+  meets-blocked e = sym (and-false-left (all (g .observations) (λ o. F (after g s a o))) (posted-blocked g s a r is e))
 
 -- a state of u with its observation at j decides
 module _ (g : Game) (F : Family) (u : ℕ) where
@@ -82,19 +70,6 @@ module _ (g : Game) (F : Family) (s : ℕ) where
 
 pub shown-below : (g : Game) → Accepted g → (u j : ℕ) → j < g .observations → common u (g .shown j) < 2 ^ g .states
 shown-below g A u j l = common-lt (g .states) u (g .shown j) (A .shown-below j l)
-
--- n is at most 12, so there are few sets
-pub few-states : (w : List ℕ) → Sized w → game w .states ≤ maxStates
-unfolding game
-few-states w z = z .limits .most-states
-
-pub few-actions : (w : List ℕ) → Sized w → game w .actions ≤ maxActions
-unfolding game
-few-actions w z = z .limits .most-actions
-
-pub sets-few : (w : List ℕ) → Sized w → 2 ^ game w .states ≤ maxSets
-unfolding game
-sets-few w z = pow-mono (z .limits .most-states)
 
 -- there are few lanes
 pub table-lanes : (w : List ℕ) → Sized w → lanes (game w .states) ≤ maxLanes

@@ -1,4 +1,4 @@
--- What the search finds and what it leaves.
+-- How the search ends, and what it leaves.
 -- Assumes nothing.
 use mathlib.Core.Path.{_≡_}
 use mathlib.Core.Bool.{true, false}
@@ -8,8 +8,8 @@ use Rattle.families.specs.Bits.{Bits}
 use Rattle.games.specs.Game.{Game}
 use Rattle.games.specs.Step.{good, fixed, settling}
 use Rattle.games.specs.Verdict.{No, startsIn, settled, verdict}
-use Rattle.search.specs.declared.Outcome.{Outcome}
-use Rattle.search.specs.declared.Outcome.the-variants.{Settled, Lost}
+use Rattle.search.specs.declared.Ended.{Ended}
+use Rattle.search.specs.declared.Ended.the-variants.{Settled, Lost}
 
 -- after k rounds: the bits of the sets that are good for k, no start set lost, the families never the same so far
 pub record Reached (g : Game) (k : ℕ) (bits : List ℕ) : Type 0 where
@@ -25,6 +25,6 @@ pub record SettledAt (g : Game) (k : ℕ) (bits : List ℕ) : Type 0 where
   pub family : Bits (g .states) (settled g) bits
 
 -- a yes leaves the bits of the settled family, a no has the verdict's round number
-abbrev pub Searched : Game → Outcome → List ℕ → Type 0
+abbrev pub Searched : Game → Ended → List ℕ → Type 0
 Searched g (Settled k) bits = SettledAt g k bits
 Searched g (Lost k) bits = (verdict g ≡ No k) × (k < 2 ^ g .states)

@@ -3,13 +3,13 @@ ghost use mathlib.Core.Path.{_≡_};
 ghost use Prim.Native.Nat.{ℕ, _+_, _*_, _^_, _<_, _≤_};
 ghost use lib.ListN.{length};
 ghost use Rattle.sets.specs.Mask.{member};
-ghost use Rattle.sets.specs.Family.{DownClosed};
 ghost use Rattle.families.specs.Bits.{lanes, has as isIn, Bits};
 ghost use Rattle.games.specs.Words.{game};
 ghost use Rattle.games.specs.Step.{meets, step, good};
 ghost use Rattle.tables.specs.Check.{checked};
-ghost use Rattle.tables.specs.declared.Checked.the-variants.{Fine};
-ghost use Rattle.moves.specs.Halves.{Tabled};
+ghost use Rattle.games.specs.declared.Checked.the-variants.{Fine};
+ghost use Rattle.games.specs.Verdict.{startsIn};
+ghost use Rattle.moves.specs.Halves.{Ready};
 ghost use Rattle.search.specs.Stages.{shownIn, Stage, Sound, Passed, safelyEnabled, EnabledStates, Same};
 ghost use Rattle.search.specs.Found.{Reached, Searched};
 use families::LANE_SETS;
@@ -17,14 +17,14 @@ use games::Action;
 use games::MAX_ACTIONS;
 use games::Observation;
 use games::State;
-use tables::Walked;
+use moves::Posted;
 
 // The place of the last set of a lane.
 const LAST: u32 = LANE_SETS - 1;
 
 // For every observation, the states of u that show it form a set of the family. One that shows all of u decides: the others show subsets.
 fn shown_in(table: &[u32], family: &[u64], u: u32) -> bool
-    requires { ⌜ (checked (now table) ≡ Fine) × (length (now family) ≡ lanes (game (now table) .states)) × DownClosed (isIn (now family)) ⌝ }
+    requires { ⌜ (checked (now table) ≡ Fine) × Stage (game (now table)) (now family) ⌝ }
     ensures { λ r. ⌜ r ≡ shownIn (game (now (table .entry))) (isIn (now (family .entry))) u ⌝ }
 {
     let o = tables::observations(table);
@@ -42,13 +42,30 @@ fn shown_in(table: &[u32], family: &[u64], u: u32) -> bool
     true
 }
 
+// Every start set is in the family.
+fn starts_in(table: &[u32], family: &[u64]) -> bool
+    requires { ⌜ (checked (now table) ≡ Fine) × (length (now family) ≡ lanes (game (now table) .states)) ⌝ }
+    ensures { λ r. ⌜ r ≡ startsIn (game (now (table .entry))) (isIn (now (family .entry))) ⌝ }
+{
+    let starts = tables::start_sets(table);
+    let mut j: u32 = 0;
+    while j < starts {
+        if !families::has(family, tables::start_set(table, Observation(j))) {
+            return false;
+        }
+        j += 1;
+    }
+    true
+}
+
 // The action is enabled at all members of s, and leads to sets of the family.
 fn action_meets(table: &[u32], low: &[u32], high: &[u32], family: &[u64], s: u32, a: Action) -> bool
-    requires { ⌜ (checked (now table) ≡ Fine) × (length (now family) ≡ lanes (game (now table) .states)) × (a .0 < game (now table) .actions) × Tabled (game (now table)) (now low) (now high) × (s < 2 ^ game (now table) .states) × DownClosed (isIn (now family)) ⌝ }
+    requires { ⌜ Ready (now table) (now low) (now high) × Stage (game (now table)) (now family)
+        × (s < 2 ^ game (now table) .states) × (a .0 < game (now table) .actions) ⌝ }
     ensures { λ r. ⌜ r ≡ meets (game (now (table .entry))) (isIn (now (family .entry))) s (a .0) ⌝ }
 {
-    let walked = moves::post(table, low, high, s, a);
-    let Walked::Post(u) = walked else {
+    let posted = moves::post(table, low, high, s, a);
+    let Posted::Post(u) = posted else {
         return false;
     };
     shown_in(table, family, u)
@@ -56,7 +73,8 @@ fn action_meets(table: &[u32], low: &[u32], high: &[u32], family: &[u64], s: u32
 
 // The step: a set with no bad state for which one action meets it.
 fn meets_step(table: &[u32], low: &[u32], high: &[u32], family: &[u64], s: u32) -> bool
-    requires { ⌜ (checked (now table) ≡ Fine) × (length (now family) ≡ lanes (game (now table) .states)) × Tabled (game (now table)) (now low) (now high) × (s < 2 ^ game (now table) .states) × DownClosed (isIn (now family)) ⌝ }
+    requires { ⌜ Ready (now table) (now low) (now high) × Stage (game (now table)) (now family)
+        × (s < 2 ^ game (now table) .states) ⌝ }
     ensures { λ r. ⌜ r ≡ step (game (now (table .entry))) (isIn (now (family .entry))) s ⌝ }
 {
     if s & tables::bad(table) != 0 {
@@ -82,7 +100,8 @@ fn pass_lane(
     lane: u32,
     covered: u64,
 ) -> u64
-    requires { ⌜ (checked (now table) ≡ Fine) × Stage (game (now table)) (now family) × Tabled (game (now table)) (now low) (now high) × (lane < length (now family)) × Sound (game (now table)) (isIn (now family)) lane covered ⌝ }
+    requires { ⌜ Ready (now table) (now low) (now high) × Stage (game (now table)) (now family)
+        × (lane < length (now family)) × Sound (game (now table)) (isIn (now family)) lane covered ⌝ }
     ensures { λ r. ⌜ Passed (game (now (table .entry))) (isIn (now (family .entry))) lane r ⌝ }
 {
     let mut found = covered;
@@ -102,8 +121,10 @@ fn pass_lane(
 
 // One application of the step: the sets that meet it, into `next`.
 fn pass(table: &[u32], low: &[u32], high: &[u32], family: &[u64], next: &mut [u64])
-    requires { ⌜ (checked (now table) ≡ Fine) × Stage (game (now table)) (now family) × Tabled (game (now table)) (now low) (now high) × (length (now next) ≡ length (now family)) ⌝ }
-    ensures { λ _. ⌜ Bits (game (now (table .entry)) .states) (step (game (now (table .entry))) (isIn (now (family .entry)))) (now (next .exit)) ⌝ }
+    requires { ⌜ Ready (now table) (now low) (now high) × Stage (game (now table)) (now family)
+        × (length (now next) ≡ length (now family)) ⌝ }
+    ensures { λ _. ⌜ Bits (game (now (table .entry)) .states) (step (game (now (table .entry))) (isIn (now (family .entry))))
+        (now (next .exit)) ⌝ }
 {
     let mut lane = family.len();
     while 0 < lane {
@@ -119,8 +140,7 @@ fn safely_enabled(table: &[u32], a: Action, i: State) -> bool
     ensures { λ r. ⌜ r ≡ safelyEnabled (game (now (table .entry))) (a .0) (i .0) ⌝ }
 {
     let bad = sets::member(tables::bad(table), i.0);
-    let blocked = tables::successors(table, a, i) == 0;
-    !blocked & !bad
+    tables::enabled(table, a, i) & !bad
 }
 
 // The states that are not bad and in which the action is enabled.
@@ -181,27 +201,27 @@ fn copy(from: &[u64], out: &mut [u64])
     }
 }
 
-// What the search finds: the families settled at k with the start sets in them, or a start set that is not good for k.
-pub enum Outcome {
+// How the search ends: the families settled at k with the start sets in them, or a start set is not good for k.
+pub enum Ended {
     Settled(u32),
     Lost(u32),
 }
 
 // Applies the step, from good for one round on, until a start set is lost or nothing changes.
-fn settle(table: &[u32], low: &[u32], high: &[u32], family: &mut [u64], next: &mut [u64]) -> Outcome
-    requires { ⌜ (checked (now table) ≡ Fine) × Reached (game (now table)) 1 (now family) × (length (now next) ≡ length (now family)) × Tabled (game (now table)) (now low) (now high) ⌝ }
+fn settle(table: &[u32], low: &[u32], high: &[u32], family: &mut [u64], next: &mut [u64]) -> Ended
+    requires { ⌜ Ready (now table) (now low) (now high) × Reached (game (now table)) 1 (now family)
+        × (length (now next) ≡ length (now family)) ⌝ }
     ensures { λ r. ⌜ Searched (game (now (table .entry))) r (now (family .exit)) ⌝ }
 {
-    let start = tables::start(table);
     let mut k: u32 = 1;
     loop {
         pass(table, low, high, family, next);
         let round = k + 1;
-        if !shown_in(table, next, start) {
-            return Outcome::Lost(round);
+        if !starts_in(table, next) {
+            return Ended::Lost(round);
         }
         if same(family, next) {
-            return Outcome::Settled(k);
+            return Ended::Settled(k);
         }
         copy(next, family);
         k = round;
@@ -215,17 +235,18 @@ pub fn search(
     high: &[u32],
     family: &mut [u64],
     next: &mut [u64],
-) -> Outcome
-    requires { ⌜ (checked (now table) ≡ Fine) × (length (now family) ≡ lanes (game (now table) .states)) × (length (now next) ≡ length (now family)) × Tabled (game (now table)) (now low) (now high) ⌝ }
+) -> Ended
+    requires { ⌜ Ready (now table) (now low) (now high)
+        × (length (now family) ≡ lanes (game (now table) .states)) × (length (now next) ≡ length (now family)) ⌝ }
     ensures { λ r. ⌜ Searched (game (now (table .entry))) r (now (family .exit)) ⌝ }
 {
     let all = sets::single(tables::states(table)) - 1;
     first_family(table, family);
-    if !shown_in(table, family, tables::start(table)) {
-        return Outcome::Lost(1);
+    if !starts_in(table, family) {
+        return Ended::Lost(1);
     }
     if families::has(family, all) {
-        return Outcome::Settled(0);
+        return Ended::Settled(0);
     }
     settle(table, low, high, family, next)
 }

@@ -5,18 +5,17 @@ use mathlib.Core.List.{List, [], _∷_}
 use Prim.Native.Nat.{ℕ}
 use lib.ListN.{set}
 use Rattle.sets.specs.Bounded.{any, first}
+use Rattle.games.specs.Places.{placeAt}
 use Rattle.games.specs.Words.{game}
 use Rattle.games.specs.Stations.{tableA, tableC}
 use Rattle.tables.specs.Layout.{bareWord}
 use Rattle.tables.specs.Check.{limitsHold, headRight, sizeChecked, placed, faulty, wordsChecked as tableWords, unseen, setsChecked, checked as tableChecked}
 use Rattle.cards.specs.Card.{automaton, headFits, cellNamed, cellFits, partFits, wordFits, wordsChecked, checked}
-use Rattle.show.specs.Show.{located, cardLocated, found, handed, partOf}
+use Rattle.pairs.specs.Pair.{agree, checked as pairChecked}
+use Rattle.pairs.proofs.Rows.{cardA}
+use Rattle.show.specs.Show.{located, found, handed, partOf}
 use Rattle.show.specs.declared.Shown.{Shown}
 use Rattle.show.specs.declared.Shown.the-variants.{Part, Refused}
-
--- A's card
-abbrev cardA : List ℕ
-cardA = 0x8021_0002 ∷ 0x9000_0000 ∷ 0xa000_0001 ∷ 0xb000_0001 ∷ 0xa010_0002 ∷ 0xb000_0000 ∷ []
 
 abbrev pub Row : Type 0
 Row = record { table : List ℕ; card : List ℕ; cell : ℕ; answer : Shown }
@@ -37,7 +36,7 @@ rows =
     ∷ []
 
 pub every-row : Rows rows
-unfolding rows found cardLocated located tableChecked sizeChecked tableWords setsChecked headRight limitsHold placed faulty unseen bareWord game first any automaton checked wordsChecked wordFits headFits cellNamed cellFits partFits
+unfolding rows found located pairChecked agree tableChecked sizeChecked tableWords setsChecked headRight limitsHold placed faulty unseen placeAt bareWord game first any automaton checked wordsChecked wordFits headFits cellNamed cellFits partFits
 every-row = row refl (row refl (row refl (row refl (row refl (row refl (row refl none))))))
 
 -- cell 1's action is dose: its words stand 28 bytes behind the table's first

@@ -1,39 +1,35 @@
 -- Laws of a cell's words: trying the actions, the cell for each observation.
 -- Assumes nothing.
-use mathlib.Core.Path.{_≡_, sym, ap, ap₂, _∙_, subst, fun-ext}
+use mathlib.Core.Path.{_≡_, sym, ap, ap₂, _∙_, subst}
 use mathlib.Core.Bool.{true, false}
 use mathlib.Core.List.{List, [], _∷_}
 use Prim.Native.Nat.{ℕ, _+_, _^_, _≤_, _<_}
 use native.Mathlib.Omega.{arith}
-use lib.ListN.{length, getD}
-use Rattle.sets.specs.Mask.{common, subset}
+use lib.ListN.{length}
+use Rattle.sets.specs.Mask.{common}
 use Rattle.sets.specs.Bounded.{Found, nothing, found, first, orElse, gather, all}
 use Rattle.sets.specs.Family.{holds}
-use Rattle.sets.proofs.Logic.{refuted, clash}
-use Rattle.sets.proofs.Bounded.{first-none, first-nothing, first-skip, first-stop, all-refuted}
-use Rattle.sets.proofs.Family.{at-mem, mem-at, holds-found, holds-intro}
-use Rattle.games.specs.Format.{maxActions, maxCells, maxObservations}
+use Rattle.sets.proofs.Logic.{clash}
+use Rattle.sets.proofs.Fills.{gather-ext}
+use Rattle.sets.proofs.Bounded.{first-nothing, first-skip, first-stop, all-refuted}
+use Rattle.games.specs.Format.{maxActions, maxObservations, kindCell, kindNext}
 use Rattle.games.specs.Game.{Game, Accepted}
-use Rattle.games.specs.Step.{after, meets, lowest, step, settling, good}
+use Rattle.games.specs.Step.{after, meets, lowest}
 use Rattle.games.specs.Verdict.{settled, cells}
-use Rattle.games.specs.Words.{word}
-use Rattle.games.specs.Automaton.{noCell, holding, chosen}
-use Rattle.games.proofs.Steps.{good-empty, step-action}
+use Rattle.games.specs.Fields.{word}
+use Rattle.games.specs.Automaton.{holding, chosen}
+use Rattle.games.proofs.Steps.{step-action}
 use Rattle.games.proofs.Settling.{cells-hold, settled-step}
-use Rattle.tables.specs.Walk.{walked}
-use Rattle.tables.specs.declared.Walked.{Walked}
-use Rattle.tables.specs.declared.Walked.the-variants.{Blocked, Post}
+use Rattle.moves.specs.declared.Posted.{Posted}
+use Rattle.moves.specs.declared.Posted.the-variants.{Blocked, Post}
+use Rattle.moves.specs.Halves.{posted}
+use Rattle.moves.proofs.Posting.{posted-post}
 use Rattle.search.specs.Stages.{shownIn}
 use Rattle.solver.specs.Writing.{SettledSet, setWords}
-use Rattle.search.proofs.Turns.{meets-blocked, meets-shown, walked-post}
-use Rattle.solver.proofs.Words.{holdsAt, holding-empty, holding-at}
-
-pub gather-ext : (n : ℕ) (p q : ℕ → List ℕ) → ((j : ℕ) → p j ≡ q j) → gather n p ≡ gather n q
-gather-ext n p q h = ap (gather n) (fun-ext h)
+use Rattle.search.proofs.Turns.{meets-blocked, meets-shown}
 
 -- no action below a meets the step
-pub record Trying (g : Game) (l : List ℕ) (s o last a : ℕ) (out : List ℕ) : Type 0 where
-  pub few : length l ≤ maxCells
+pub record Trying (g : Game) (s o last a : ℕ) (out : List ℕ) : Type 0 where
   pub observations-are : o ≡ g .observations
   pub observations-few : o ≤ maxObservations
   pub actions-are : last ≡ g .actions
@@ -44,13 +40,12 @@ pub record Trying (g : Game) (l : List ℕ) (s o last a : ℕ) (out : List ℕ) 
 
 -- the word of an observation when the successors are u
 abbrev pub nextWord : Game → List ℕ → ℕ → ℕ → ℕ
-nextWord g l u j = word 11 (holding l (common u (g .shown j))) j 0
+nextWord g l u j = word kindNext (holding l (common u (g .shown j))) j 0
 
-module _ (g : Game) (l : List ℕ) (s o last a : ℕ) (out : List ℕ) (w : Trying g l s o last a out) where
-  pub trying-next : meets g (settled g) s a ≡ false → a < last → Trying g l s o last (a + 1) out
+module _ (g : Game) (s o last a : ℕ) (out : List ℕ) (w : Trying g s o last a out) where
+  pub trying-next : meets g (settled g) s a ≡ false → a < last → Trying g s o last (a + 1) out
   trying-next h b =
       record {
-        few = w .few;
         observations-are = w .observations-are;
         observations-few = w .observations-few;
         actions-are = w .actions-are;
@@ -61,10 +56,9 @@ module _ (g : Game) (l : List ℕ) (s o last a : ℕ) (out : List ℕ) (w : Tryi
       }
 
   -- another content of the part
-  pub trying-with : (e : List ℕ) → length e ≡ 1 + o → Trying g l s o last a e
+  pub trying-with : (e : List ℕ) → length e ≡ 1 + o → Trying g s o last a e
   trying-with e h =
       record {
-        few = w .few;
         observations-are = w .observations-are;
         observations-few = w .observations-few;
         actions-are = w .actions-are;
@@ -86,7 +80,7 @@ module _ (g : Game) (l : List ℕ) (s o last a : ℕ) (out : List ℕ) (w : Tryi
       let h = step-action g (settled g) s (sym (settled-step g A s (c .below)) ∙ c .is-settled) in
       clash (h .2) (first-nothing a (meets g (settled g) s) (w .none) (h .0) (omega (arith, w .actions-are, h .1)))
 
-module _ (g : Game) (s a : ℕ) (r : Walked) (is : r ≡ walked g s a) where
+module _ (g : Game) (s a : ℕ) (r : Posted) (is : r ≡ posted g s a) where
   pub blocked-fails : r ≡ Blocked → meets g (settled g) s a ≡ false
   blocked-fails e = sym (meets-blocked g (settled g) s a r is e)
 
@@ -102,47 +96,21 @@ module _ (g : Game) (s a : ℕ) (r : Walked) (is : r ≡ walked g s a) where
 
     pub after-is : (j : ℕ) → common u (g .shown j) ≡ after g s a j
     unfolding after
-    after-is j = ap (λ (v : ℕ). common v (g .shown j)) (sym (walked-post g (settled g) s a r is u e .1))
+    after-is j = ap (λ (v : ℕ). common v (g .shown j)) (sym (posted-post g s a r is u e .1))
 
+-- the cell's set holds t where t is settled
 module _ (g : Game) (A : Accepted g) (l : List ℕ) (listed : l ≡ cells g) (t : ℕ) (below : t < 2 ^ g .states) where
-  -- no cell holds t
-  pub uncovered : first (length l) (holdsAt l t) ≡ nothing → settled g t ≡ false
-  uncovered h =
-      sym (cells-hold g A t below)
-      ∙ refuted (holds (cells g) t)
-      (λ e.
-      let w = holds-found (cells g) t e in
-      let c = mem-at (cells g) (w .0) (w .1) in
-      clash
-      (subst (λ (k : List ℕ). holdsAt k t (c .0) ≡ true) (sym listed) (subst (λ (x : ℕ). subset t x ≡ true) (sym (c .2)) (w .2)))
-      (first-nothing (length l) (holdsAt l t) h (c .0) (subst (λ (k : List ℕ). c .0 < length k) (sym listed) (c .1))))
+  pub settled-held : settled g t ≡ holds l t
+  settled-held = sym (cells-hold g A t below) ∙ ap (λ (k : List ℕ). holds k t) (sym listed)
 
-  -- where t is not settled, none does
-  pub unsettled-none : settled g t ≡ false → first (length l) (holdsAt l t) ≡ nothing
-  unsettled-none h =
-      first-none (length l) (holdsAt l t)
-      (λ c b. refuted (holdsAt l t c) (λ e. clash (holds-intro l t (getD l c 0) (at-mem l c b) e) (subst (λ (k : List ℕ). holds k t ≡ false) (sym listed) (cells-hold g A t below ∙ h))))
-
-  -- the cell that is named: none for no state, else the lowest that holds t
-  pub named-empty : t ≡ 0 → (noCell ≡ holding l t) × (settled g t ≡ true)
-  unfolding settled
-  named-empty e = (holding-empty l t e, subst (λ (x : ℕ). good g (settling g) x ≡ true) (sym e) (good-empty g A (settling g)))
-
-  pub named-at : (t ≡ 0 → ⊥) → (c : ℕ) → c < length l → first c (holdsAt l t) ≡ nothing → holdsAt l t c ≡ true → (c ≡ holding l t) × (settled g t ≡ true)
-  named-at some c b h e = (
-    holding-at l t some c b h e,
-    sym (cells-hold g A t below)
-        ∙ subst (λ (k : List ℕ). holds k t ≡ true) listed (holds-intro l t (getD l c 0) (at-mem l c b) e),
-  )
-
-pub set-words : (g : Game) (l : List ℕ) → l ≡ cells g → (s a u o x : ℕ) → o ≡ g .observations → chosen g s ≡ a → ((j : ℕ) → common u (g .shown j) ≡ after g s a j) → x ≡ word 10 s 0 a → x ∷ gather o (λ j. nextWord g l u j ∷ []) ≡ setWords g s
+pub set-words : (g : Game) (l : List ℕ) → l ≡ cells g → (s a u o x : ℕ) → o ≡ g .observations → chosen g s ≡ a → ((j : ℕ) → common u (g .shown j) ≡ after g s a j) → x ≡ word kindCell s 0 a → x ∷ gather o (λ j. nextWord g l u j ∷ []) ≡ setWords g s
 unfolding setWords
 set-words g l e s a u o x h c f i =
-    ap₂ (λ (y : ℕ) (r : List ℕ). y ∷ r) (i ∙ ap (word 10 s 0) (sym c))
+    ap₂ (λ (y : ℕ) (r : List ℕ). y ∷ r) (i ∙ ap (word kindCell s 0) (sym c))
     (ap₂ (λ (n : ℕ) (k : List ℕ). gather n (λ j. nextWord g k u j ∷ [])) h e
-    ∙ gather-ext (g .observations) (λ j. nextWord g (cells g) u j ∷ []) (λ j. word 11 (holding (cells g) (after g s (chosen g s) j)) j 0 ∷ [])
-    (λ j. ap (λ (t : ℕ). word 11 (holding (cells g) t) j 0 ∷ []) (f j ∙ ap (λ (b : ℕ). after g s b j) (sym c))))
+    ∙ gather-ext (g .observations) (λ j. nextWord g (cells g) u j ∷ []) (λ j. word kindNext (holding (cells g) (after g s (chosen g s) j)) j 0 ∷ [])
+    (λ j b. ap (λ (t : ℕ). word kindNext (holding (cells g) t) j 0 ∷ []) (f j ∙ ap (λ (b : ℕ). after g s b j) (sym c))))
 
-pub next-word : (g : Game) (l : List ℕ) (u j r c b t : ℕ) → r ≡ word 11 c j 0 → c ≡ holding l t → t ≡ common u b → b ≡ g .shown j → r ≡ nextWord g l u j
+pub next-word : (g : Game) (l : List ℕ) (u j r c b t : ℕ) → r ≡ word kindNext c j 0 → c ≡ holding l t → t ≡ common u b → b ≡ g .shown j → r ≡ nextWord g l u j
 next-word g l u j r c b t is named cut shown =
-    is ∙ ap (λ (x : ℕ). word 11 x j 0) (named ∙ ap (holding l) (cut ∙ ap (common u) shown))
+    is ∙ ap (λ (x : ℕ). word kindNext x j 0) (named ∙ ap (holding l) (cut ∙ ap (common u) shown))

@@ -1,4 +1,5 @@
 pub mod Words
+pub mod Index
 pub mod Choosing
 pub mod Carding
 pub mod Answers

@@ -1,22 +1,22 @@
 -- What solve does: the answer and every lent word (document 01, "Entries", "Order" and the rule on lent words).
 -- Assumes nothing.
 use mathlib.Core.Path.{_≡_}
-use mathlib.Core.Bool.{Bool, cond}
-use mathlib.Core.Logic.{_↔_}
+use mathlib.Core.Bool.{cond}
+use mathlib.Core.Logic.{_↔_, _⊎_}
 use mathlib.Core.List.{List, _++_}
 use Prim.Native.Nat.{ℕ, _*_, _^_, _≤_}
 use lib.Dec.{ltb}
 use lib.ListN.{length, take, drop}
 use Rattle.sets.specs.Bounded.{fill}
+use Rattle.games.specs.Answers.{unless, Leaves, leaves}
 use Rattle.games.specs.Game.{Game}
-use Rattle.games.specs.Play.{Strategy, Play, PlayOf, Under, Clear, seen}
+use Rattle.games.specs.Play.{Strategy, Play, PlayOf, Clear, seen}
 use Rattle.games.specs.Verdict.{Verdict, Yes, No, verdict, cells}
 use Rattle.games.specs.Automaton.{card, cellAfter, actionAfter}
 use Rattle.games.specs.Words.{game, cardLength, cardWords}
-use Rattle.games.specs.Demands.{Follows, Second, Third}
+use Rattle.games.specs.Demands.{UnderCard, Second, Third}
+use Rattle.games.specs.declared.Checked.the-variants.{Fine}
 use Rattle.tables.specs.Check.{checked}
-use Rattle.tables.specs.declared.Checked.{Checked}
-use Rattle.tables.specs.declared.Checked.the-variants.{Fine, Refused as Stopped}
 use Rattle.cards.specs.Card.{automaton}
 use Rattle.cards.specs.Run.{ran, entered}
 use Rattle.solver.specs.declared.Answer.{Answer}
@@ -26,64 +26,74 @@ use Rattle.solver.specs.declared.Answer.the-variants.{Yes as SaysYes, No
 abbrev pub workWords : ℕ → ℕ
 workWords n = 4 * 2 ^ n
 
--- an answer and the words of the card room after it
-pub record Leaves : Type 0 where
-  pub answer : Answer
-  pub card : List ℕ
-
-abbrev pub leaves : Answer → List ℕ → Leaves
-leaves r d = record { answer = r; card = d }
-
 -- the words of the card of a yes
 abbrev pub cardOf : Game → List ℕ
 cardOf g = cardWords (card g) (g .actions) (g .observations)
 
 -- after the search: a yes writes the card at the front of the card room if that has room (9), a no writes nothing
-unfoldable pub byVerdict : Game → List ℕ → Verdict → Leaves
+unfoldable pub byVerdict : Game → List ℕ → Verdict → Leaves Answer (List ℕ)
 byVerdict g d (Yes settled m) =
     let need = cardLength m (g .observations) in
     cond (ltb (length d) need) (leaves (Refused 9 need) d) (leaves (SaysYes settled m) (cardOf g ++ drop need d))
 byVerdict g d (No k) = leaves (SaysNo k) d
 
--- an answer, and the words of the work and of the card room after it
-pub record Outcome : Type 0 where
-  pub answer : Answer
+-- the two buffers that are lent: the work and the card room
+pub record Rooms : Type 0 where
   pub work : List ℕ
   pub card : List ℕ
 
-abbrev pub outcome : Answer → List ℕ → List ℕ → Outcome
-outcome r work d = record { answer = r; work = work; card = d }
+abbrev pub rooms : (work card : List ℕ) → Rooms
+rooms work d = record { work = work; card = d }
 
-abbrev pub with : List ℕ → Leaves → Outcome
-with work l = outcome (l .answer) work (l .card)
-
--- the table checks, 8, the search, 9; a search leaves the first words of the work at 0
-unfoldable pub afterCheck : Checked → Game → (work card : List ℕ) → Outcome
-afterCheck (Stopped number place) g work d = outcome (Refused number place) work d
-afterCheck Fine g work d =
+-- for an accepted table: 8, the search, 9; a search leaves the first words of the work at 0
+unfoldable pub searched : Game → (work card : List ℕ) → Leaves Answer Rooms
+searched g work d =
     let need = workWords (g .states) in
-    cond (ltb (length work) need) (outcome (Refused 8 need) work d) (with (fill need 0 work) (byVerdict g d (verdict g)))
+    let done = byVerdict g d (verdict g) in
+    cond (ltb (length work) need) (leaves (Refused 8 need) (rooms work d)) (leaves (done .answer) (rooms (fill need 0 work) (done .left)))
 
-unfoldable pub solved : (table work card : List ℕ) → Outcome
-solved w work d = afterCheck (checked w) (game w) work d
+-- the table checks come first
+unfoldable pub solved : (table work card : List ℕ) → Leaves Answer Rooms
+solved w work d = unless (checked w) (λ number place. leaves (Refused number place) (rooms work d)) (searched (game w) work d)
 
--- an accepted table, with room enough
-pub record Room (w work d : List ℕ) : Type 0 where
+-- ---- the demands on the answer
+
+-- the answer is yes; it is a refusal by 9
+abbrev pub IsYes : Answer → Type 0
+IsYes r = (settled : ℕ) × (m : ℕ) × (r ≡ SaysYes settled m)
+
+abbrev pub IsNine : Answer → Type 0
+IsNine r = (need : ℕ) × (r ≡ Refused 9 need)
+
+-- some strategy keeps every play clear
+abbrev pub Winnable : Game → Type 0
+Winnable g = (ρ : Strategy g) × Clear g ρ
+
+-- an accepted table, with work enough; and with room for its card
+pub record WorkRoom (w work : List ℕ) : Type 0 where
   pub fine : checked w ≡ Fine
-  pub work-room : workWords (game w .states) ≤ length work
-  pub card-room : cardLength (length (cells (game w))) (game w .observations) ≤ length d
+  pub enough : workWords (game w .states) ≤ length work
+
+abbrev pub CardRoom : (w card : List ℕ) → Type 0
+CardRoom w d = cardLength (length (cells (game w))) (game w .observations) ≤ length d
 
 -- the card that stands at the front of the card room after a yes with m cells
 abbrev pub written : List ℕ → ℕ → List ℕ → List ℕ
 written w m d = take (cardLength m (game w .observations)) d
 
--- what solve promises of its answer, over every strategy and every play (the demands)
+-- a card's words keep every play clear, and on every play under the actions they give they never meet 12, 13 or 14
+pub record Kept (g : Game) (words : List ℕ) : Type 0 where
+  pub second : Second g (automaton words)
+  pub runs : (p : Play) → PlayOf g p → UnderCard (automaton words) p →
+      ran words (seen p) ≡ entered (cellAfter (automaton words) (seen p)) (actionAfter (automaton words) (seen p))
+
+-- what solve promises of its answer, over every strategy and every play
 pub record Promise (w work card : List ℕ) (r : Answer) (left : List ℕ) : Type 0 where
-  -- with room enough the answer is yes if and only if some strategy keeps every play clear
-  pub yes-iff : Room w work card → ((settled : ℕ) × (m : ℕ) × (r ≡ SaysYes settled m)) ↔ ((ρ : Strategy (game w)) × Clear (game w) ρ)
+  -- with work enough the answer is yes, or a refusal by 9, if and only if some strategy keeps every play clear
+  pub nine-iff : WorkRoom w work → (IsYes r ⊎ IsNine r) ↔ Winnable (game w)
+  -- with room for the card it is yes if and only if some strategy does
+  pub yes-iff : WorkRoom w work → CardRoom w card → IsYes r ↔ Winnable (game w)
   -- the card written with a yes keeps every play clear
-  pub yes-card : (settled m : ℕ) → r ≡ SaysYes settled m → Second (game w) (automaton (written w m left))
-  -- and on every play under the actions it gives it never meets 12, 13 or 14
-  pub yes-runs : (settled m : ℕ) → r ≡ SaysYes settled m → (ρ : Strategy (game w)) → Follows ρ (automaton (written w m left)) → (p : Play) → PlayOf (game w) p → Under ρ p → ran (written w m left) (seen p) ≡ entered (cellAfter (automaton (written w m left)) (seen p)) (actionAfter (automaton (written w m left)) (seen p))
+  pub yes-card : (settled m : ℕ) → r ≡ SaysYes settled m → Kept (game w) (written w m left)
   -- the third demand
   pub no-round : (k : ℕ) → r ≡ SaysNo k → Third (game w) k

@@ -1,27 +1,27 @@
 // The solver: the search on sets, and the card.
 ghost use mathlib.Core.Path.{_≡_};
-ghost use Prim.Native.Nat.{_+_, _<_, _≤_, _^_};
+ghost use Prim.Native.Nat.{_/_, _<_, _≤_, _^_};
 ghost use mathlib.Core.List.{_++_};
 ghost use lib.ListN.{length, drop};
-ghost use Rattle.games.specs.Format.{maxStates, maxCells};
-ghost use Rattle.games.specs.Words.{game, cardLength};
+ghost use Rattle.games.specs.Format.{maxStates};
+ghost use Rattle.games.specs.Answers.{leaves};
+ghost use Rattle.games.specs.Words.{game, frontLength, partLength, cardLength};
 ghost use Rattle.tables.specs.Check.{checked};
-ghost use Rattle.tables.specs.declared.Checked.the-variants.{Fine};
-ghost use Rattle.families.specs.Bits.{maxLanes, lanes as lanesOf};
-ghost use Rattle.moves.specs.Halves.{sideWords, Tabled};
-ghost use Rattle.games.specs.Automaton.{holding as holdingCell};
-ghost use Rattle.games.specs.Verdict.{cells as cellsOf, verdict, Yes};
-ghost use Rattle.solver.specs.Solve.{workWords, leaves, byVerdict, cardOf, outcome, solved, Promise};
-ghost use Rattle.solver.specs.Writing.{Writing, AtHand, Passed, Starts, Scanning, NoneBefore, SettledSet, frontWords, setWords};
+ghost use Rattle.games.specs.declared.Checked.the-variants.{Fine};
+ghost use Rattle.families.specs.Bits.{laneSets, maxLanes, lanes as lanesOf, Bits};
+ghost use Rattle.moves.specs.Halves.{sideWords, Tabled, Ready};
+ghost use Rattle.games.specs.Verdict.{settled as settledFamily, cells as cellsOf, verdict, Yes};
+ghost use Rattle.solver.specs.Solve.{workWords, byVerdict, cardOf, rooms, solved, Promise};
+ghost use Rattle.solver.specs.Writing.{heldBy, named as namedBy, Starts, Index, Listed, SettledSet, frontWords, setWords};
 use families::LANE_SETS;
 use families::MAX_LANES;
 use games::Action;
 use games::Cell;
+use games::Checked;
 use games::NO_CELL;
 use games::Observation;
-use search::Outcome;
-use tables::Checked;
-use tables::Walked;
+use moves::Posted;
+use search::Ended;
 
 // The number of sets of n states.
 fn set_count(n: u32) -> usize
@@ -29,60 +29,6 @@ fn set_count(n: u32) -> usize
     ensures { λ r. ⌜ r ≡ 2 ^ n ⌝ }
 {
     1usize << n
-}
-
-// The lowest-numbered cell whose set holds s, or NO_CELL if s has no state.
-fn holding(cells: &[u32], s: u32) -> u32
-    requires { ⌜ length (now cells) ≤ maxCells ⌝ }
-    ensures { λ r. ⌜ r ≡ holdingCell (now (cells .entry)) s ⌝ }
-{
-    if s == 0 {
-        return NO_CELL;
-    }
-    let mut i: usize = 0;
-    while i < cells.len() {
-        if s & cells[i] == s {
-            return i as u32;
-        }
-        i += 1;
-    }
-    NO_CELL
-}
-
-// The card's head and first cells.
-fn write_front(table: &[u32], cells: &[u32], out: &mut [u32])
-    requires { ⌜ Writing (now table) (now cells) (now out) ⌝ }
-    ensures { λ _. ⌜ now (out .exit) ≡ frontWords (game (now (table .entry))) ⌝ }
-{
-    let start = tables::start(table);
-    let o = tables::observations(table);
-    let mut j: u32 = 0;
-    while j < o {
-        let first = holding(cells, start & tables::shown(table, Observation(j)));
-        out[1 + j as usize] = cards::naming(games::KIND_FIRST, Cell(first), Observation(j));
-        j += 1;
-    }
-    out[0] = games::word(
-        games::KIND_CARD,
-        cells.len() as u32,
-        o,
-        tables::actions(table),
-    );
-}
-
-// The first cell from `from` on whose mask is `bound` or more.
-fn first_from(cells: &[u32], from: usize, bound: u32) -> usize
-    requires { ⌜ Passed (now cells) bound from ⌝ }
-    ensures { λ r. ⌜ Passed (now (cells .entry)) bound r ⌝ }
-{
-    let mut i = from;
-    while i < cells.len() {
-        if bound <= cells[i] {
-            return i;
-        }
-        i += 1;
-    }
-    i
 }
 
 // For each lane of sets, the first cell that is not below it.
@@ -93,21 +39,75 @@ fn mark_starts(cells: &[u32], starts: &mut [usize])
     let mut at: usize = 0;
     let mut lane: usize = 0;
     while lane < starts.len() {
-        at = first_from(cells, at, LANE_SETS * lane as u32);
+        at = sets::first_from(cells, at, LANE_SETS * lane as u32);
         starts[lane] = at;
         lane += 1;
     }
 }
 
-// Where to begin looking for the cell that holds t: no cell before it does. A set that is not settled is in none, and a cell below t does not hold it.
-fn scan_from(table: &[u32], family: &[u64], starts: &[usize], cells: &[u32], t: u32) -> usize
-    requires { ⌜ Scanning (game (now table)) (now family) (now starts) (now cells) t ⌝ }
-    ensures { λ r. ⌜ NoneBefore (now (cells .entry)) t r ⌝ }
+// What holds a set of states.
+pub enum Held {
+    // the lowest-numbered cell whose set holds it, or NO_CELL where it has no state
+    By(Cell),
+    // no cell's set does
+    Nowhere,
+}
+
+// The cell that holds t. A set that is not in the family is in no cell, and no cell before the start of t's lane holds t.
+fn holding(family: &[u64], starts: &[usize], cells: &[u32], t: u32) -> Held
+    requires { ⌜ Index (now family) (now starts) (now cells) × (t / laneSets < length (now family)) ⌝ }
+    ensures { λ r. ⌜ r ≡ heldBy (now (cells .entry)) t ⌝ }
 {
-    if families::has(family, t) {
-        return starts[(t / LANE_SETS) as usize];
+    if !families::has(family, t) {
+        return Held::Nowhere;
     }
-    cells.len()
+    if t == 0 {
+        return Held::By(Cell(NO_CELL));
+    }
+    let mut i = starts[(t / LANE_SETS) as usize];
+    while i < cells.len() {
+        if t & cells[i] == t {
+            return Held::By(Cell(i as u32));
+        }
+        i += 1;
+    }
+    Held::Nowhere
+}
+
+// The cell that a first word names.
+fn named(held: Held) -> Cell
+    ensures { λ r. ⌜ r .0 ≡ namedBy held ⌝ }
+{
+    match held {
+        Held::By(cell) => cell,
+        Held::Nowhere => Cell(NO_CELL),
+    }
+}
+
+// The card's head and first cells.
+fn write_front(table: &[u32], family: &[u64], starts: &[usize], cells: &[u32], out: &mut [u32])
+    requires { ⌜ Listed (now table) (now family) (now starts) (now cells)
+        × (length (now out) ≡ frontLength (game (now table) .observations)) ⌝ }
+    ensures { λ _. ⌜ now (out .exit) ≡ frontWords (game (now (table .entry))) ⌝ }
+{
+    let sets = tables::start_sets(table);
+    let mut j: u32 = 0;
+    while j < sets {
+        let first = named(holding(
+            family,
+            starts,
+            cells,
+            tables::start_set(table, Observation(j)),
+        ));
+        out[1 + j as usize] = cards::naming(games::KIND_FIRST, first, Observation(j));
+        j += 1;
+    }
+    out[0] = games::word(
+        games::KIND_CARD,
+        cells.len() as u32,
+        tables::observations(table),
+        tables::actions(table),
+    );
 }
 
 // The words of the cell with the set s. Its action is the lowest that leads, for every observation, into a cell.
@@ -121,31 +121,26 @@ fn write_cell(
     s: u32,
     out: &mut [u32],
 )
-    requires { ⌜ Writing (now table) (now cells) (now out) × SettledSet (game (now table)) s × AtHand (game (now table)) (now low) (now high) (now family) × Starts (now cells) (now starts) ⌝ }
+    requires { ⌜ Listed (now table) (now family) (now starts) (now cells) × Tabled (game (now table)) (now low) (now high)
+        × SettledSet (game (now table)) s × (length (now out) ≡ partLength (game (now table) .observations)) ⌝ }
     ensures { λ _. ⌜ now (out .exit) ≡ setWords (game (now (table .entry))) s ⌝ }
 {
     let o = tables::observations(table);
     'actions: for a in 0..tables::actions(table) {
-        let walked = moves::post(table, low, high, s, Action(a));
-        let Walked::Post(u) = walked else {
+        let posted = moves::post(table, low, high, s, Action(a));
+        let Posted::Post(u) = posted else {
             continue 'actions;
         };
         for j in 0..o {
             let t = u & tables::shown(table, Observation(j));
-            let mut i = scan_from(table, family, starts, cells, t);
             let cell = loop {
-                if t == 0 {
-                    break NO_CELL;
-                }
-                if i == cells.len() {
+                let held = holding(family, starts, cells, t);
+                let Held::By(holder) = held else {
                     continue 'actions;
-                }
-                if t & cells[i] == t {
-                    break i as u32;
-                }
-                i += 1;
+                };
+                break holder;
             };
-            out[1 + j as usize] = cards::naming(games::KIND_NEXT, Cell(cell), Observation(j));
+            out[1 + j as usize] = cards::naming(games::KIND_NEXT, cell, Observation(j));
         }
         out[0] = cards::picking(s, Action(a));
         return;
@@ -162,14 +157,18 @@ fn write_card(
     cells: &[u32],
     card: &mut [u32],
 )
-    requires { ⌜ (checked (now table) ≡ Fine) × (now cells ≡ cellsOf (game (now table))) × (cardLength (length (now cells)) (game (now table) .observations) ≤ length (now card)) × AtHand (game (now table)) (now low) (now high) (now family) × Starts (now cells) (now starts) ⌝ }
-    ensures { λ _. ⌜ now (card .exit) ≡ cardOf (game (now (table .entry))) ++ drop (cardLength (length (now (cells .entry))) (game (now (table .entry)) .observations)) (now (card .entry)) ⌝ }
+    requires { ⌜ Listed (now table) (now family) (now starts) (now cells) × Tabled (game (now table)) (now low) (now high)
+        × (cardLength (length (now cells)) (game (now table) .observations) ≤ length (now card)) ⌝ }
+    ensures { λ _. ⌜ now (card .exit) ≡ cardOf (game (now (table .entry)))
+        ++ drop (cardLength (length (now (cells .entry))) (game (now (table .entry)) .observations)) (now (card .entry)) ⌝ }
 {
-    let part = 1 + tables::observations(table) as usize;
-    write_front(table, cells, &mut card[..part]);
+    let o = tables::observations(table);
+    let front = games::front_length(o);
+    let part = games::part_length(o);
+    write_front(table, family, starts, cells, &mut card[..front]);
     let mut c: usize = 0;
     while c < cells.len() {
-        let at = part + c * part;
+        let at = cards::cell_place(o, Cell(c as u32));
         write_cell(
             table,
             low,
@@ -202,17 +201,17 @@ fn grant(
     card: &mut [u32],
     settled: u32,
 ) -> Answer
-    requires { ⌜ (checked (now table) ≡ Fine) × (now cells ≡ cellsOf (game (now table))) × AtHand (game (now table)) (now low) (now high) (now family) × Starts (now cells) (now starts) ⌝ }
-    ensures { λ r. ⌜ leaves r (now (card .exit)) ≡ byVerdict (game (now (table .entry))) (now (card .entry)) (Yes settled (length (now (cells .entry)))) ⌝ }
+    requires { ⌜ Listed (now table) (now family) (now starts) (now cells) × Tabled (game (now table)) (now low) (now high) ⌝ }
+    ensures { λ r. ⌜ leaves r (now (card .exit))
+        ≡ byVerdict (game (now (table .entry))) (now (card .entry)) (Yes settled (length (now (cells .entry)))) ⌝ }
 {
-    let part = 1 + tables::observations(table) as usize;
-    let m = cells.len();
-    let need = part + m * part;
+    let m = cells.len() as u32;
+    let need = games::card_length(m, tables::observations(table));
     if card.len() < need {
         return Answer::Refused(9, need);
     }
     write_card(table, low, high, family, starts, cells, card);
-    Answer::Yes(settled, m as u32)
+    Answer::Yes(settled, m)
 }
 
 // The cells of a yes in front of the work, and the card from them.
@@ -225,8 +224,11 @@ fn accept(
     card: &mut [u32],
     settled: u32,
 ) -> Answer
-    requires { ⌜ (checked (now table) ≡ Fine) × AtHand (game (now table)) (now low) (now high) (now family) × (length (now work) ≡ workWords (game (now table) .states)) ⌝ }
-    ensures { λ r. ⌜ leaves r (now (card .exit)) ≡ byVerdict (game (now (table .entry))) (now (card .entry)) (Yes settled (length (cellsOf (game (now (table .entry)))))) ⌝ }
+    requires { ⌜ Ready (now table) (now low) (now high)
+        × Bits (game (now table) .states) (settledFamily (game (now table))) (now family)
+        × (length (now work) ≡ workWords (game (now table) .states)) ⌝ }
+    ensures { λ r. ⌜ leaves r (now (card .exit))
+        ≡ byVerdict (game (now (table .entry))) (now (card .entry)) (Yes settled (length (cellsOf (game (now (table .entry)))))) ⌝ }
 {
     let m = families::collect(family, tables::states(table), work);
     let mut starts = [0usize; MAX_LANES];
@@ -244,13 +246,16 @@ fn answer_with(
     work: &mut [u32],
     card: &mut [u32],
 ) -> Answer
-    requires { ⌜ (checked (now table) ≡ Fine) × (length (now family) ≡ lanesOf (game (now table) .states)) × (length (now next) ≡ length (now family)) × Tabled (game (now table)) (now low) (now high) × (length (now work) ≡ workWords (game (now table) .states)) ⌝ }
-    ensures { λ r. ⌜ leaves r (now (card .exit)) ≡ byVerdict (game (now (table .entry))) (now (card .entry)) (verdict (game (now (table .entry)))) ⌝ }
+    requires { ⌜ Ready (now table) (now low) (now high)
+        × (length (now family) ≡ lanesOf (game (now table) .states)) × (length (now next) ≡ length (now family))
+        × (length (now work) ≡ workWords (game (now table) .states)) ⌝ }
+    ensures { λ r. ⌜ leaves r (now (card .exit))
+        ≡ byVerdict (game (now (table .entry))) (now (card .entry)) (verdict (game (now (table .entry)))) ⌝ }
 {
     let found = search::search(table, low, high, family, next);
     match found {
-        Outcome::Lost(k) => Answer::No(k),
-        Outcome::Settled(k) => accept(table, low, high, family, work, card, k),
+        Ended::Lost(k) => Answer::No(k),
+        Ended::Settled(k) => accept(table, low, high, family, work, card, k),
     }
 }
 
@@ -271,7 +276,8 @@ fn room() -> [u64; MAX_LANES]
 // The successors of every set at hand, then the search.
 fn decide(table: &[u32], work: &mut [u32], card: &mut [u32]) -> Answer
     requires { ⌜ (checked (now table) ≡ Fine) × (length (now work) ≡ workWords (game (now table) .states)) ⌝ }
-    ensures { λ r. ⌜ leaves r (now (card .exit)) ≡ byVerdict (game (now (table .entry))) (now (card .entry)) (verdict (game (now (table .entry)))) ⌝ }
+    ensures { λ r. ⌜ leaves r (now (card .exit))
+        ≡ byVerdict (game (now (table .entry))) (now (card .entry)) (verdict (game (now (table .entry)))) ⌝ }
 {
     let lanes = families::lane_count(tables::states(table));
     let mut low = side();
@@ -292,7 +298,8 @@ fn decide(table: &[u32], work: &mut [u32], card: &mut [u32]) -> Answer
 
 // Solve: the verdict on a table and the card of a yes.
 pub fn solve(table: &[u32], work: &mut [u32], card: &mut [u32]) -> Answer
-    ensures determined { λ r. ⌜ outcome r (now (work .exit)) (now (card .exit)) ≡ solved (now (table .entry)) (now (work .entry)) (now (card .entry)) ⌝ }
+    ensures determined { λ r. ⌜ leaves r (rooms (now (work .exit)) (now (card .exit)))
+        ≡ solved (now (table .entry)) (now (work .entry)) (now (card .entry)) ⌝ }
     ensures promised { λ r. ⌜ Promise (now (table .entry)) (now (work .entry)) (now (card .entry)) r (now (card .exit)) ⌝ }
 {
     let checked = tables::check(table);

@@ -1,60 +1,61 @@
+-- `moves::post` meets its contract: the two entries united are the marked successors of the set, and only a mark is so large.
+-- Assumes nothing.
 use native.Mathlib.Omega.{arith}
 use Rattle.games.specs.Words.{game}
-use Rattle.tables.proofs.Checks.{accepted}
-use Rattle.moves.proofs.Halving.{few-actions, few-states, high-small, walked-open, walked-shut}
+use Rattle.tables.proofs.Checks.{sized, accepted}
+use Rattle.tables.proofs.Bounds.{few-actions, few-states}
+use Rattle.moves.proofs.Halving.{high-small, posted-open, posted-shut}
 use borrow.Author.Needs.{needs}
 use Rattle.moves.proofs.post.Statement.{statement}
 use Rattle.moves.proofs.post.Tie as tie
 
 mul-at : tie.Need-mul-at
-mul-at c = omega (arith, few-actions (c .before .args .table .now) (c .before .pre .0), c .before .pre .3)
-
-cast-at : tie.Need-cast-at
-cast-at c = search needs
-
-cast-u : tie.Need-cast-u
-cast-u c = search needs
-
-add-u : tie.Need-add-u
-add-u c = search needs
-
-mul-u : tie.Need-mul-u
-mul-u c = search needs
+mul-at c = let start = c .before in omega (arith, few-actions (start .args .table .now) (sized (start .args .table .now) (start .pre .0 .fine)), start .pre .2)
 
 shared-slice-read-u : tie.Need-shared-slice-read-u
-shared-slice-read-u c = omega (arith, few-actions (c .before .before .args .table .now) (c .before .before .pre .0), c .before .before .pre .3, c .before .before .pre .1 .low-size)
-
-cast-u-2 : tie.Need-cast-u-2
-cast-u-2 c = search needs
-
-add-u-2 : tie.Need-add-u-2
-add-u-2 c = search needs
-
-mul-u-2 : tie.Need-mul-u-2
-mul-u-2 c = search needs
+shared-slice-read-u c =
+    let start = c .before .before in
+    let r = start .pre .0 in
+    omega (arith, few-actions (start .args .table .now) (sized (start .args .table .now) (r .fine)), start .pre .2, r .tabled .low-size)
 
 shared-slice-read-u-2 : tie.Need-shared-slice-read-u-2
-shared-slice-read-u-2 c = omega (arith, few-actions (c .before .before .before .args .table .now) (c .before .before .before .pre .0), c .before .before .before .pre .3, c .before .before .before .pre .1 .high-size, high-small (c .before .before .before .args .table .now) (c .before .before .before .pre .0) (c .before .before .before .args .s) (c .before .before .before .pre .2))
+shared-slice-read-u-2 c =
+    let start = c .before .before .before in
+    let w = start .args .table .now in
+    let r = start .pre .0 in
+    omega (arith, few-actions w (sized w (r .fine)), start .pre .2, r .tabled .high-size, high-small w (r .fine) (start .args .s) (start .pre .1))
 
 returns : tie.Need-returns
-returns c = walked-open (game (c .before .before .before .before .args .table .now)) (accepted (c .before .before .before .before .args .table .now) (c .before .before .before .before .pre .0)) (few-states (c .before .before .before .before .args .table .now) (c .before .before .before .before .pre .0)) (c .before .before .before .before .args .s) (c .before .before .before .before .args .a .0) (c .before .before .before .before .pre .3) _ (c .before .before .before .before .pre .1 .at (c .before .before .before .before .args .a .0) (c .before .before .before .before .args .s) (c .before .before .before .before .pre .3) (c .before .before .before .before .pre .2)) (c .if1 .taken)
+returns c =
+    let start = c .before .before .before .before in
+    let w = start .args .table .now in
+    let s = start .args .s in
+    let a = start .args .a .0 in
+    let r = start .pre .0 in
+    posted-open (game w) (accepted w (r .fine)) (few-states w (sized w (r .fine))) s a (start .pre .2) _ (r .tabled .at a s (start .pre .2) (start .pre .1)) (c .if1 .taken)
 
 returns-2 : tie.Need-returns-2
-returns-2 c = walked-shut (game (c .before .before .before .before .args .table .now)) (accepted (c .before .before .before .before .args .table .now) (c .before .before .before .before .pre .0)) (few-states (c .before .before .before .before .args .table .now) (c .before .before .before .before .pre .0)) (c .before .before .before .before .args .s) (c .before .before .before .before .args .a .0) (c .before .before .before .before .pre .3) _ (c .before .before .before .before .pre .1 .at (c .before .before .before .before .args .a .0) (c .before .before .before .before .args .s) (c .before .before .before .before .pre .3) (c .before .before .before .before .pre .2)) (c .if1 .left)
+returns-2 c =
+    let start = c .before .before .before .before in
+    let w = start .args .table .now in
+    let s = start .args .s in
+    let a = start .args .a .0 in
+    let r = start .pre .0 in
+    posted-shut (game w) (accepted w (r .fine)) (few-states w (sized w (r .fine))) s a (start .pre .2) _ (r .tabled .at a s (start .pre .2) (start .pre .1)) (c .if1 .left)
 
 pub post-spec : {M : Type 1} → statement M
 post-spec =
     tie.close
     (tie.spec
     mul-at
-    cast-at
-    cast-u
-    add-u
-    mul-u
+    (λ c. search needs)
+    (λ c. search needs)
+    (λ c. search needs)
+    (λ c. search needs)
     shared-slice-read-u
-    cast-u-2
-    add-u-2
-    mul-u-2
+    (λ c. search needs)
+    (λ c. search needs)
+    (λ c. search needs)
     shared-slice-read-u-2
     returns
     returns-2)

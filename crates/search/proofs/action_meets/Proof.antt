@@ -1,3 +1,5 @@
+-- `search::action_meets` meets its contract: by what `post` answers.
+-- Assumes nothing.
 use mathlib.Core.Path.{_∙_}
 use Rattle.families.specs.Bits.{has}
 use Rattle.games.specs.Words.{game}
@@ -7,30 +9,26 @@ use Rattle.search.proofs.action_meets.Statement.{statement}
 use Rattle.search.proofs.action_meets.Tie as tie
 
 post-requires : tie.Need-post-requires
-post-requires c κs = (c .before .before .before .before .pre .0, c .before .before .before .before .pre .3, c .before .before .before .before .pre .4, c .before .before .before .before .pre .2)
-
-enum-known-walked : tie.Need-enum-known-walked
-enum-known-walked c = search needs
-
-enum-told : tie.Need-enum-told
-enum-told c = search needs
+post-requires c κs = let pre = c .before .before .before .before .pre in (pre .0, pre .2, pre .3)
 
 returns : tie.Need-returns
 returns c =
-    let start = c .before .before .before .before .before .before .before in
-    meets-blocked (game (start .args .table .now)) (has (start .args .family .now)) (start .args .s) (start .args .a .0) (c .before .before .post .result) (c .before .before .post .ensures) (c .enum-told .given .1)
+    let answer = c .before .before in
+    let x = answer .before .before .before .before .before .args in
+    meets-blocked (game (x .table .now)) (has (x .family .now)) (x .s) (x .a .0) (answer .post .result) (answer .post .ensures) (c .enum-told .given .1)
 
 shown-in-requires : tie.Need-shown-in-requires
-shown-in-requires c κs = search needs
+shown-in-requires c κs = let pre = c .before .before .before .before .before .before .before .before .pre in (pre .0 .fine, pre .1)
 
 returns-2 : tie.Need-returns-2
 returns-2 c =
-    let after = c .before .before in
-    let start = after .before .before .before .before .before .before .before in
+    let u = c .before .before .posted .given in
+    let answer = c .before .before .before .before in
+    let x = answer .before .before .before .before .before .args in
     c .shown-in .ensures
-    ∙ meets-shown (game (start .args .table .now)) (has (start .args .family .now)) (start .args .s) (start .args .a .0) (after .before .before .post .result) (after .before .before .post .ensures) (after .walked .given .0 .0) (after .walked .given .1)
+    ∙ meets-shown (game (x .table .now)) (has (x .family .now)) (x .s) (x .a .0) (answer .post .result) (answer .post .ensures) (u .0 .0) (u .1)
 
 pub action-meets-spec : {M : Type 1} → statement M
 action-meets-spec =
     tie.close
-    (tie.spec post-requires enum-known-walked enum-told returns shown-in-requires returns-2)
+    (tie.spec post-requires (λ c. search needs) (λ c. search needs) returns shown-in-requires returns-2)

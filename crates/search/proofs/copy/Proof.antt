@@ -1,3 +1,5 @@
+-- `search::copy` meets its contract. The loop's invariant: the first i words are copied.
+-- Assumes nothing.
 use borrow.Author.Needs.{needs}
 use mathlib.Core.Path.{_≡_, refl, sym, _∙_}
 use Prim.Native.Nat.{_-_}

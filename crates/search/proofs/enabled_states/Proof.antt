@@ -1,3 +1,5 @@
+-- `search::enabled_states` meets its contract. The loop's invariant: the mask has just the states below i that are not bad and in which the action is enabled.
+-- Assumes nothing.
 use borrow.Author.Needs.{needs}
 use mathlib.Core.Logic.{⊎-elim}
 use mathlib.Core.Path.{_≡_, sym, subst}
@@ -7,7 +9,7 @@ use Rattle.games.specs.Format.{maxStates}
 use Rattle.games.specs.Words.{game}
 use Rattle.tables.proofs.Checks.{sized}
 use Rattle.search.specs.Stages.{EnabledStates}
-use Rattle.search.proofs.Turns.{few-states}
+use Rattle.tables.proofs.Bounds.{few-states}
 use Rattle.search.proofs.First.{states-none, states-hit, states-skip}
 use Rattle.search.proofs.enabled_states.Statement.{statement}
 use Rattle.search.proofs.enabled_states.Tie as tie
@@ -17,6 +19,10 @@ Inv-loop table a n mask₀ i₀ mask i = (n ≤ maxStates) × (i ≤ n) × Enabl
 
 abbrev μ-loop : tie.MeasureT-loop
 μ-loop table a n mask₀ i₀ mask i = n - i
+
+-- where the function begins
+abbrev entry : tie.At-loop Inv-loop μ-loop → tie.Start Inv-loop μ-loop
+entry at = at .before .before .before
 
 states-requires : tie.Need-states-requires Inv-loop μ-loop
 states-requires c κs = sized (c .before .args .table .now) (c .before .pre .0)
@@ -28,21 +34,12 @@ loop-holds c =
     (subst (λ (m : ℕ). m ≤ maxStates) (sym (c .states .ensures)) (few-states w (sized w (start .pre .0))), search needs, states-none (game w) (start .args .a .0))
 
 safely-enabled-requires : tie.Need-safely-enabled-requires Inv-loop μ-loop
-safely-enabled-requires c κs = let start = c .before .before .before .before in (start .pre .0, start .pre .1, omega arith)
-
-single-requires : tie.Need-single-requires Inv-loop μ-loop
-single-requires c κs = search needs
-
-add-i : tie.Need-add-i Inv-loop μ-loop
-add-i c = search needs
-
-loop-less : tie.Need-loop-less Inv-loop μ-loop
-loop-less c = search needs
+safely-enabled-requires c κs = let start = entry (c .before) in (start .pre .0, start .pre .1, omega arith)
 
 loop-again : tie.Need-loop-again Inv-loop μ-loop
 loop-again c =
     let at = c .before .before .before in
-    let start = at .before .before .before in
+    let start = entry at in
     let g = game (start .args .table .now) in
     let a = start .args .a .0 in (
       at .loop .inv .0,
@@ -56,7 +53,7 @@ loop-again c =
 returns : tie.Need-returns Inv-loop μ-loop
 returns c =
     let at = c .before in
-    let start = at .before .before .before in
+    let start = entry at in
     let g = game (start .args .table .now) in
     let e : at .loop .i ≡ g .states = omega arith in
     rw e at (at .loop .inv .2)
@@ -70,8 +67,8 @@ enabled-states-spec =
     states-requires
     loop-holds
     safely-enabled-requires
-    single-requires
-    add-i
-    loop-less
+    (λ c κs. search needs)
+    (λ c. search needs)
+    (λ c. search needs)
     loop-again
     returns)

@@ -1,13 +1,17 @@
+-- `search::first_family` meets its contract. The loop's invariant: the first a masks are those of the actions below a.
+-- Assumes nothing.
 use borrow.Author.Needs.{needs}
 use mathlib.Core.Path.{_≡_, sym, _∙_, subst}
+use mathlib.Core.List.{List}
 use Prim.Native.Nat.{ℕ, _-_, _≤_}
 use native.Mathlib.Omega.{arith}
 use lib.ListN.{length, take, length-set, replicate}
 use lib.Seq.{length-take-le}
 use Rattle.games.specs.Format.{maxActions, maxStates}
+use Rattle.games.specs.Game.{Game}
 use Rattle.games.specs.Words.{game}
 use Rattle.tables.proofs.Checks.{sized}
-use Rattle.search.proofs.Turns.{few-states, few-actions}
+use Rattle.tables.proofs.Bounds.{few-states, few-actions}
 use Rattle.search.proofs.First.{ByAction, actions-none, actions-more, actions-front, actions-below, first-bits}
 use Rattle.search.proofs.first_family.Statement.{statement}
 use Rattle.search.proofs.first_family.Tie as tie
@@ -18,19 +22,29 @@ Inv-loop table family actions masks₀ a₀ masks a = (actions ≤ maxActions) �
 abbrev μ-loop : tie.MeasureT-loop
 μ-loop table family actions masks₀ a₀ masks a = actions - a
 
--- what the loop leaves: the states of all actions, in front
-front : (c : tie.After-loop Inv-loop μ-loop) → (length (take (c .before .before .actions .result) (c .before .loop .masks)) ≡ game (c .before .before .before .before .before .args .table .now) .actions) × ByAction (game (c .before .before .before .before .before .args .table .now)) (game (c .before .before .before .before .before .args .table .now) .actions) (take (c .before .before .actions .result) (c .before .loop .masks))
+-- where the function begins
+abbrev entry : tie.At-loop Inv-loop μ-loop → tie.Start Inv-loop μ-loop
+entry at = at .before .before .before .before
+
+-- the game, and what the loop leaves: the states of all actions, in front
+abbrev played : tie.At-loop Inv-loop μ-loop → Game
+played at = game (entry at .args .table .now)
+
+abbrev masks-of : tie.At-loop Inv-loop μ-loop → List ℕ
+masks-of at = take (at .before .actions .result) (at .loop .masks)
+
+front : (c : tie.After-loop Inv-loop μ-loop) → (length (masks-of (c .before)) ≡ played (c .before) .actions) × ByAction (played (c .before)) (played (c .before) .actions) (masks-of (c .before))
 front c =
     let at = c .before in
-    let g = game (at .before .before .before .before .args .table .now) in
+    let g = played at in
     let e : at .loop .a ≡ g .actions = omega arith in
     let is = at .before .actions .ensures in (
       length-take-le _ _ (omega (arith, at .loop .inv .2)) ∙ is,
-      rw is (actions-front g (at .loop .masks) (rw e at (at .loop .inv .3))),
+      subst (λ (n : ℕ). ByAction g (g .actions) (take n (at .loop .masks))) (sym is) (actions-front g (at .loop .masks) (rw e at (at .loop .inv .3))),
     )
 
 actions-requires : tie.Need-actions-requires Inv-loop μ-loop
-actions-requires c κs = sized (c .before .before .args .table .now) (c .before .before .pre .0)
+actions-requires c κs = let start = c .before .before in sized (start .args .table .now) (start .pre .0)
 
 loop-holds : tie.Need-loop-holds Inv-loop μ-loop
 loop-holds c =
@@ -39,31 +53,13 @@ loop-holds c =
     (subst (λ (m : ℕ). m ≤ maxActions) (sym (c .actions .ensures)) (few-actions w (sized w (start .pre .0))), search needs, search needs, actions-none (game w) (replicate maxActions 0))
 
 enabled-states-requires : tie.Need-enabled-states-requires Inv-loop μ-loop
-enabled-states-requires c κs = (c .before .before .before .before .before .pre .0, omega arith)
-
-cast-masks : tie.Need-cast-masks Inv-loop μ-loop
-cast-masks c = search needs
-
-mul-masks : tie.Need-mul-masks Inv-loop μ-loop
-mul-masks c = search needs
-
-array-write-masks : tie.Need-array-write-masks Inv-loop μ-loop
-array-write-masks c = search needs
-
-add-a : tie.Need-add-a Inv-loop μ-loop
-add-a c = search needs
-
-loop-less : tie.Need-loop-less Inv-loop μ-loop
-loop-less c = search needs
+enabled-states-requires c κs = (entry (c .before) .pre .0, omega arith)
 
 loop-again : tie.Need-loop-again Inv-loop μ-loop
 loop-again c =
     let at = c .before .before in
-    let start = at .before .before .before .before in
+    let start = entry at in
     (at .loop .inv .0, search needs, length-set (at .loop .masks) (at .loop .a) (c .enabled-states .result) ∙ at .loop .inv .2, actions-more (game (start .args .table .now)) (at .loop .masks) (at .loop .a) (c .enabled-states .result) (omega (arith, at .loop .inv .2)) (c .enabled-states .ensures) (at .loop .inv .3))
-
-cast-masks-2 : tie.Need-cast-masks-2 Inv-loop μ-loop
-cast-masks-2 c = search needs
 
 array-share-prefix-masks : tie.Need-array-share-prefix-masks Inv-loop μ-loop
 array-share-prefix-masks c = omega (arith, c .before .loop .inv .2)
@@ -72,13 +68,13 @@ slice-aggregate-below : tie.Need-slice-aggregate-below Inv-loop μ-loop
 slice-aggregate-below c = let at = c .before .before in sym (length-take-le _ _ (omega (arith, at .loop .inv .2)))
 
 states-requires : tie.Need-states-requires Inv-loop μ-loop
-states-requires c κs = let start = c .before .before .before .before .before .before in sized (start .args .table .now) (start .pre .0)
+states-requires c κs = let start = entry (c .before .before) in sized (start .args .table .now) (start .pre .0)
 
 below-requires : tie.Need-below-requires Inv-loop μ-loop
 below-requires c κs =
     let left = c .before .before .before in
     let f = front left in
-    let start = left .before .before .before .before .before in
+    let start = entry (left .before) in
     let w = start .args .table .now in
     let n = c .before .states .ensures in
     record {
@@ -90,7 +86,7 @@ below-requires c κs =
 same-length : tie.Need-same-length Inv-loop μ-loop
 same-length c =
     let b = c .before .before in
-    let start = b .before .before .before .before .before .before .before .before .before in
+    let start = entry (b .before .before .before .before .before) in
     rw (b .before .before .states .ensures) at (b .below .ensures .size) ∙ sym (start .pre .1)
 
 returns : tie.Need-returns Inv-loop μ-loop
@@ -98,7 +94,7 @@ returns c =
     let b = c .before .before in
     let left = b .before .before .before .before in
     let f = front left in
-    let start = left .before .before .before .before .before in
+    let start = entry (left .before) in
     first-bits (game (start .args .table .now)) _ (f .0) (f .1) _ (rw (b .before .before .states .ensures) at (b .below .ensures))
 
 pub first-family-spec : {M : Type 1} → statement M
@@ -110,13 +106,13 @@ first-family-spec =
     actions-requires
     loop-holds
     enabled-states-requires
-    cast-masks
-    mul-masks
-    array-write-masks
-    add-a
-    loop-less
+    (λ c. search needs)
+    (λ c. search needs)
+    (λ c. search needs)
+    (λ c. search needs)
+    (λ c. search needs)
     loop-again
-    cast-masks-2
+    (λ c. search needs)
     array-share-prefix-masks
     slice-aggregate-below
     states-requires

@@ -1,3 +1,5 @@
+-- `search::meets_step` meets its contract. The loop's invariant: no action below a meets the step.
+-- Assumes nothing.
 use borrow.Author.Needs.{needs}
 use mathlib.Core.Bool.{false}
 use mathlib.Core.Path.{_≡_, _∙_}
@@ -20,8 +22,12 @@ Inv-loop table low high family s actions a₀ a = (a ≤ actions) × (any a (mee
 abbrev μ-loop : tie.MeasureT-loop
 μ-loop table low high family s actions a₀ a = actions - a
 
+-- where the function begins
+abbrev entry : tie.At-loop Inv-loop μ-loop → tie.Start Inv-loop μ-loop
+entry at = at .before .before .before .before .before .before .before .before
+
 bad-requires : tie.Need-bad-requires Inv-loop μ-loop
-bad-requires c κs = sized (c .before .before .before .before .args .table .now) (c .before .before .before .before .pre .0)
+bad-requires c κs = let start = c .before .before .before .before in sized (start .args .table .now) (start .pre .0 .fine)
 
 returns : tie.Need-returns Inv-loop μ-loop
 returns c =
@@ -30,38 +36,29 @@ returns c =
     step-bad g (has (start .args .family .now)) (start .args .s) (rw (c .before .bad .ensures) at (c .if1 .taken))
 
 actions-requires : tie.Need-actions-requires Inv-loop μ-loop
-actions-requires c κs = let start = c .before .before .before .before .before .before in sized (start .args .table .now) (start .pre .0)
+actions-requires c κs = let start = c .before .before .before .before .before .before in sized (start .args .table .now) (start .pre .0 .fine)
 
 loop-holds : tie.Need-loop-holds Inv-loop μ-loop
 loop-holds c = (search needs, any-zero _)
 
-action-meets-requires : tie.Need-action-meets-requires Inv-loop μ-loop
-action-meets-requires c κs = search needs
-
 returns-2 : tie.Need-returns-2 Inv-loop μ-loop
 returns-2 c =
     let at = c .before .before .before in
-    let start = at .before .before .before .before .before .before .before .before in
+    let start = entry at in
     let g = game (start .args .table .now) in
     step-hit g (has (start .args .family .now)) (start .args .s) (rw (at .before .before .before .bad .ensures) at (at .before .before .if1 .left)) (at .loop .a) (omega arith) (cc)
-
-add-a : tie.Need-add-a Inv-loop μ-loop
-add-a c = search needs
-
-loop-less : tie.Need-loop-less Inv-loop μ-loop
-loop-less c = search needs
 
 loop-again : tie.Need-loop-again Inv-loop μ-loop
 loop-again c =
     let at = c .before .before .before in
-    let start = at .before .before .before .before .before .before .before .before in
+    let start = entry at in
     let g = game (start .args .table .now) in
     (search needs, any-more (at .loop .a) (meets g (has (start .args .family .now)) (start .args .s)) ∙ or-false-intro (at .loop .inv .1) (cc))
 
 returns-3 : tie.Need-returns-3 Inv-loop μ-loop
 returns-3 c =
     let at = c .before in
-    let start = at .before .before .before .before .before .before .before .before in
+    let start = entry at in
     let g = game (start .args .table .now) in
     let e : at .loop .a ≡ g .actions = omega arith in
     step-none g (has (start .args .family .now)) (start .args .s) (rw e at (at .loop .inv .1))
@@ -76,9 +73,9 @@ meets-step-spec =
     returns
     actions-requires
     loop-holds
-    action-meets-requires
+    (λ c κs. search needs)
     returns-2
-    add-a
-    loop-less
+    (λ c. search needs)
+    (λ c. search needs)
     loop-again
     returns-3)

@@ -1,3 +1,5 @@
+-- `search::pass` meets its contract. The loop's invariant: the lanes from `lane` on have just their sets that meet the step.
+-- Assumes nothing.
 use borrow.Author.Needs.{needs}
 use mathlib.Core.Path.{_≡_, sym, _∙_}
 use Prim.Native.Nat.{_-_, _≤_}
@@ -17,51 +19,43 @@ Inv-loop table low high family next₀ lane₀ next lane = (length family ≤ ma
 abbrev μ-loop : tie.MeasureT-loop
 μ-loop table low high family next₀ lane₀ next lane = lane
 
+-- where the function begins
+abbrev entry : tie.At-loop Inv-loop μ-loop → tie.Start Inv-loop μ-loop
+entry at = at .before .before .before .before .before .before
+
 loop-holds : tie.Need-loop-holds Inv-loop μ-loop
 loop-holds c =
     let start = c .before .before .before .before .before in
     let w = start .args .table .now in
-    (omega (arith, start .pre .1 .size, table-lanes w (sized w (start .pre .0))), search needs, passing-none (game w) (start .args .family .now) (start .pre .1) (start .args .next .now) (start .pre .3))
-
-sub-lane : tie.Need-sub-lane Inv-loop μ-loop
-sub-lane c = search needs
+    (omega (arith, start .pre .1 .size, table-lanes w (sized w (start .pre .0 .fine))), search needs, passing-none (game w) (start .args .family .now) (start .pre .1) (start .args .next .now) (start .pre .2))
 
 larger-requires : tie.Need-larger-requires Inv-loop μ-loop
 larger-requires c κs =
     let at = c .before .before in
     record { here = omega (arith, at .loop .inv .2 .size); few = omega (arith, at .loop .inv .2 .size, at .loop .inv .0) }
 
-cast-pass-lane : tie.Need-cast-pass-lane Inv-loop μ-loop
-cast-pass-lane c = search needs
-
 pass-lane-requires : tie.Need-pass-lane-requires Inv-loop μ-loop
 pass-lane-requires c κs =
     let at = c .before .before .before in
-    let start = at .before .before .before .before .before .before in
-    (start .pre .0, start .pre .1, start .pre .2, omega arith, covered-sound (game (start .args .table .now)) (start .args .family .now) (start .pre .1) (at .loop .next) (at .loop .lane) (at .loop .lane - 1) (omega arith) (at .loop .inv .2) (c .larger .result) (omega arith) (c .larger .ensures))
-
-mul-next : tie.Need-mul-next Inv-loop μ-loop
-mul-next c = search needs
+    let start = entry at in
+    (start .pre .0, start .pre .1, omega arith, covered-sound (game (start .args .table .now)) (start .args .family .now) (start .pre .1) (at .loop .next) (at .loop .lane) (at .loop .lane - 1) (omega arith) (at .loop .inv .2) (c .larger .result) (omega arith) (c .larger .ensures))
 
 slice-write-next : tie.Need-slice-write-next Inv-loop μ-loop
 slice-write-next c = let at = c .before .before .before .before in omega (arith, at .loop .inv .2 .size)
 
-loop-less : tie.Need-loop-less Inv-loop μ-loop
-loop-less c = search needs
-
 loop-again : tie.Need-loop-again Inv-loop μ-loop
 loop-again c =
     let at = c .before .before .before .before in
-    let start = at .before .before .before .before .before .before in
+    let start = entry at in
     (at .loop .inv .0, omega arith, passing-more (game (start .args .table .now)) (start .args .family .now) (start .pre .1) (at .loop .next) (at .loop .lane) (at .loop .lane - 1) (omega arith) (at .loop .inv .2) (omega arith) (c .pass-lane .result) (c .pass-lane .ensures))
 
 same-length : tie.Need-same-length Inv-loop μ-loop
-same-length c = c .before .loop .inv .2 .size ∙ sym (c .before .before .before .before .before .before .before .pre .3)
+same-length c = c .before .loop .inv .2 .size ∙ sym (entry (c .before) .pre .2)
 
 returns : tie.Need-returns Inv-loop μ-loop
 returns c =
     let at = c .before in
-    let start = at .before .before .before .before .before .before in
+    let start = entry at in
     let e : at .loop .lane ≡ 0 = omega arith in
     passing-end (game (start .args .table .now)) (start .args .family .now) (start .pre .1) (at .loop .next) (rw e at (at .loop .inv .2))
 
@@ -72,13 +66,13 @@ pass-spec =
     Inv-loop
     μ-loop
     loop-holds
-    sub-lane
+    (λ c. search needs)
     larger-requires
-    cast-pass-lane
+    (λ c. search needs)
     pass-lane-requires
-    mul-next
+    (λ c. search needs)
     slice-write-next
-    loop-less
+    (λ c. search needs)
     loop-again
     same-length
     returns)

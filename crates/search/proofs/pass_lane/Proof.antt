@@ -1,3 +1,5 @@
+-- `search::pass_lane` meets its contract. The loop's invariant: what is found meets the step, and what is neither found nor left does not.
+-- Assumes nothing.
 use borrow.Author.Needs.{needs}
 use Prim.Native.Nat.{_-_, _<_}
 use native.Mathlib.Omega.{arith}
@@ -10,10 +12,6 @@ use Rattle.search.proofs.Turns.{table-lanes}
 use Rattle.search.proofs.Passes.{Trying, Highest, highest, few-zeros, trying-none, top-below, hit-less, trying-hit, miss-less, trying-miss, trying-end}
 use Rattle.search.proofs.pass_lane.Statement.{statement}
 use Rattle.search.proofs.pass_lane.Tie as tie
-use Rattle.search.proofs.pass_lane.Reads as reads
-use Rattle.search.proofs.pass_lane.Lts as lts
-use Rattle.families.proofs.subsets.Reads as subsets-reads
-use Rattle.search.proofs.meets_step.Reads as meets-step-reads
 
 abbrev Inv-loop : tie.InvT-loop
 Inv-loop table low high family lane covered found₀ left₀ found left = Trying (game table) family lane found left
@@ -21,9 +19,13 @@ Inv-loop table low high family lane covered found₀ left₀ found left = Trying
 abbrev μ-loop : tie.MeasureT-loop
 μ-loop table low high family lane covered found₀ left₀ found left = left
 
+-- where the function begins
+abbrev entry : tie.At-loop Inv-loop μ-loop → tie.Start Inv-loop μ-loop
+entry at = at .before .before .before .before .before .before
+
 -- the lane is one of at most 64
-small : (c : lts.Start (meets-step-reads.Asked, meets-step-reads.Learnt, subsets-reads.Asked, subsets-reads.Learnt) reads.Pre reads.Post Inv-loop μ-loop) → c .args .lane < 64
-small c = omega (arith, c .pre .3, c .pre .1 .size, table-lanes (c .args .table .now) (sized (c .args .table .now) (c .pre .0)))
+small : (c : tie.Start Inv-loop μ-loop) → c .args .lane < 64
+small c = let w = c .args .table .now in omega (arith, c .pre .2, c .pre .1 .size, table-lanes w (sized w (c .pre .0 .fine)))
 
 -- the set that is tried
 top : (c : tie.In-loop Inv-loop μ-loop) → Highest (c .before .loop .left) (63 - leadingZeros 64 (c .before .loop .left))
@@ -32,27 +34,25 @@ top c = highest (c .before .loop .left) (c .before .loop .inv .narrow) (c .loop-
 mul-left : tie.Need-mul-left Inv-loop μ-loop
 mul-left c = omega (arith, small (c .before .before .before .before))
 
-shared-slice-read-left : tie.Need-shared-slice-read-left Inv-loop μ-loop
-shared-slice-read-left c = search needs
-
 loop-holds : tie.Need-loop-holds Inv-loop μ-loop
 loop-holds c =
     let start = c .before .before .before .before .before in
-    trying-none (game (start .args .table .now)) (start .args .family .now) (start .pre .1) (start .args .lane) (start .args .covered) (omega arith) (start .pre .4)
+    trying-none (game (start .args .table .now)) (start .args .family .now) (start .pre .1) (start .args .lane) (start .args .covered) (omega arith) (start .pre .3)
 
 sub-h : tie.Need-sub-h Inv-loop μ-loop
 sub-h c = few-zeros (c .before .loop .left) (c .before .loop .inv .narrow) (c .loop-test .taken)
 
 mul-meets-step : tie.Need-mul-meets-step Inv-loop μ-loop
-mul-meets-step c = omega (arith, small (c .before .before .before .before .before .before .before))
+mul-meets-step c = omega (arith, small (entry (c .before)))
 
 add-meets-step : tie.Need-add-meets-step Inv-loop μ-loop
-add-meets-step c = omega (arith, small (c .before .before .before .before .before .before .before))
+add-meets-step c = omega (arith, small (entry (c .before)))
 
 meets-step-requires : tie.Need-meets-step-requires Inv-loop μ-loop
 meets-step-requires c κs =
-    let start = c .before .before .before .before .before .before .before in
-    (start .pre .0, start .pre .1 .size, start .pre .2, top-below (game (start .args .table .now)) (start .args .family .now) (start .pre .1) (start .args .lane) (c .before .loop .found) (c .before .loop .left) (c .before .loop .inv) _ (top c), start .pre .1 .down)
+    let at = c .before in
+    let start = entry at in
+    (start .pre .0, start .pre .1, top-below (game (start .args .table .now)) (start .args .family .now) (start .pre .1) (start .args .lane) (at .loop .found) (at .loop .left) (at .loop .inv) _ (top c))
 
 subsets-requires : tie.Need-subsets-requires Inv-loop μ-loop
 subsets-requires c κs = top (c .before .before) .small
@@ -61,27 +61,21 @@ loop-less : tie.Need-loop-less Inv-loop μ-loop
 loop-less c =
     let inl = c .before .before .before in
     let at = inl .before in
-    let start = at .before .before .before .before .before .before in
+    let start = entry at in
     hit-less (game (start .args .table .now)) (start .args .family .now) (start .pre .1) (start .args .lane) (at .loop .found) (at .loop .left) (at .loop .inv) _ (top inl) (c .subsets .result) (omega arith) (c .subsets .ensures)
 
 loop-again : tie.Need-loop-again Inv-loop μ-loop
 loop-again c =
     let inl = c .before .before .before in
     let at = inl .before in
-    let start = at .before .before .before .before .before .before in
+    let start = entry at in
     trying-hit (game (start .args .table .now)) (start .args .family .now) (start .pre .1) (start .args .lane) (at .loop .found) (at .loop .left) (at .loop .inv) _ (top inl) (c .subsets .result) (omega arith) (c .subsets .ensures) (cc)
-
-cast-left : tie.Need-cast-left Inv-loop μ-loop
-cast-left c = search needs
-
-shl-left : tie.Need-shl-left Inv-loop μ-loop
-shl-left c = search needs
 
 sub-left : tie.Need-sub-left Inv-loop μ-loop
 sub-left c =
     let inl = c .before .before in
     let at = inl .before in
-    let start = at .before .before .before .before .before .before in
+    let start = entry at in
     let h = 63 - leadingZeros 64 (at .loop .left) in
     rw (shift-one 64 h (top inl .small)) (single-le (at .loop .left) h (top inl .here))
 
@@ -89,7 +83,7 @@ loop-less-2 : tie.Need-loop-less-2 Inv-loop μ-loop
 loop-less-2 c =
     let inl = c .before .before in
     let at = inl .before in
-    let start = at .before .before .before .before .before .before in
+    let start = entry at in
     let h = 63 - leadingZeros 64 (at .loop .left) in
     rw (shift-one 64 h (top inl .small)) (miss-less (game (start .args .table .now)) (start .args .family .now) (start .pre .1) (start .args .lane) (at .loop .found) (at .loop .left) (at .loop .inv) h (top inl))
 
@@ -97,14 +91,14 @@ loop-again-2 : tie.Need-loop-again-2 Inv-loop μ-loop
 loop-again-2 c =
     let inl = c .before .before in
     let at = inl .before in
-    let start = at .before .before .before .before .before .before in
+    let start = entry at in
     let h = 63 - leadingZeros 64 (at .loop .left) in
     rw (shift-one 64 h (top inl .small)) (trying-miss (game (start .args .table .now)) (start .args .family .now) (start .pre .1) (start .args .lane) (at .loop .found) (at .loop .left) (at .loop .inv) h (top inl) (cc))
 
 returns : tie.Need-returns Inv-loop μ-loop
 returns c =
     let at = c .before in
-    let start = at .before .before .before .before .before .before in
+    let start = entry at in
     trying-end (game (start .args .table .now)) (start .args .family .now) (start .pre .1) (start .args .lane) (at .loop .found) (at .loop .left) (at .loop .inv) (c .loop-test .left)
 
 pub pass-lane-spec : {M : Type 1} → statement M
@@ -114,7 +108,7 @@ pass-lane-spec =
     Inv-loop
     μ-loop
     mul-left
-    shared-slice-read-left
+    (λ c. search needs)
     loop-holds
     sub-h
     mul-meets-step
@@ -123,8 +117,8 @@ pass-lane-spec =
     subsets-requires
     loop-less
     loop-again
-    cast-left
-    shl-left
+    (λ c. search needs)
+    (λ c. search needs)
     sub-left
     loop-less-2
     loop-again-2

@@ -1,3 +1,5 @@
+-- `search::same` meets its contract. The loop's invariant: the words before i are the same.
+-- Assumes nothing.
 use borrow.Author.Needs.{needs}
 use borrow.Author.Count.{below-none, below-more}
 use mathlib.Core.Path.{_≡_}

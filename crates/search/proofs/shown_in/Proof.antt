@@ -1,3 +1,5 @@
+-- `search::shown_in` meets its contract. The loop's invariant: for the observations below j, the states of u that show them form a set of the family.
+-- Assumes nothing.
 use borrow.Author.Needs.{needs}
 use borrow.Author.Tests.{not-true, not-false}
 use mathlib.Core.Bool.{true}
@@ -22,60 +24,58 @@ Inv-loop table family u o j₀ j = (j ≤ o) × (all j (λ i. has family (common
 abbrev μ-loop : tie.MeasureT-loop
 μ-loop table family u o j₀ j = o - j
 
+-- where the function begins
+abbrev entry : tie.At-loop Inv-loop μ-loop → tie.Start Inv-loop μ-loop
+entry at = at .before .before .before .before
+
 observations-requires : tie.Need-observations-requires Inv-loop μ-loop
-observations-requires c κs = sized (c .before .before .args .table .now) (c .before .before .pre .0)
+observations-requires c κs = let start = c .before .before in sized (start .args .table .now) (start .pre .0)
 
 loop-holds : tie.Need-loop-holds Inv-loop μ-loop
 loop-holds c = (search needs, all-zero _)
 
 shown-requires : tie.Need-shown-requires Inv-loop μ-loop
 shown-requires c κs =
-    let start = c .before .before .before .before .before in
+    let start = entry (c .before) in
     (sized (start .args .table .now) (start .pre .0), omega arith)
 
 has-requires : tie.Need-has-requires Inv-loop μ-loop
 has-requires c κs =
-    let start = c .before .before .before .before .before .before in
+    let at = c .before .before in
+    let start = entry at in
     let w = start .args .table .now in
-    let b = shown-below (game w) (accepted w (start .pre .0)) (start .args .u) (c .before .before .loop .j) (omega arith) in
-    rw (start .pre .1, c .shown .ensures) (lane-there (game w .states) (common (start .args .u) (game w .shown (c .before .before .loop .j))) b)
+    let u = start .args .u in
+    let j = at .loop .j in
+    rw (start .pre .1 .size, c .shown .ensures) (lane-there (game w .states) (common u (game w .shown j)) (shown-below (game w) (accepted w (start .pre .0)) u j (omega arith)))
 
 returns : tie.Need-returns Inv-loop μ-loop
 returns c =
-    let inl = c .before .before .before in
-    let start = inl .before .before .before .before .before in
-    let w = start .args .table .now in
-    shown-fails (game w) (has (start .args .family .now)) (start .args .u) (inl .before .loop .j) (omega arith)
-    (rw (c .before .before .shown .ensures) at (sym (c .before .has .ensures) ∙ not-true (c .before .has .result) (c .if1 .taken)))
+    let tested = c .before in
+    let at = tested .before .before .before in
+    let start = entry at in
+    shown-fails (game (start .args .table .now)) (has (start .args .family .now)) (start .args .u) (at .loop .j) (omega arith)
+    (rw (tested .before .shown .ensures) at (sym (tested .has .ensures) ∙ not-true (tested .has .result) (c .if1 .taken)))
 
 returns-2 : tie.Need-returns-2 Inv-loop μ-loop
 returns-2 c =
-    let h = c .before .before in
-    let inl = h .before .before in
-    let start = inl .before .before .before .before .before in
-    let w = start .args .table .now in
-    shown-whole (game w) (has (start .args .family .now)) (start .args .u) (start .pre .2) (rw (c .if2 .taken) at (sym (h .has .ensures) ∙ not-false (h .has .result) (c .before .if1 .left)))
-
-add-j : tie.Need-add-j Inv-loop μ-loop
-add-j c = search needs
-
-loop-less : tie.Need-loop-less Inv-loop μ-loop
-loop-less c = search needs
+    let tested = c .before .before in
+    let start = entry (tested .before .before .before) in
+    shown-whole (game (start .args .table .now)) (has (start .args .family .now)) (start .args .u) (start .pre .1 .down) (rw (c .if2 .taken) at (sym (tested .has .ensures) ∙ not-false (tested .has .result) (c .before .if1 .left)))
 
 loop-again : tie.Need-loop-again Inv-loop μ-loop
 loop-again c =
-    let inl = c .before .before .before .before in
-    let start = inl .before .before .before .before .before in
-    let w = start .args .table .now in (
+    let tested = c .before .before in
+    let at = tested .before .before .before in
+    let start = entry at in (
       search needs,
-      all-more (inl .before .loop .j) (λ i. has (start .args .family .now) (common (start .args .u) (game w .shown i)))
-          ∙ and-intro (inl .before .loop .inv .1) (rw (c .before .before .before .shown .ensures) at (sym (c .before .before .has .ensures) ∙ not-false (c .before .before .has .result) (c .before .if1 .left))),
+      all-more (at .loop .j) (λ i. has (start .args .family .now) (common (start .args .u) (game (start .args .table .now) .shown i)))
+          ∙ and-intro (at .loop .inv .1) (rw (tested .before .shown .ensures) at (sym (tested .has .ensures) ∙ not-false (tested .has .result) (c .before .if1 .left))),
     )
 
 returns-3 : tie.Need-returns-3 Inv-loop μ-loop
 returns-3 c =
     let at = c .before in
-    let start = at .before .before .before .before in
+    let start = entry at in
     let g = game (start .args .table .now) in
     let e : at .loop .j ≡ g .observations = omega arith in
     shown-holds g (has (start .args .family .now)) (start .args .u) (rw e at (at .loop .inv .1))
@@ -92,7 +92,7 @@ shown-in-spec =
     has-requires
     returns
     returns-2
-    add-j
-    loop-less
+    (λ c. search needs)
+    (λ c. search needs)
     loop-again
     returns-3)

@@ -1,9 +1,9 @@
--- `show::find` meets its contract.
+-- `show::find` meets its contract: the check of both first, then the part.
 -- Assumes nothing.
 use mathlib.Core.Path.{_∙_}
 use borrow.Author.Needs.{needs}
 use denote.Ref.{now}
-use Rattle.show.proofs.Laws.{table-refused, table-fine}
+use Rattle.show.proofs.Laws.{pair-refused, pair-fine}
 use Rattle.show.proofs.find.Statement.{statement}
 use Rattle.show.proofs.find.Tie as tie
 
@@ -17,7 +17,7 @@ find-spec =
     (λ c κs. (cc))
     (λ c.
     let x = c .before .before .before .before .before .before .args in
-    table-refused (now (x .table)) (now (x .card)) (x .cell .0) (c .before .number .given .0 .0) (c .before .number .given .0 .1 .0) (cc))
+    pair-refused (now (x .table)) (now (x .card)) (x .cell .0) (c .before .number .given .0 .0) (c .before .number .given .0 .1 .0) (cc))
     (λ c.
     let x = c .before .before .before .before .before .before .args in
-    c .locate-on .ensures ∙ table-fine (now (x .table)) (now (x .card)) (x .cell .0) (cc)))
+    c .locate .ensures ∙ pair-fine (now (x .table)) (now (x .card)) (x .cell .0) (cc)))

@@ -1,85 +1,84 @@
+-- `solver::decide` meets its contract: there is room for the lanes of the table's sets, and the search's tables are filled.
+-- Assumes nothing.
 use borrow.Author.Needs.{needs}
+use mathlib.Core.List.{List}
 use mathlib.Core.Path.{_≡_, sym, ap, _∙_, subst}
 use Prim.Native.Nat.{ℕ, _≤_}
 use native.Mathlib.Omega.{arith}
+use lib.ListN.{length, take}
 use lib.Seq.{length-take-le}
 use Rattle.families.specs.Bits.{lanes, maxLanes}
 use Rattle.games.specs.Format.{maxStates}
 use Rattle.games.specs.Words.{game}
 use Rattle.tables.proofs.Checks.{sized}
-use Rattle.search.proofs.Turns.{few-states, table-lanes}
+use Rattle.tables.proofs.Bounds.{few-states}
+use Rattle.search.proofs.Turns.{table-lanes}
 use Rattle.solver.proofs.decide.Statement.{statement}
 use Rattle.solver.proofs.decide.Tie as tie
 
--- the lanes of the table's sets, and that there is room for them
-lanes-are : (c : tie.After-lane-count) → (c .lane-count .result ≡ lanes (game (c .before .before .before .before .before .args .table .now) .states)) × (c .lane-count .result ≤ maxLanes)
+-- where the function begins, from where the lanes are counted
+abbrev entry : tie.After-lane-count → tie.Start
+entry c = c .before .before .before .before .before
+
+-- as many as the table's sets take, and there is room for them
+lanes-are : (c : tie.After-lane-count) → (c .lane-count .result ≡ lanes (game (entry c .args .table .now) .states)) × (c .lane-count .result ≤ maxLanes)
 lanes-are c =
-    let start = c .before .before .before .before .before in
-    let e : c .lane-count .result ≡ lanes (game (start .args .table .now) .states) = c .lane-count .ensures ∙ ap lanes (c .before .states .ensures) in
-    (e, subst (λ (m : ℕ). m ≤ maxLanes) (sym e) (table-lanes (start .args .table .now) (sized (start .args .table .now) (start .pre .0))))
+    let start = entry c in
+    let w = start .args .table .now in
+    let e : c .lane-count .result ≡ lanes (game w .states) = c .lane-count .ensures ∙ ap lanes (c .before .states .ensures) in
+    (e, subst (λ (m : ℕ). m ≤ maxLanes) (sym e) (table-lanes w (sized w (start .pre .0))))
+
+within : (c : tie.After-lane-count) (room : List ℕ) → length room ≡ maxLanes → c .lane-count .result ≤ length room
+within c room e = omega (arith, lanes-are c .1)
+
+front : (c : tie.After-lane-count) (room : List ℕ) → length room ≡ maxLanes → length (take (c .lane-count .result) room) ≡ c .lane-count .result
+front c room e = length-take-le _ _ (within c room e)
 
 states-requires : tie.Need-states-requires
 states-requires c κs = let start = c .before .before .before in sized (start .args .table .now) (start .pre .0)
 
 lane-count-requires : tie.Need-lane-count-requires
-lane-count-requires c κs = let start = c .before .before .before .before in subst (λ (m : ℕ). m ≤ maxStates) (sym (c .states .ensures)) (few-states (start .args .table .now) (sized (start .args .table .now) (start .pre .0)))
+lane-count-requires c κs =
+    let start = c .before .before .before .before in
+    let w = start .args .table .now in
+    subst (λ (m : ℕ). m ≤ maxStates) (sym (c .states .ensures)) (few-states w (sized w (start .pre .0)))
 
-side-requires : tie.Need-side-requires
-side-requires c κs = search needs
-
-side-requires-2 : tie.Need-side-requires-2
-side-requires-2 c κs = search needs
-
-slice-aggregate-fill : tie.Need-slice-aggregate-fill
-slice-aggregate-fill c = search needs
-
-slice-aggregate-fill-2 : tie.Need-slice-aggregate-fill-2
-slice-aggregate-fill-2 c = search needs
-
-fill-requires : tie.Need-fill-requires
-fill-requires c κs = search needs
-
-room-requires : tie.Need-room-requires
-room-requires c κs = search needs
-
-room-requires-2 : tie.Need-room-requires-2
-room-requires-2 c κs = search needs
-
-slice-aggregate-answer-with : tie.Need-slice-aggregate-answer-with
-slice-aggregate-answer-with c = search needs
-
-slice-aggregate-answer-with-2 : tie.Need-slice-aggregate-answer-with-2
-slice-aggregate-answer-with-2 c = search needs
+-- the rooms for the two families: where the lanes were counted
+abbrev counted : tie.After-room → tie.After-lane-count
+counted r = r .before .before .before .before .before .before .before .before
 
 array-borrow-prefix-family : tie.Need-array-borrow-prefix-family
-array-borrow-prefix-family c = omega (arith, lanes-are (c .before .before .before .before .before .before .before .before .before .before .before) .1, c .before .before .before .room .ensures)
+array-borrow-prefix-family c =
+    let r = c .before .before .before in
+    within (counted r) (r .room .result) (r .room .ensures)
 
 slice-aggregate-answer-with-3 : tie.Need-slice-aggregate-answer-with-3
-slice-aggregate-answer-with-3 c = sym (length-take-le _ _ (omega (arith, lanes-are (c .before .before .before .before .before .before .before .before .before .before .before .before) .1, c .before .before .before .before .room .ensures)))
+slice-aggregate-answer-with-3 c =
+    let r = c .before .before .before .before in
+    sym (front (counted r) (r .room .result) (r .room .ensures))
 
 array-borrow-prefix-next : tie.Need-array-borrow-prefix-next
-array-borrow-prefix-next c = omega (arith, lanes-are (c .before .before .before .before .before .before .before .before .before .before .before .before) .1, c .before .before .before .room2 .ensures)
+array-borrow-prefix-next c =
+    let r = c .before .before .before in
+    within (counted (r .before)) (r .room2 .result) (r .room2 .ensures)
 
 slice-aggregate-answer-with-4 : tie.Need-slice-aggregate-answer-with-4
-slice-aggregate-answer-with-4 c = sym (length-take-le _ _ (omega (arith, lanes-are (c .before .before .before .before .before .before .before .before .before .before .before .before .before) .1, c .before .before .before .before .room2 .ensures)))
+slice-aggregate-answer-with-4 c =
+    let r = c .before .before .before .before in
+    sym (front (counted (r .before)) (r .room2 .result) (r .room2 .ensures))
 
 answer-with-requires : tie.Need-answer-with-requires
 answer-with-requires c κs =
-    let start = c .before .before .before .before .before .before .before .before .before .before .before .before .before .before .before .before .before .before .before .before in
-    let l = lanes-are (c .before .before .before .before .before .before .before .before .before .before .before .before .before .before .before) in
-    let n = c .before .before .before .before .before .before .before .before .before .before .before .before .before .before .before .lane-count .result in
-    let first = length-take-le n (c .before .before .before .before .before .before .before .room .result) (omega (arith, l .1, c .before .before .before .before .before .before .before .room .ensures)) in
-    let second = length-take-le n (c .before .before .before .before .before .before .room2 .result) (omega (arith, l .1, c .before .before .before .before .before .before .room2 .ensures)) in
-    (start .pre .0, first ∙ l .0, second ∙ sym first, c .before .before .before .before .before .before .before .before .before .before .fill .ensures, start .pre .1)
-
-same-length : tie.Need-same-length
-same-length c = search needs
-
-same-length-2 : tie.Need-same-length-2
-same-length-2 c = search needs
-
-returns : tie.Need-returns
-returns c = search needs
+    let r = c .before .before .before .before .before .before in
+    let filled = r .before .before .before .before in
+    let count = counted (r .before) in
+    let start = entry count in
+    let first = front count (r .before .room .result) (r .before .room .ensures) in (
+      record { fine = start .pre .0; tabled = filled .fill .ensures },
+      first ∙ lanes-are count .0,
+      front count (r .room2 .result) (r .room2 .ensures) ∙ sym first,
+      start .pre .1,
+    )
 
 pub decide-spec : {M : Type 1} → statement M
 decide-spec =
@@ -87,20 +86,20 @@ decide-spec =
     (tie.spec
     states-requires
     lane-count-requires
-    side-requires
-    side-requires-2
-    slice-aggregate-fill
-    slice-aggregate-fill-2
-    fill-requires
-    room-requires
-    room-requires-2
-    slice-aggregate-answer-with
-    slice-aggregate-answer-with-2
+    (λ c κs. search needs)
+    (λ c κs. search needs)
+    (λ c. search needs)
+    (λ c. search needs)
+    (λ c κs. search needs)
+    (λ c κs. search needs)
+    (λ c κs. search needs)
+    (λ c. search needs)
+    (λ c. search needs)
     array-borrow-prefix-family
     slice-aggregate-answer-with-3
     array-borrow-prefix-next
     slice-aggregate-answer-with-4
     answer-with-requires
-    same-length
-    same-length-2
-    returns)
+    (λ c. search needs)
+    (λ c. search needs)
+    (λ c. search needs))

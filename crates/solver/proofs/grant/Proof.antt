@@ -1,63 +1,61 @@
-use mathlib.Core.Path.{subst}
+-- `solver::grant` meets its contract: 9 where the card room is short, else what `write_card` ensures.
+-- Assumes nothing.
+use borrow.Author.Needs.{needs}
+use mathlib.Core.Path.{_≡_, ap, _∙_, subst}
 use Prim.Native.Nat.{ℕ, _≤_}
-use native.Mathlib.Nat.{le-refl}
 use native.Mathlib.Omega.{arith}
 use lib.ListN.{length}
-use Rattle.games.specs.Words.{game}
+use Rattle.games.specs.Words.{game, cardLength}
+use Rattle.tables.proofs.Bounds.{few-observations}
 use Rattle.tables.proofs.Checks.{sized}
-use Rattle.solver.proofs.Carding.{observations-at-most, cells-at-most, parts-few, needed}
 use Rattle.solver.proofs.Answers.{granted-short, granted-written}
-use borrow.Author.Needs.{needs}
 use Rattle.solver.proofs.grant.Statement.{statement}
 use Rattle.solver.proofs.grant.Tie as tie
 
+-- where the function begins, from where the words needed are known
+abbrev entry : tie.After-card-length → tie.Start
+entry c = c .before .before .before .before .before .before .before .before .before
+
+abbrev needed : tie.After-card-length → ℕ
+needed c = let x = entry c .args in cardLength (length (x .cells .now)) (game (x .table .now) .observations)
+
+need-is : (c : tie.After-card-length) → c .card-length .result ≡ needed c
+need-is c = c .card-length .ensures ∙ ap (cardLength _) (c .before .observations .ensures)
+
 observations-requires : tie.Need-observations-requires
-observations-requires c κs = sized (c .before .before .before .before .before .before .before .args .table .now) (c .before .before .before .before .before .before .before .pre .0)
+observations-requires c κs = let start = c .before .before .before .before .before .before .before in sized (start .args .table .now) (start .pre .0 .fine)
 
-cast-part : tie.Need-cast-part
-cast-part c = search needs
-
-add-part : tie.Need-add-part
-add-part c = search needs
-
-mul-need : tie.Need-mul-need
-mul-need c = omega (arith, parts-few (c .observations .result) (length (c .before .before .before .before .before .before .before .before .args .cells .now)) (length (c .before .before .before .before .before .before .before .before .args .cells .now)) (omega (arith, c .observations .ensures, observations-at-most (c .before .before .before .before .before .before .before .before .args .table .now) (c .before .before .before .before .before .before .before .before .pre .0))) (cells-at-most (c .before .before .before .before .before .before .before .before .args .table .now) (c .before .before .before .before .before .before .before .before .pre .0) (c .before .before .before .before .before .before .before .before .args .cells .now) (c .before .before .before .before .before .before .before .before .pre .1)) (le-refl (length (c .before .before .before .before .before .before .before .before .args .cells .now))))
-
-add-need : tie.Need-add-need
-add-need c = omega (arith, c .observations .ensures, observations-at-most (c .before .before .before .before .before .before .before .before .args .table .now) (c .before .before .before .before .before .before .before .before .pre .0), parts-few (c .observations .result) (length (c .before .before .before .before .before .before .before .before .args .cells .now)) (length (c .before .before .before .before .before .before .before .before .args .cells .now)) (omega (arith, c .observations .ensures, observations-at-most (c .before .before .before .before .before .before .before .before .args .table .now) (c .before .before .before .before .before .before .before .before .pre .0))) (cells-at-most (c .before .before .before .before .before .before .before .before .args .table .now) (c .before .before .before .before .before .before .before .before .pre .0) (c .before .before .before .before .before .before .before .before .args .cells .now) (c .before .before .before .before .before .before .before .before .pre .1)) (le-refl (length (c .before .before .before .before .before .before .before .before .args .cells .now))))
+card-length-requires : tie.Need-card-length-requires
+card-length-requires c κs =
+    let start = c .before .before .before .before .before .before .before .before in
+    let w = start .args .table .now in
+    (omega (arith, start .pre .0 .index .few), omega (arith, c .observations .ensures, few-observations w (sized w (start .pre .0 .fine))))
 
 returns : tie.Need-returns
 returns c =
-    let start = c .before .before .before .before .before .before .before .before .before in
-    granted-short (game (start .args .table .now)) (start .args .card .now) (start .args .settled) (length (start .args .cells .now)) _ (needed (game (start .args .table .now)) (length (start .args .cells .now)) (c .before .observations .result) (c .before .observations .ensures)) (c .if1 .taken)
+    let x = entry (c .before) .args in
+    granted-short (game (x .table .now)) (x .card .now) (x .settled) (length (x .cells .now)) _ (need-is (c .before)) (c .if1 .taken)
 
 write-card-requires : tie.Need-write-card-requires
 write-card-requires c κs =
-    let start = c .before .before .before .before .before .before .before .before .before .before in
-    (start .pre .0, start .pre .1, subst (λ (n : ℕ). n ≤ length (start .args .card .now)) (needed (game (start .args .table .now)) (length (start .args .cells .now)) (c .before .before .observations .result) (c .before .before .observations .ensures)) (c .before .if1 .left), start .pre .2, start .pre .3)
-
-cast-t12 : tie.Need-cast-t12
-cast-t12 c = omega (arith, cells-at-most (c .before .before .before .before .before .before .before .before .before .before .before .before .before .args .table .now) (c .before .before .before .before .before .before .before .before .before .before .before .before .before .pre .0) (c .before .before .before .before .before .before .before .before .before .before .before .before .before .args .cells .now) (c .before .before .before .before .before .before .before .before .before .before .before .before .before .pre .1))
-
-same-length : tie.Need-same-length
-same-length c = search needs
+    let start = entry (c .before .before) in
+    (start .pre .0, start .pre .1, subst (λ (n : ℕ). n ≤ length (start .args .card .now)) (need-is (c .before .before)) (c .before .if1 .left))
 
 returns-2 : tie.Need-returns-2
 returns-2 c =
-    let start = c .before .before .before .before .before .before .before .before .before .before .before .before .before in
-    granted-written (game (start .args .table .now)) (start .args .card .now) (start .args .settled) (length (start .args .cells .now)) _ (needed (game (start .args .table .now)) (length (start .args .cells .now)) (c .before .before .before .before .before .observations .result) (c .before .before .before .before .before .observations .ensures)) (c .before .before .before .before .if1 .left) (c .before .before .write-card .last .1 .1 .1 .1 .1 .1 .0) (c .before .before .write-card .ensures)
+    let wrote = c .before .before .write-card in
+    let fits = c .before .before .before .before in
+    let x = entry (fits .before) .args in
+    granted-written (game (x .table .now)) (x .card .now) (x .settled) (length (x .cells .now)) _ (need-is (fits .before)) (fits .if1 .left) (wrote .last .1 .1 .1 .1 .1 .1 .0) (wrote .ensures)
 
 pub grant-spec : {M : Type 1} → statement M
 grant-spec =
     tie.close
     (tie.spec
+    (λ c. omega (arith, c .before .before .before .before .before .before .before .pre .0 .index .few))
     observations-requires
-    cast-part
-    add-part
-    mul-need
-    add-need
+    card-length-requires
     returns
     write-card-requires
-    cast-t12
-    same-length
+    (λ c. search needs)
     returns-2)

@@ -1,60 +1,81 @@
+-- `solver::holding` meets its contract. The loop's invariant: no cell before place i holds t.
+-- Assumes nothing.
 use borrow.Author.Needs.{needs}
-use borrow.Author.Tests.{eq-eqb, ne-eqb}
-use mathlib.Core.Path.{_≡_}
-use Prim.Native.Nat.{_≤_, _-_}
+use borrow.Author.Tests.{eq-eqb, ne-eqb, not-true, not-false}
+use mathlib.Core.Path.{sym, _∙_, subst}
+use Prim.Native.Nat.{ℕ, _/_, _<_, _≤_, _-_}
+use native.Mathlib.Nat.{lt-of-lt-of-le}
 use native.Mathlib.Omega.{arith}
 use lib.ListN.{length}
-use Rattle.sets.specs.Bounded.{first, nothing}
-use Rattle.sets.proofs.Bounded.{first-zero, first-skip}
-use Rattle.solver.proofs.Words.{holdsAt, holding-empty, holding-first, holding-at}
+use Rattle.families.specs.Bits.{laneSets}
+use Rattle.games.proofs.Holding.{Unheld, unheld-more, unheld-stop, unheld-end, holding-empty}
+use Rattle.solver.proofs.Index.{held-nowhere, held-cell, starts-unheld}
 use Rattle.solver.proofs.holding.Statement.{statement}
 use Rattle.solver.proofs.holding.Tie as tie
 
 abbrev Inv-loop : tie.InvT-loop
-Inv-loop cells s i₀ i = (i ≤ length cells) × (first i (holdsAt cells s) ≡ nothing)
+Inv-loop family starts cells t i₀ i = Unheld cells t i
 
 abbrev μ-loop : tie.MeasureT-loop
-μ-loop cells s i₀ i = length cells - i
+μ-loop family starts cells t i₀ i = length cells - i
+
+-- where the function begins
+abbrev entry : tie.At-loop Inv-loop μ-loop → tie.Start Inv-loop μ-loop
+entry at = at .before .before .before .before .before .before .before .before
+
+has-requires : tie.Need-has-requires Inv-loop μ-loop
+has-requires c κs = c .before .before .before .pre .1
 
 returns : tie.Need-returns Inv-loop μ-loop
-returns c = holding-empty (c .before .args .cells .now) (c .before .args .s) (c .if1 .taken)
-
-loop-holds : tie.Need-loop-holds Inv-loop μ-loop
-loop-holds c = (search needs, first-zero _)
-
-mul-if2 : tie.Need-mul-if2 Inv-loop μ-loop
-mul-if2 c = search needs
-
-shared-slice-read-if2 : tie.Need-shared-slice-read-if2 Inv-loop μ-loop
-shared-slice-read-if2 c = search needs
-
-cast-result : tie.Need-cast-result Inv-loop μ-loop
-cast-result c = search needs
+returns c =
+    let tested = c .before in
+    let start = tested .before .before .before .before in
+    let x = start .args in
+    held-nowhere (x .cells .now) (x .t) (sym (start .pre .0 .same (x .t)) ∙ sym (tested .has .ensures) ∙ not-true (tested .has .result) (c .if1 .taken))
 
 returns-2 : tie.Need-returns-2 Inv-loop μ-loop
 returns-2 c =
+    let tested = c .before .before in
+    let start = tested .before .before .before .before in
+    let x = start .args in
+    held-cell (x .cells .now) (x .t) _ (sym (start .pre .0 .same (x .t)) ∙ sym (tested .has .ensures) ∙ not-false (tested .has .result) (c .before .if1 .left))
+    (holding-empty (x .cells .now) (x .t) (c .if2 .taken))
+
+shared-slice-read-i : tie.Need-shared-slice-read-i Inv-loop μ-loop
+shared-slice-read-i c =
+    let start = c .before .before .before .before .before .before .before in
+    let index = start .pre .0 in
+    subst (λ (n : ℕ). start .args .t / laneSets < n) (sym (index .starting .size)) (lt-of-lt-of-le (start .pre .1) (index .few-lanes))
+
+loop-holds : tie.Need-loop-holds Inv-loop μ-loop
+loop-holds c =
+    let start = c .before .before .before .before .before .before .before in
+    let x = start .args in
+    starts-unheld (x .cells .now) (x .starts .now) (start .pre .0 .starting) (x .t) (lt-of-lt-of-le (start .pre .1) (start .pre .0 .few-lanes))
+
+cast-t19 : tie.Need-cast-t19 Inv-loop μ-loop
+cast-t19 c =
     let at = c .before .before .before in
-    let start = at .before .before in
-    holding-at (start .args .cells .now) (start .args .s) (at .before .if1 .left) (at .loop .i) (omega arith) (at .loop .inv .1) (eq-eqb _ _ (c .if2 .taken))
+    omega (arith, c .before .before .loop-test .taken, entry at .pre .0 .few)
 
-add-i : tie.Need-add-i Inv-loop μ-loop
-add-i c = search needs
-
-loop-less : tie.Need-loop-less Inv-loop μ-loop
-loop-less c = search needs
+returns-3 : tie.Need-returns-3 Inv-loop μ-loop
+returns-3 c =
+    let at = c .before .before .before in
+    let x = entry at .args in
+    let w = unheld-stop (x .cells .now) (x .t) (at .loop .i) (at .loop .inv) (at .before .before .if2 .left) (c .before .before .loop-test .taken) (eq-eqb _ _ (c .if3 .taken)) in
+    held-cell (x .cells .now) (x .t) (at .loop .i) (w .0) (w .1)
 
 loop-again : tie.Need-loop-again Inv-loop μ-loop
 loop-again c =
     let at = c .before .before .before in
-    let start = at .before .before in
-    (search needs, first-skip (at .loop .i) (holdsAt (start .args .cells .now) (start .args .s)) (at .loop .inv .1) (ne-eqb _ _ (c .if2 .left)))
+    let x = entry at .args in
+    unheld-more (x .cells .now) (x .t) (at .loop .i) (at .loop .inv) (c .before .before .loop-test .taken) (ne-eqb _ _ (c .if3 .left))
 
-returns-3 : tie.Need-returns-3 Inv-loop μ-loop
-returns-3 c =
+returns-4 : tie.Need-returns-4 Inv-loop μ-loop
+returns-4 c =
     let at = c .before in
-    let start = at .before .before in
-    let e : at .loop .i ≡ length (start .args .cells .now) = omega arith in
-    holding-first (start .args .cells .now) (start .args .s) (at .before .if1 .left) nothing (rw e at (at .loop .inv .1))
+    let x = entry at .args in
+    held-nowhere (x .cells .now) (x .t) (unheld-end (x .cells .now) (x .t) (at .loop .i) (at .loop .inv) (c .loop-test .left))
 
 pub holding-spec : {M : Type 1} → statement M
 holding-spec =
@@ -62,13 +83,18 @@ holding-spec =
     (tie.spec
     Inv-loop
     μ-loop
+    has-requires
     returns
-    loop-holds
-    mul-if2
-    shared-slice-read-if2
-    cast-result
     returns-2
-    add-i
-    loop-less
+    (λ c. search needs)
+    (λ c. search needs)
+    shared-slice-read-i
+    loop-holds
+    (λ c. search needs)
+    (λ c. search needs)
+    cast-t19
+    returns-3
+    (λ c. search needs)
+    (λ c. search needs)
     loop-again
-    returns-3)
+    returns-4)

@@ -1,123 +1,149 @@
+-- `solver::write_card` meets its contract. The loop's invariant: the parts of the cells below c stand behind the front.
+-- Assumes nothing.
 use borrow.Author.Needs.{needs}
-use mathlib.Core.Path.{sym, ap, _∙_}
-use mathlib.Core.List.{_++_}
-use Prim.Native.Nat.{ℕ, _+_, _≤_, _-_}
-use lib.Seq.{length-take-le}
-use Rattle.games.specs.Format.{maxCells}
-use Rattle.solver.proofs.Carding.{Carded, carded-none, carded-room, carded-part, carded-more, carded-end, front-room, fronted-same, carded-whole, prefix-room, parts-few, observations-at-most, cells-at-most, cell-of}
+use mathlib.Core.List.{List}
+use mathlib.Core.Path.{_≡_, sym, ap, _∙_}
+use Prim.Native.Nat.{ℕ, _+_, _≤_, _<_, _-_, _^_}
 use native.Mathlib.Omega.{arith}
-use lib.ListN.{length, drop}
-use Rattle.games.specs.Words.{game}
+use lib.ListN.{length}
+use lib.Seq.{length-take-le}
+use Rattle.games.specs.Format.{maxCells, maxObservations}
+use Rattle.games.specs.Game.{Game}
+use Rattle.games.specs.Words.{game, frontLength, partLength}
+use Rattle.games.proofs.Limits.{parts-below}
+use Rattle.cards.specs.Card.{cellPlace}
+use Rattle.tables.proofs.Bounds.{few-observations}
 use Rattle.tables.proofs.Checks.{sized, accepted}
+use Rattle.solver.proofs.Carding.{Carded, carded-none, carded-room, carded-part, carded-more, carded-end, front-within, fronted-same, fronted-room, carded-whole, cell-of}
 use Rattle.solver.proofs.write_card.Statement.{statement}
 use Rattle.solver.proofs.write_card.Tie as tie
 
 abbrev Inv-loop : tie.InvT-loop
-Inv-loop table low high family starts cells card₀ part c₀ card c = (part ≤ 9) × (length cells ≤ maxCells) × Carded (game table) cells part card₀ c card
+Inv-loop table low high family starts cells card₀ o front part c₀ card c = (o ≤ maxObservations) × (length cells ≤ maxCells) × Carded (game table) cells card₀ c card
 
 abbrev μ-loop : tie.MeasureT-loop
-μ-loop table low high family starts cells card₀ part c₀ card c = length cells - c
+μ-loop table low high family starts cells card₀ o front part c₀ card c = length cells - c
+
+-- ---- where the lengths are known
+
+abbrev Lengths : Type 0
+Lengths = tie.After-part-length Inv-loop μ-loop
+
+abbrev entry : Lengths → tie.Start Inv-loop μ-loop
+entry p = p .before .before .before .before .before .before .before .before .before .before
+
+abbrev played : Lengths → Game
+played p = game (entry p .args .table .now)
+
+abbrev listed : Lengths → List ℕ
+listed p = entry p .args .cells .now
+
+front-is : (p : Lengths) → p .before .front-length .result ≡ frontLength (played p .observations)
+front-is p = p .before .front-length .ensures ∙ ap frontLength (p .before .before .observations .ensures)
+
+part-is : (p : Lengths) → p .part-length .result ≡ partLength (played p .observations)
+part-is p = p .part-length .ensures ∙ ap partLength (p .before .before .observations .ensures)
+
+fits : (p : Lengths) → p .before .front-length .result ≤ length (entry p .args .card .now)
+fits p =
+    let start = entry p in
+    omega (arith, front-is p, front-within (length (listed p)) (played p .observations) (length (start .args .card .now)) (start .pre .2))
+
+-- ---- a turn, and where its part begins
+
+abbrev lengths : tie.At-loop Inv-loop μ-loop → Lengths
+lengths t = t .before .before .before .before .before
+
+abbrev Placed : Type 0
+Placed = tie.After-cell-place Inv-loop μ-loop
+
+abbrev turn : Placed → tie.At-loop Inv-loop μ-loop
+turn c = c .before .before
+
+place-is : (c : Placed) → c .cell-place .result ≡ cellPlace (played (lengths (turn c)) .observations) (turn c .loop .c)
+place-is c = c .cell-place .ensures ∙ ap (λ (o : ℕ). cellPlace o (turn c .loop .c)) (lengths (turn c) .before .before .observations .ensures)
+
+room : (c : Placed) → c .cell-place .result + lengths (turn c) .part-length .result ≤ length (turn c .loop .card)
+room c =
+    let t = turn c in
+    let p = lengths t in
+    carded-room (played p) (listed p) _ (t .loop .c) (t .loop .card) (t .loop .inv .2) (c .before .loop-test .taken) (c .cell-place .result) (p .part-length .result) (place-is c) (part-is p)
+
+small : (c : Placed) → c .cell-place .result + lengths (turn c) .part-length .result < 2 ^ 21
+small c =
+    let t = turn c in
+    let p = lengths t in
+    let o = p .before .before .observations .result in
+    omega (arith, c .cell-place .ensures, p .part-length .ensures, t .loop .inv .0, parts-below (t .loop .c) (partLength o) (omega (arith, c .before .loop-test .taken, t .loop .inv .1)) (omega (arith, t .loop .inv .0)))
 
 observations-requires : tie.Need-observations-requires Inv-loop μ-loop
-observations-requires c κs = sized (c .before .before .before .before .before .before .before .args .table .now) (c .before .before .before .before .before .before .before .pre .0)
-
-cast-part : tie.Need-cast-part Inv-loop μ-loop
-cast-part c = omega (arith, c .observations .ensures, observations-at-most (c .before .before .before .before .before .before .before .before .args .table .now) (c .before .before .before .before .before .before .before .before .pre .0))
-
-add-part : tie.Need-add-part Inv-loop μ-loop
-add-part c = omega (arith, c .observations .ensures, observations-at-most (c .before .before .before .before .before .before .before .before .args .table .now) (c .before .before .before .before .before .before .before .before .pre .0))
-
-slice-relend-prefix-write-front : tie.Need-slice-relend-prefix-write-front Inv-loop μ-loop
-slice-relend-prefix-write-front c = prefix-room (game (c .before .before .before .before .before .before .before .before .args .table .now)) (c .before .before .before .before .before .before .before .before .args .cells .now) (c .before .before .before .before .before .before .before .before .args .card .now) (c .observations .result) (c .observations .ensures) (c .before .before .before .before .before .before .before .before .pre .2)
+observations-requires c κs = let start = c .before .before .before .before .before .before .before in sized (start .args .table .now) (start .pre .0 .fine)
 
 slice-aggregate-write-front : tie.Need-slice-aggregate-write-front Inv-loop μ-loop
-slice-aggregate-write-front c = sym (length-take-le _ _ (prefix-room (game (c .before .before .before .before .before .before .before .before .before .args .table .now)) (c .before .before .before .before .before .before .before .before .before .args .cells .now) (c .before .before .before .before .before .before .before .before .before .args .card .now) (c .before .observations .result) (c .before .observations .ensures) (c .before .before .before .before .before .before .before .before .before .pre .2)))
+slice-aggregate-write-front c = sym (length-take-le _ _ (fits (c .before)))
 
 write-front-requires : tie.Need-write-front-requires Inv-loop μ-loop
 write-front-requires c κs =
-    let start = c .before .before .before .before .before .before .before .before .before in
-    record {
-      fine = start .pre .0;
-      listed = start .pre .1;
-      room = length-take-le _ _ (prefix-room (game (start .args .table .now)) (start .args .cells .now) (start .args .card .now) (c .before .observations .result) (c .before .observations .ensures) (start .pre .2)) ∙ ap (λ (n : ℕ). 1 + n) (c .before .observations .ensures);
-    }
+    let p = c .before in
+    (entry p .pre .0, length-take-le _ _ (fits p) ∙ front-is p)
 
 loop-holds : tie.Need-loop-holds Inv-loop μ-loop
 loop-holds c =
-    let start = c .before .before .before .before .before .before .before .before .before .before .before .before in
-    let obs = c .before .before .before .before in
-    let wf = c .before .before in (
-      omega (arith, obs .observations .ensures, observations-at-most (start .args .table .now) (start .pre .0)),
-      cells-at-most (start .args .table .now) (start .pre .0) (start .args .cells .now) (start .pre .1),
-      carded-none (game (start .args .table .now)) (start .args .cells .now) (1 + obs .observations .result) (wf .write-front .last .1 .1 .0 ++ drop (1 + obs .observations .result) (start .args .card .now)) (ap (λ (n : ℕ). 1 + n) (obs .observations .ensures))
-          (front-room (game (start .args .table .now)) (start .args .cells .now) (start .pre .1) (1 + obs .observations .result) (ap (λ (n : ℕ). 1 + n) (obs .observations .ensures)) (start .args .card .now) (wf .write-front .last .1 .1 .0) (wf .write-front .ensures) (start .pre .2)),
+    let wrote = c .before .before in
+    let p = wrote .before .before in
+    let start = entry p in
+    let w = start .args .table .now in
+    let l = start .pre .0 in (
+      omega (arith, p .before .before .observations .ensures, few-observations w (sized w (l .fine))),
+      l .index .few,
+      carded-none (played p) (listed p) _
+          (fronted-room (played p) (listed p) (l .are) (p .before .front-length .result) (front-is p) (start .args .card .now) (wrote .write-front .last .1 .1 .1 .1 .0) (wrote .write-front .ensures) (start .pre .2)),
     )
-
-mul-at : tie.Need-mul-at Inv-loop μ-loop
-mul-at c = omega (arith, parts-few (c .before .before .before .before .before .before .observations .result) (c .before .loop .c) (length (c .before .before .before .before .before .before .before .before .before .before .before .before .before .before .args .cells .now)) (c .before .loop .inv .0) (c .before .loop .inv .1) (c .before .loop .inv .2 .within))
-
-add-at : tie.Need-add-at Inv-loop μ-loop
-add-at c = omega (arith, c .before .loop .inv .0, parts-few (c .before .before .before .before .before .before .observations .result) (c .before .loop .c) (length (c .before .before .before .before .before .before .before .before .before .before .before .before .before .before .args .cells .now)) (c .before .loop .inv .0) (c .before .loop .inv .1) (c .before .loop .inv .2 .within))
-
-mul-write-cell : tie.Need-mul-write-cell Inv-loop μ-loop
-mul-write-cell c = omega (arith, c .before .loop .inv .1, c .before .loop .inv .2 .within)
-
-shared-slice-read-write-cell : tie.Need-shared-slice-read-write-cell Inv-loop μ-loop
-shared-slice-read-write-cell c = c .before .loop-test .taken
-
-add-write-cell : tie.Need-add-write-cell Inv-loop μ-loop
-add-write-cell c = omega (arith, c .before .before .loop .inv .0, parts-few (c .before .before .before .before .before .before .before .observations .result) (c .before .before .loop .c) (length (c .before .before .before .before .before .before .before .before .before .before .before .before .before .before .before .args .cells .now)) (c .before .before .loop .inv .0) (c .before .before .loop .inv .1) (c .before .before .loop .inv .2 .within))
-
-mul-write-cell-2 : tie.Need-mul-write-cell-2 Inv-loop μ-loop
-mul-write-cell-2 c = omega (arith, c .before .before .loop .inv .0, parts-few (c .before .before .before .before .before .before .before .observations .result) (c .before .before .loop .c) (length (c .before .before .before .before .before .before .before .before .before .before .before .before .before .before .before .args .cells .now)) (c .before .before .loop .inv .0) (c .before .before .loop .inv .1) (c .before .before .loop .inv .2 .within))
-
-sub-write-cell : tie.Need-sub-write-cell Inv-loop μ-loop
-sub-write-cell c = omega arith
-
-part-write-cell-start : tie.Need-part-write-cell-start Inv-loop μ-loop
-part-write-cell-start c = omega arith
-
-part-write-cell-end : tie.Need-part-write-cell-end Inv-loop μ-loop
-part-write-cell-end c = carded-room (game (c .before .before .before .before .before .before .before .before .before .before .before .before .before .before .before .args .table .now)) (c .before .before .before .before .before .before .before .before .before .before .before .before .before .before .before .args .cells .now) (1 + c .before .before .before .before .before .before .before .observations .result) _ (c .before .before .loop .c) (c .before .before .loop .card) (c .before .before .loop .inv .2) (c .before .loop-test .taken)
 
 write-cell-requires : tie.Need-write-cell-requires Inv-loop μ-loop
 write-cell-requires c κs =
-    let lp = c .before .before .before in
-    let start = lp .before .before .before .before .before .before .before .before .before .before .before .before .before in
-    let w = start .args .table .now in (
-      record { fine = start .pre .0; listed = start .pre .1; room = carded-part (game (lp .before .before .before .before .before .before .before .before .before .before .before .before .before .args .table .now)) (lp .before .before .before .before .before .before .before .before .before .before .before .before .before .args .cells .now) (1 + lp .before .before .before .before .before .observations .result) _ (lp .loop .c) (lp .loop .card) (lp .loop .inv .2) (c .before .before .loop-test .taken) },
-      cell-of (game w) (accepted w (start .pre .0)) (start .args .cells .now) (start .pre .1) (lp .loop .c) (c .before .before .loop-test .taken),
-      start .pre .3,
-      start .pre .4,
+    let at = c .before .before in
+    let t = turn at in
+    let p = lengths t in
+    let start = entry p in
+    let w = start .args .table .now in
+    let l = start .pre .0 in
+    let more = at .before .loop-test .taken in (
+      l,
+      start .pre .1,
+      cell-of (played p) (accepted w (l .fine)) (listed p) (l .are) (t .loop .c) more,
+      carded-part (played p) (listed p) _ (t .loop .c) (t .loop .card) (t .loop .inv .2) more (at .cell-place .result) (p .part-length .result) (place-is at) (part-is p),
     )
-
-add-c : tie.Need-add-c Inv-loop μ-loop
-add-c c = search needs
-
-loop-less : tie.Need-loop-less Inv-loop μ-loop
-loop-less c = search needs
 
 loop-again : tie.Need-loop-again Inv-loop μ-loop
 loop-again c =
-    let lp = c .before .before .before .before .before .before in
-    (lp .loop .inv .0, lp .loop .inv .1, carded-more (game (lp .before .before .before .before .before .before .before .before .before .before .before .before .before .args .table .now)) (lp .before .before .before .before .before .before .before .before .before .before .before .before .before .args .cells .now) (1 + lp .before .before .before .before .before .observations .result) _ (lp .loop .c) (lp .loop .card) (lp .loop .inv .2) (c .before .before .before .before .before .loop-test .taken) (c .before .before .write-cell .last .1 .1 .1 .1 .1 .1 .1 .0) (c .before .before .write-cell .ensures))
+    let wrote = c .before .before in
+    let at = wrote .before .before .before in
+    let t = turn at in
+    let p = lengths t in (
+      t .loop .inv .0,
+      t .loop .inv .1,
+      carded-more (played p) (listed p) _ (t .loop .c) (t .loop .card) (t .loop .inv .2) (at .before .loop-test .taken) (at .cell-place .result) (p .part-length .result) (place-is at) (part-is p)
+          (wrote .write-cell .last .1 .1 .1 .1 .1 .1 .1 .0) (wrote .write-cell .ensures),
+    )
 
 same-length : tie.Need-same-length Inv-loop μ-loop
 same-length c =
-    let lp = c .before in
-    let start = lp .before .before .before .before .before .before .before .before .before .before .before .before .before in
-    let obs = lp .before .before .before .before .before in
-    let wf = lp .before .before .before in
-    lp .loop .inv .2 .same
-    ∙ fronted-same (game (start .args .table .now)) (start .args .cells .now) (start .pre .1) (1 + obs .observations .result) (ap (λ (n : ℕ). 1 + n) (obs .observations .ensures)) (start .args .card .now) (wf .write-front .last .1 .1 .0) (wf .write-front .ensures) (prefix-room (game (start .args .table .now)) (start .args .cells .now) (start .args .card .now) (obs .observations .result) (obs .observations .ensures) (start .pre .2))
+    let t = c .before in
+    let wrote = t .before .before .before in
+    let p = lengths t in
+    let start = entry p in
+    t .loop .inv .2 .same
+    ∙ fronted-same (played p) (listed p) (start .pre .0 .are) (p .before .front-length .result) (front-is p) (start .args .card .now) (wrote .write-front .last .1 .1 .1 .1 .0) (wrote .write-front .ensures) (start .pre .2)
 
 returns : tie.Need-returns Inv-loop μ-loop
 returns c =
-    let lp = c .before in
-    let start = lp .before .before .before .before .before .before .before .before .before .before .before .before .before in
-    let obs = lp .before .before .before .before .before in
-    let wf = lp .before .before .before in
-    carded-whole (game (start .args .table .now)) (start .args .cells .now) (start .pre .1) (1 + obs .observations .result) (ap (λ (n : ℕ). 1 + n) (obs .observations .ensures)) (start .args .card .now) (wf .write-front .last .1 .1 .0) (wf .write-front .ensures) (lp .loop .card) (carded-end (game (lp .before .before .before .before .before .before .before .before .before .before .before .before .before .args .table .now)) (lp .before .before .before .before .before .before .before .before .before .before .before .before .before .args .cells .now) (1 + lp .before .before .before .before .before .observations .result) _ (lp .loop .c) (lp .loop .card) (lp .loop .inv .2) (c .loop-test .left))
+    let t = c .before in
+    let wrote = t .before .before .before in
+    let p = lengths t in
+    let start = entry p in
+    carded-whole (played p) (listed p) (start .pre .0 .are) (p .before .front-length .result) (front-is p) (start .args .card .now) (wrote .write-front .last .1 .1 .1 .1 .0) (wrote .write-front .ensures) (start .pre .2) (t .loop .card)
+    (carded-end (played p) (listed p) _ (t .loop .c) (t .loop .card) (t .loop .inv .2) (c .loop-test .left))
 
 pub write-card-spec : {M : Type 1} → statement M
 write-card-spec =
@@ -126,24 +152,24 @@ write-card-spec =
     Inv-loop
     μ-loop
     observations-requires
-    cast-part
-    add-part
-    slice-relend-prefix-write-front
+    (λ c κs. search needs)
+    (λ c κs. search needs)
+    fits
     slice-aggregate-write-front
     write-front-requires
     loop-holds
-    mul-at
-    add-at
-    mul-write-cell
-    shared-slice-read-write-cell
-    add-write-cell
-    mul-write-cell-2
-    sub-write-cell
-    part-write-cell-start
-    part-write-cell-end
+    (λ c. search needs)
+    (λ c κs. search needs)
+    (λ c. search needs)
+    (λ c. c .before .before .loop-test .taken)
+    (λ c. omega (arith, small (c .before)))
+    (λ c. omega (arith, small (c .before)))
+    (λ c. omega arith)
+    (λ c. omega arith)
+    (λ c. room (c .before))
     write-cell-requires
-    add-c
-    loop-less
+    (λ c. search needs)
+    (λ c. search needs)
     loop-again
     same-length
     returns)

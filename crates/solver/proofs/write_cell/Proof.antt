@@ -1,317 +1,282 @@
+-- `solver::write_cell` meets its contract. The loops' invariants: no action below a meets the step; for the observations below j, the
+-- successors are settled and the words are written.
+-- Assumes nothing.
 use borrow.Author.Needs.{needs}
-use borrow.Author.Tests.{eq-eqb, ne-eqb}
-use mathlib.Core.Bool.{true, false}
-use mathlib.Core.Logic.{⊎-elim}
+use mathlib.Core.Bool.{true}
+use mathlib.Core.List.{List}
 use mathlib.Core.Path.{_≡_, refl, sym, ap, _∙_, subst}
 use Prim.Native.Nat.{ℕ, _+_, _≤_, _<_, _-_, _^_}
+use native.Mathlib.Nat.{le-antisymm}
 use native.Mathlib.Omega.{arith}
 use lib.ListN.{length, set, length-set}
-use native.Mathlib.Nat.{le-antisymm}
-use native.Mathlib.Numerals.{add-one-le}
 use Rattle.sets.specs.Mask.{common}
-use Rattle.sets.specs.Bounded.{first, nothing, all}
-use Rattle.sets.proofs.Bounded.{first-zero, first-skip, all-zero, all-more}
+use Rattle.sets.specs.Bounded.{all}
+use Rattle.sets.specs.Family.{holds}
+use Rattle.sets.proofs.Bounded.{first-zero, all-zero, all-more}
 use Rattle.sets.proofs.Logic.{and-intro}
-use Rattle.games.specs.Format.{lowValues, maxActions, maxObservations}
-use Rattle.games.specs.Words.{game, word}
+use Rattle.families.proofs.Lanes.{lane-there}
+use Rattle.games.specs.Format.{lowValues, maxActions, maxObservations, kindCell}
+use Rattle.games.specs.Game.{Game, Accepted}
+use Rattle.games.specs.Fields.{word}
+use Rattle.games.specs.Words.{game}
 use Rattle.games.specs.Verdict.{settled}
 use Rattle.games.specs.Automaton.{holding}
+use Rattle.games.proofs.Holding.{holding-small}
 use Rattle.tables.proofs.Checks.{sized, accepted}
-use Rattle.search.proofs.Turns.{shown-below, sets-few, table-lanes}
-use Rattle.solver.proofs.Words.{lt-by-ne, holdsAt, Filled, filled-none, filled-more, filled-end, holding-small, cells-small, observations-small, actions-small}
-use Rattle.solver.proofs.Choosing.{Trying, trying-next, trying-with, chosen-is, never-none, blocked-fails, uncovered-fails, covered-meets, after-is, uncovered, named-empty, named-at, nextWord, next-word, set-words}
+use Rattle.tables.proofs.Bounds.{few-observations, few-actions, few-sets}
+use Rattle.search.proofs.Turns.{shown-below}
+use Rattle.solver.proofs.Words.{Filled, filled-none, filled-more, filled-end}
+use Rattle.solver.proofs.Index.{nowhere-unheld, by-holding}
+use Rattle.solver.proofs.Choosing.{Trying, trying-next, trying-with, chosen-is, never-none, blocked-fails, uncovered-fails, covered-meets, after-is, settled-held, nextWord, next-word, set-words}
 use Rattle.solver.proofs.write_cell.Statement.{statement}
 use Rattle.solver.proofs.write_cell.Tie as tie
 
+-- the loop over observations that is left at once
 abbrev Inv-loop2 : tie.InvT-loop2
-Inv-loop2 table low high family starts cells s out o a₀ u j t i₀ a-end a i = (a ≡ a₀) × (i ≤ length cells) × (first i (holdsAt cells t) ≡ nothing)
+Inv-loop2 table low high family starts cells s out o a₀ u j t a-end a = a ≡ a₀
 
 abbrev μ-loop2 : tie.MeasureT-loop2
-μ-loop2 table low high family starts cells s out o a₀ u j t i₀ a-end a i = length cells - i
+μ-loop2 table low high family starts cells s out o a₀ u j t a-end a = 0
 
 abbrev Inv-loop : tie.InvT-loop
-Inv-loop table low high family starts cells s out₀ o a₀ u j₀ a-end out a j = (a ≡ a₀) × (j ≤ o) × (all j (λ i. settled (game table) (common u (game table .shown i))) ≡ true) × Trying (game table) cells s o a-end a₀ out × Filled o (nextWord (game table) cells u) j out
+Inv-loop table low high family starts cells s out₀ o a₀ u j₀ a-end out a j = (a ≡ a₀) × (j ≤ o) × (all j (λ i. settled (game table) (common u (game table .shown i))) ≡ true) × Trying (game table) s o a-end a₀ out × Filled o (nextWord (game table) cells u) j out
 
 abbrev μ-loop : tie.MeasureT-loop
 μ-loop table low high family starts cells s out₀ o a₀ u j₀ a-end out a j = o - j
 
 abbrev Inv-actions : tie.InvT-actions
-Inv-actions table low high family starts cells s out₀ o a₀ a-end out a = Trying (game table) cells s o a-end a out
+Inv-actions table low high family starts cells s out₀ o a₀ a-end out a = Trying (game table) s o a-end a out
 
 abbrev μ-actions : tie.MeasureT-actions
 μ-actions table low high family starts cells s out₀ o a₀ a-end out a = a-end - a
 
+-- ---- the places: a turn for an action, a turn for an observation, the states that show it
+
+abbrev Turn : Type 0
+Turn = tie.At-actions Inv-loop2 μ-loop2 Inv-loop μ-loop Inv-actions μ-actions
+
+abbrev Look : Type 0
+Look = tie.At-loop Inv-loop2 μ-loop2 Inv-loop μ-loop Inv-actions μ-actions
+
+abbrev Part : Type 0
+Part = tie.After-shown Inv-loop2 μ-loop2 Inv-loop μ-loop Inv-actions μ-actions
+
+abbrev turn : Look → Turn
+turn l = l .before .before .before .before .before .before
+
+abbrev look : Part → Look
+look p = p .before .before
+
+-- ---- what is known there
+
+abbrev entry : Turn → tie.Start Inv-loop2 μ-loop2 Inv-loop μ-loop Inv-actions μ-actions
+entry t = t .before .before .before .before .before .before .before .before .before .before
+
+abbrev played : Turn → Game
+played t = game (entry t .args .table .now)
+
+abbrev listed : Turn → List ℕ
+listed t = entry t .args .cells .now
+
+abbrev acting : Turn → ℕ
+acting t = entry t .args .s
+
+abbrev observed : Turn → ℕ
+observed t = t .before .before .observations .result
+
+abbrev last : Turn → ℕ
+last t = t .before .actions2 .result
+
+fine : (t : Turn) → Accepted (played t)
+fine t = let start = entry t in accepted (start .args .table .now) (start .pre .0 .fine)
+
+-- the successors of the set
+abbrev after-it : Look → ℕ
+after-it l = l .before .before .posted .given .0 .0
+
+-- those that show the observation, and where they are settled
+abbrev part : Part → ℕ
+part p = common (after-it (look p)) (p .shown .result)
+
+there : (p : Part) → look p .loop .j < played (turn (look p)) .observations
+there p = omega (arith, p .before .loop-test .taken, turn (look p) .actions .inv .observations-are)
+
+below : (p : Part) → part p < 2 ^ played (turn (look p)) .states
+below p =
+    let l = look p in
+    let t = turn l in
+    subst (λ (x : ℕ). common (after-it l) x < 2 ^ played t .states) (sym (p .shown .ensures)) (shown-below (played t) (fine t) (after-it l) (l .loop .j) (there p))
+
+-- those that show the observation, by the game
+abbrev shows : Part → ℕ
+shows p = common (after-it (look p)) (played (turn (look p)) .shown (look p .loop .j))
+
+held : (p : Part) → settled (played (turn (look p))) (shows p) ≡ holds (listed (turn (look p))) (part p)
+held p =
+    let t = turn (look p) in
+    ap (λ (x : ℕ). settled (played t) (common (after-it (look p)) x)) (sym (p .shown .ensures))
+    ∙ settled-held (played t) (fine t) (listed t) (entry t .pre .0 .are) (part p) (below p)
+
+-- the cell named
+abbrev asked : tie.After-known-told2 Inv-loop2 μ-loop2 Inv-loop μ-loop Inv-actions μ-actions → Part
+asked c = c .before .before .before .before .before
+
+named : (c : tie.After-known-told2 Inv-loop2 μ-loop2 Inv-loop μ-loop Inv-actions μ-actions) → (settled (played (turn (look (asked c)))) (shows (asked c)) ≡ true) × (c .before .held .given .0 .0 .0 ≡ holding (listed (turn (look (asked c)))) (part (asked c)))
+named c =
+    let p = asked c in
+    let answer = c .before .before .before .holding in
+    let w = by-holding (listed (turn (look p))) (part p) (answer .result) (answer .ensures) (c .before .held .given .0 .0) (c .before .held .given .1) in
+    (held p ∙ w .0, w .1)
+
+-- ---- the needs
+
 observations-requires : tie.Need-observations-requires Inv-loop2 μ-loop2 Inv-loop μ-loop Inv-actions μ-actions
-observations-requires c κs = sized (c .before .before .before .before .before .before .before .args .table .now) (c .before .before .before .before .before .before .before .pre .0 .fine)
+observations-requires c κs = let start = c .before .before .before .before .before .before .before in sized (start .args .table .now) (start .pre .0 .fine)
 
 actions-requires : tie.Need-actions-requires Inv-loop2 μ-loop2 Inv-loop μ-loop Inv-actions μ-actions
-actions-requires c κs = sized (c .before .before .before .before .before .before .before .before .args .table .now) (c .before .before .before .before .before .before .before .before .pre .0 .fine)
+actions-requires c κs = let start = c .before .before .before .before .before .before .before .before in sized (start .args .table .now) (start .pre .0 .fine)
 
 actions-holds : tie.Need-actions-holds Inv-loop2 μ-loop2 Inv-loop μ-loop Inv-actions μ-actions
 actions-holds c =
     let start = c .before .before .before .before .before .before .before .before .before in
-    let t = start .args .table .now in
-    let l = start .args .cells .now in
-    let d = start .args .out .now in
-    let w = start .pre .0 in
+    let w = start .args .table .now in
     let o = c .before .observations .ensures in
     record {
-      few = cells-small t l d w;
       observations-are = o;
-      observations-few = subst (λ (n : ℕ). n ≤ maxObservations) (sym o) (observations-small t l d w);
+      observations-few = subst (λ (n : ℕ). n ≤ maxObservations) (sym o) (few-observations w (sized w (start .pre .0 .fine)));
       actions-are = c .actions2 .ensures;
-      actions-few = subst (λ (n : ℕ). n ≤ maxActions) (sym (c .actions2 .ensures)) (actions-small t l d w);
+      actions-few = subst (λ (n : ℕ). n ≤ maxActions) (sym (c .actions2 .ensures)) (few-actions w (sized w (start .pre .0 .fine)));
       within = omega arith;
-      size = w .room ∙ ap (λ (n : ℕ). 1 + n) (sym o);
+      size = start .pre .3 ∙ ap (λ (n : ℕ). 1 + n) (sym o);
       none = first-zero _;
     }
 
 post-requires : tie.Need-post-requires Inv-loop2 μ-loop2 Inv-loop μ-loop Inv-actions μ-actions
 post-requires c κs =
-    let at = c .before in
-    let start = at .before .before .before .before .before .before .before .before .before .before in
-    (start .pre .0 .fine, start .pre .2 .tabled, start .pre .1 .below, omega (arith, at .actions .inv .actions-are))
-
-enum-known-walked : tie.Need-enum-known-walked Inv-loop2 μ-loop2 Inv-loop μ-loop Inv-actions μ-actions
-enum-known-walked c = search needs
-
-enum-told : tie.Need-enum-told Inv-loop2 μ-loop2 Inv-loop μ-loop Inv-actions μ-actions
-enum-told c = search needs
-
-add-a : tie.Need-add-a Inv-loop2 μ-loop2 Inv-loop μ-loop Inv-actions μ-actions
-add-a c = search needs
-
-actions-less : tie.Need-actions-less Inv-loop2 μ-loop2 Inv-loop μ-loop Inv-actions μ-actions
-actions-less c = search needs
+    let t = c .before in
+    let pre = entry t .pre in
+    (record { fine = pre .0 .fine; tabled = pre .1 }, pre .2 .below, omega (arith, t .actions .inv .actions-are))
 
 actions-again : tie.Need-actions-again Inv-loop2 μ-loop2 Inv-loop μ-loop Inv-actions μ-actions
 actions-again c =
-    let at = c .before .before .before .before in
-    let start = at .before .before .before .before .before .before .before .before .before .before in
-    let g = game (start .args .table .now) in
-    trying-next g (start .args .cells .now) (start .args .s) (at .before .before .observations .result) (at .before .actions2 .result) (at .actions .a) (at .actions .out) (at .actions .inv)
-    (blocked-fails g (start .args .s) (at .actions .a) (c .before .before .post .result) (c .before .before .post .ensures) (c .enum-told .given .1)) (omega arith)
+    let answer = c .before .before .post in
+    let t = c .before .before .before .before in
+    trying-next (played t) (acting t) (observed t) (last t) (t .actions .a) (t .actions .out) (t .actions .inv)
+    (blocked-fails (played t) (acting t) (t .actions .a) (answer .result) (answer .ensures) (c .enum-told .given .1)) (omega arith)
 
 loop-holds : tie.Need-loop-holds Inv-loop2 μ-loop2 Inv-loop μ-loop Inv-actions μ-actions
 loop-holds c =
-    let act = c .before .before .before .before .before in
-    let start = act .before .before .before .before .before .before .before .before .before .before in
-    (refl, search needs, all-zero _, act .actions .inv, filled-none (c .before .before .before .before .before .before .before .observations .result) (nextWord (game (start .args .table .now)) (start .args .cells .now) (c .before .walked .given .0 .0)) (act .actions .out) (act .actions .inv .size))
+    let t = c .before .before .before .before .before in
+    (refl, search needs, all-zero _, t .actions .inv, filled-none (observed t) (nextWord (played t) (listed t) (c .before .posted .given .0 .0)) (t .actions .out) (t .actions .inv .size))
 
 shown-requires : tie.Need-shown-requires Inv-loop2 μ-loop2 Inv-loop μ-loop Inv-actions μ-actions
 shown-requires c κs =
-    let lp = c .before in
-    let start = lp .before .before .before .before .before .before .before .before .before .before .before .before .before .before .before .before in
-    (sized (start .args .table .now) (start .pre .0 .fine), omega (arith, lp .before .before .before .before .before .before .actions .inv .observations-are))
+    let t = turn (c .before) in
+    let start = entry t in
+    (sized (start .args .table .now) (start .pre .0 .fine), omega (arith, t .actions .inv .observations-are))
 
-scan-from-requires : tie.Need-scan-from-requires Inv-loop2 μ-loop2 Inv-loop μ-loop Inv-actions μ-actions
-scan-from-requires c κs =
-    let lp = c .before .before in
-    let act = lp .before .before .before .before .before .before in
-    let start = lp .before .before .before .before .before .before .before .before .before .before .before .before .before .before .before .before in
-    let w = start .args .table .now in
-    let A = accepted w (start .pre .0 .fine) in
-    record {
-      accepted = A;
-      few = table-lanes w (sized w (start .pre .0 .fine));
-      starting = start .pre .3;
-      settled-family = start .pre .2 .settled-family;
-      listed = start .pre .0 .listed;
-      below = rw (c .shown .ensures) (shown-below (game w) A (lp .before .before .walked .given .0 .0) (lp .loop .j) (omega (arith, c .before .loop-test .taken, act .actions .inv .observations-are)));
-    }
-
-loop2-holds : tie.Need-loop2-holds Inv-loop2 μ-loop2 Inv-loop μ-loop Inv-actions μ-actions
-loop2-holds c = (refl, c .scan-from .ensures .within, c .scan-from .ensures .none)
-
-below : (c : tie.At-loop2 Inv-loop2 μ-loop2 Inv-loop μ-loop Inv-actions μ-actions) → common (c .before .before .before .before .before .before .walked .given .0 .0) (c .before .before .shown .result) < 2 ^ game (c .before .before .before .before .before .before .before .before .before .before .before .before .before .before .before .before .before .before .before .before .args .table .now) .states
-below c =
-    let lp = c .before .before .before .before in
-    let act = lp .before .before .before .before .before .before in
-    let start = lp .before .before .before .before .before .before .before .before .before .before .before .before .before .before .before .before in
-    let w = start .args .table .now in
-    let g = game w in
-    let A = accepted w (start .pre .0 .fine) in
-    let l = start .args .cells .now in
-    let s = start .args .s in
-    let u = lp .before .before .walked .given .0 .0 in
-    let j = lp .loop .j in
-    rw (c .before .before .shown .ensures) (shown-below g A u j (omega (arith, c .before .before .before .loop-test .taken, act .actions .inv .observations-are)))
-
--- the cell named is the lowest that holds them
-named : (c : tie.Joined1 Inv-loop2 μ-loop2 Inv-loop μ-loop Inv-actions μ-actions) → (c .if1 .cell ≡ holding (c .before .before .before .before .before .before .before .before .before .before .before .before .before .before .before .before .before .before .before .before .before .args .cells .now) (common (c .before .before .before .before .before .before .before .walked .given .0 .0) (c .before .before .before .shown .result))) × (settled (game (c .before .before .before .before .before .before .before .before .before .before .before .before .before .before .before .before .before .before .before .before .before .args .table .now)) (common (c .before .before .before .before .before .before .before .walked .given .0 .0) (c .before .before .before .shown .result)) ≡ true)
-named c =
-    let lp = c .before .before .before .before .before in
-    let act = lp .before .before .before .before .before .before in
-    let start = lp .before .before .before .before .before .before .before .before .before .before .before .before .before .before .before .before in
-    let w = start .args .table .now in
-    let g = game w in
-    let A = accepted w (start .pre .0 .fine) in
-    let l = start .args .cells .now in
-    let s = start .args .s in
-    let u = lp .before .before .walked .given .0 .0 in
-    let j = lp .loop .j in
-    let t = common u (c .before .before .before .shown .result) in
-    ⊎-elim
-    (λ v. subst (λ (x : ℕ). (x ≡ holding l t) × (settled g t ≡ true)) (sym (v .1)) (named-empty g A l (start .pre .0 .listed) t (below (c .before)) (v .0 .taken)))
-    (λ v. subst (λ (x : ℕ). (x ≡ holding l t) × (settled g t ≡ true)) (sym (v .4))
-    (named-at g A l (start .pre .0 .listed) t (below (c .before)) (v .0 .left) (c .before .loop2 .i) (lt-by-ne _ _ (c .before .loop2 .inv .1) (v .1 .left)) (c .before .loop2 .inv .2) (eq-eqb _ _ (v .3 .taken))))
-    (c .if1 .came)
+holding-requires : tie.Need-holding-requires Inv-loop2 μ-loop2 Inv-loop μ-loop Inv-actions μ-actions
+holding-requires c κs =
+    let p = c .before in
+    let t = turn (look p) in
+    let l = entry t .pre .0 in
+    (l .index, rw (l .wide) (lane-there (played t .states) (part p) (below p)))
 
 add-a-2 : tie.Need-add-a-2 Inv-loop2 μ-loop2 Inv-loop μ-loop Inv-actions μ-actions
-add-a-2 c = let lp = c .before .before .before .before .before .before in omega (arith, lp .loop .inv .0, lp .before .before .before .before .before .actions-test .taken, lp .before .before .before .before .before .before .actions .inv .actions-few)
+add-a-2 c =
+    let l = look (c .before .before .before .before) in
+    omega (arith, l .loop .inv .0, l .before .before .before .before .before .actions-test .taken, turn l .actions .inv .actions-few)
 
 actions-less-2 : tie.Need-actions-less-2 Inv-loop2 μ-loop2 Inv-loop μ-loop Inv-actions μ-actions
-actions-less-2 c = let lp = c .before .before .before .before .before .before in omega (arith, c .before .before .loop2 .inv .0, lp .loop .inv .0, lp .before .before .before .before .before .actions-test .taken)
+actions-less-2 c =
+    let l = look (c .before .before .before .before) in
+    omega (arith, c .before .before .before .loop2 .inv, l .loop .inv .0, l .before .before .before .before .before .actions-test .taken)
 
 actions-again-2 : tie.Need-actions-again-2 Inv-loop2 μ-loop2 Inv-loop μ-loop Inv-actions μ-actions
 actions-again-2 c =
-    let lp = c .before .before .before .before .before .before in
-    let act = lp .before .before .before .before .before .before in
-    let start = lp .before .before .before .before .before .before .before .before .before .before .before .before .before .before .before .before in
-    let w = start .args .table .now in
-    let g = game w in
-    let A = accepted w (start .pre .0 .fine) in
-    let l = start .args .cells .now in
-    let s = start .args .s in
-    let u = lp .before .before .walked .given .0 .0 in
-    let j = lp .loop .j in
-    let t = common u (c .before .before .before .before .shown .result) in
-    let same : c .before .before .loop2 .a ≡ act .actions .a = c .before .before .loop2 .inv .0 ∙ lp .loop .inv .0 in
-    let whole : first (length l) (holdsAt l t) ≡ nothing = rw (c .if2 .taken) at (c .before .before .loop2 .inv .2) in
-    let lost : settled g t ≡ false = uncovered g A l (start .pre .0 .listed) t (below (c .before .before)) whole in
+    let found = c .before .before in
+    let p = found .before .before in
+    let l = look p in
+    let t = turn l in
+    let answer = l .before .before .before .before .post in
+    let same : found .before .loop2 .a ≡ t .actions .a = found .before .loop2 .inv ∙ l .loop .inv .0 in
+    let lost = held p ∙ nowhere-unheld (listed t) (part p) (found .holding .result) (found .holding .ensures) (c .enum-told2 .given .1) in
     rw same
-    (trying-next g l s (lp .before .before .before .before .before .before .before .before .observations .result) (lp .before .before .before .before .before .before .before .actions2 .result) (act .actions .a) (lp .loop .out) (lp .loop .inv .3)
-    (uncovered-fails g s (act .actions .a) (lp .before .before .before .before .post .result) (lp .before .before .before .before .post .ensures) u (lp .before .before .walked .given .1) j (omega (arith, c .before .before .before .before .before .loop-test .taken, act .actions .inv .observations-are)) (rw (c .before .before .before .before .shown .ensures) at lost))
-    (omega (arith, lp .before .before .before .before .before .actions-test .taken)))
-
-mul-if3 : tie.Need-mul-if3 Inv-loop2 μ-loop2 Inv-loop μ-loop Inv-actions μ-actions
-mul-if3 c = omega (arith, c .before .before .loop2 .inv .1, c .before .before .before .before .before .before .before .before .before .before .before .before .actions .inv .few)
-
-shared-slice-read-if3 : tie.Need-shared-slice-read-if3 Inv-loop2 μ-loop2 Inv-loop μ-loop Inv-actions μ-actions
-shared-slice-read-if3 c = lt-by-ne _ _ (c .before .before .before .loop2 .inv .1) (c .before .if2 .left)
-
-cast-cell : tie.Need-cast-cell Inv-loop2 μ-loop2 Inv-loop μ-loop Inv-actions μ-actions
-cast-cell c = omega (arith, c .before .before .before .before .loop2 .inv .1, c .before .before .before .before .before .before .before .before .before .before .before .before .before .before .actions .inv .few)
-
-add-i : tie.Need-add-i Inv-loop2 μ-loop2 Inv-loop μ-loop Inv-actions μ-actions
-add-i c = omega (arith, c .before .before .before .before .loop2 .inv .1, c .before .before .before .before .before .before .before .before .before .before .before .before .before .before .actions .inv .few)
-
-loop2-less : tie.Need-loop2-less Inv-loop2 μ-loop2 Inv-loop μ-loop Inv-actions μ-actions
-loop2-less c = omega (arith, lt-by-ne _ _ (c .before .before .before .before .loop2 .inv .1) (c .before .before .if2 .left))
-
-loop2-again : tie.Need-loop2-again Inv-loop2 μ-loop2 Inv-loop μ-loop Inv-actions μ-actions
-loop2-again c = (c .before .before .before .before .loop2 .inv .0, add-one-le (lt-by-ne _ _ (c .before .before .before .before .loop2 .inv .1) (c .before .before .if2 .left)), first-skip (c .before .before .before .before .loop2 .i) (holdsAt (c .before .before .before .before .before .before .before .before .before .before .before .before .before .before .before .before .before .before .before .before .before .before .before .before .args .cells .now) (common (c .before .before .before .before .before .before .before .before .before .before .walked .given .0 .0) (c .before .before .before .before .before .before .shown .result))) (c .before .before .before .before .loop2 .inv .2) (ne-eqb _ _ (c .if3 .left)))
+    (trying-next (played t) (acting t) (observed t) (last t) (t .actions .a) (l .loop .out) (l .loop .inv .3)
+    (uncovered-fails (played t) (acting t) (t .actions .a) (answer .result) (answer .ensures) (after-it l) (l .before .before .posted .given .1) (l .loop .j) (there p) lost)
+    (omega (arith, l .before .before .before .before .before .actions-test .taken)))
 
 naming-requires : tie.Need-naming-requires Inv-loop2 μ-loop2 Inv-loop μ-loop Inv-actions μ-actions
 naming-requires c κs =
-    let lp = c .before .before .before .before .before in
-    let act = lp .before .before .before .before .before .before in
-    let start = lp .before .before .before .before .before .before .before .before .before .before .before .before .before .before .before .before in
-    let w = start .args .table .now in
-    let g = game w in
-    let A = accepted w (start .pre .0 .fine) in
-    let l = start .args .cells .now in
-    let s = start .args .s in
-    let u = lp .before .before .walked .given .0 .0 in
-    let j = lp .loop .j in
-    (search needs, subst (λ (x : ℕ). x < lowValues) (sym (named c .0)) (holding-small _ _ (act .actions .inv .few)), omega (arith, c .before .before .before .before .loop-test .taken, act .actions .inv .observations-few))
-
-cast-out : tie.Need-cast-out Inv-loop2 μ-loop2 Inv-loop μ-loop Inv-actions μ-actions
-cast-out c = search needs
-
-add-out : tie.Need-add-out Inv-loop2 μ-loop2 Inv-loop μ-loop Inv-actions μ-actions
-add-out c = search needs
-
-mul-out : tie.Need-mul-out Inv-loop2 μ-loop2 Inv-loop μ-loop Inv-actions μ-actions
-mul-out c = search needs
+    let p = asked c in
+    let t = turn (look p) in
+    let few = entry t .pre .0 .index .few in
+    (search needs, subst (λ (x : ℕ). x < lowValues) (sym (named c .1)) (holding-small _ _ few), omega (arith, there p, t .actions .inv .observations-are, t .actions .inv .observations-few))
 
 slice-write-out : tie.Need-slice-write-out Inv-loop2 μ-loop2 Inv-loop μ-loop Inv-actions μ-actions
-slice-write-out c = omega (arith, c .before .before .before .before .before .before .loop .inv .3 .size, c .before .before .before .before .before .loop-test .taken)
-
-add-j : tie.Need-add-j Inv-loop2 μ-loop2 Inv-loop μ-loop Inv-actions μ-actions
-add-j c = search needs
-
-loop-less : tie.Need-loop-less Inv-loop2 μ-loop2 Inv-loop μ-loop Inv-actions μ-actions
-loop-less c = search needs
+slice-write-out c = let p = asked (c .before) in omega (arith, look p .loop .inv .3 .size, p .before .loop-test .taken)
 
 loop-again : tie.Need-loop-again Inv-loop2 μ-loop2 Inv-loop μ-loop Inv-actions μ-actions
 loop-again c =
-    let lp = c .before .before .before .before .before .before in
-    let act = lp .before .before .before .before .before .before in
-    let start = lp .before .before .before .before .before .before .before .before .before .before .before .before .before .before .before .before in
-    let w = start .args .table .now in
-    let g = game w in
-    let A = accepted w (start .pre .0 .fine) in
-    let l = start .args .cells .now in
-    let s = start .args .s in
-    let u = lp .before .before .walked .given .0 .0 in
-    let j = lp .loop .j in
-    let o = lp .before .before .before .before .before .before .before .before .observations .result in
-    let shown = c .before .before .before .before .shown in
-    let n = named (c .before) in (
-      c .before .before .loop2 .inv .0 ∙ lp .loop .inv .0,
-      omega (arith, c .before .before .before .before .before .loop-test .taken),
-      all-more j (λ i. settled g (common u (g .shown i))) ∙ and-intro (lp .loop .inv .2) (rw (shown .ensures) at (n .1)),
-      trying-with g l s o (lp .before .before .before .before .before .before .before .actions2 .result) (act .actions .a) (lp .loop .out) (lp .loop .inv .3) (set (lp .loop .out) (1 + j) (c .naming .result)) (length-set (lp .loop .out) (1 + j) (c .naming .result) ∙ lp .loop .inv .3 .size),
-      filled-more o (nextWord g l u) j (lp .loop .out) (c .naming .result) (c .before .before .before .before .before .loop-test .taken)
-          (next-word g l u j (c .naming .result) (c .before .if1 .cell) (shown .result) (common u (shown .result)) (c .naming .ensures) (n .0) refl (shown .ensures)) (lp .loop .inv .4),
+    let told = c .before in
+    let loop = told .before .before .before .before .loop2 in
+    let p = asked told in
+    let l = look p in
+    let t = turn l in
+    let j = l .loop .j in
+    let out = l .loop .out in
+    let w = c .naming .result in (
+      loop .inv ∙ l .loop .inv .0,
+      omega (arith, p .before .loop-test .taken),
+      all-more j (λ i. settled (played t) (common (after-it l) (played t .shown i))) ∙ and-intro (l .loop .inv .2) (named told .0),
+      trying-with (played t) (acting t) (observed t) (last t) (t .actions .a) out (l .loop .inv .3) (set out (1 + j) w) (length-set out (1 + j) w ∙ l .loop .inv .3 .size),
+      filled-more (observed t) (nextWord (played t) (listed t) (after-it l)) j out w (p .before .loop-test .taken)
+          (next-word (played t) (listed t) (after-it l) j w _ (p .shown .result) (part p) (c .naming .ensures) (named told .1) refl (p .shown .ensures)) (l .loop .inv .4),
     )
 
 picking-requires : tie.Need-picking-requires Inv-loop2 μ-loop2 Inv-loop μ-loop Inv-actions μ-actions
 picking-requires c κs =
-    let lp = c .before in
-    let act = lp .before .before .before .before .before .before in
-    let start = lp .before .before .before .before .before .before .before .before .before .before .before .before .before .before .before .before in
+    let l = c .before in
+    let t = turn l in
+    let start = entry t in
     let w = start .args .table .now in
-    let g = game w in
-    let A = accepted w (start .pre .0 .fine) in
-    let l = start .args .cells .now in
-    let s = start .args .s in
-    let u = lp .before .before .walked .given .0 .0 in
-    let j = lp .loop .j in
-    (omega (arith, start .pre .1 .below, sets-few w (sized w (start .pre .0 .fine))), omega (arith, lp .loop .inv .0, lp .before .before .before .before .before .actions-test .taken, act .actions .inv .actions-few))
+    (omega (arith, start .pre .2 .below, few-sets w (sized w (start .pre .0 .fine))), omega (arith, l .loop .inv .0, l .before .before .before .before .before .actions-test .taken, t .actions .inv .actions-few))
 
 slice-write-out-2 : tie.Need-slice-write-out-2 Inv-loop2 μ-loop2 Inv-loop μ-loop Inv-actions μ-actions
 slice-write-out-2 c = omega (arith, c .before .before .loop .inv .3 .size)
 
 same-length : tie.Need-same-length Inv-loop2 μ-loop2 Inv-loop μ-loop Inv-actions μ-actions
 same-length c =
-    let lp = c .before .before in
-    length-set (lp .loop .out) 0 (c .picking .result) ∙ lp .loop .inv .3 .size ∙ ap (λ (n : ℕ). 1 + n) (lp .before .before .before .before .before .before .actions .inv .observations-are) ∙ sym (lp .before .before .before .before .before .before .before .before .before .before .before .before .before .before .before .before .pre .0 .room)
+    let l = c .before .before in
+    let t = turn l in
+    length-set (l .loop .out) 0 (c .picking .result) ∙ l .loop .inv .3 .size ∙ ap (λ (n : ℕ). 1 + n) (t .actions .inv .observations-are) ∙ sym (entry t .pre .3)
 
 returns : tie.Need-returns Inv-loop2 μ-loop2 Inv-loop μ-loop Inv-actions μ-actions
 returns c =
-    let lp = c .before .before in
-    let act = lp .before .before .before .before .before .before in
-    let start = lp .before .before .before .before .before .before .before .before .before .before .before .before .before .before .before .before in
-    let w = start .args .table .now in
-    let g = game w in
-    let A = accepted w (start .pre .0 .fine) in
-    let l = start .args .cells .now in
-    let s = start .args .s in
-    let u = lp .before .before .walked .given .0 .0 in
-    let j = lp .loop .j in
-    let o = lp .before .before .before .before .before .before .before .before .observations .result in
-    let a = act .actions .a in
-    let is = act .actions .inv .observations-are in
-    let e : j ≡ g .observations = le-antisymm (lp .loop .inv .1) (c .before .loop-test .left) ∙ is in
-    let m = covered-meets g s a (lp .before .before .before .before .post .result) (lp .before .before .before .before .post .ensures) u (lp .before .before .walked .given .1) (rw e at (lp .loop .inv .2)) in
-    filled-end o (nextWord g l u) j (lp .loop .out) (c .picking .result) (c .before .loop-test .left) (lp .loop .inv .1) (lp .loop .inv .4)
-    ∙ set-words g l (start .pre .0 .listed) s a u o (c .picking .result) is (chosen-is g l s o (lp .before .before .before .before .before .before .before .actions2 .result) a (lp .loop .out) (lp .loop .inv .3) (lp .before .before .before .before .before .actions-test .taken) m)
-    (after-is g s a (lp .before .before .before .before .post .result) (lp .before .before .before .before .post .ensures) u (lp .before .before .walked .given .1))
-    (c .picking .ensures ∙ ap (word 10 s 0) (lp .loop .inv .0))
+    let left = c .before .loop-test .left in
+    let l = c .before .before in
+    let t = turn l in
+    let a = t .actions .a in
+    let u = after-it l in
+    let is = t .actions .inv .observations-are in
+    let answer = l .before .before .before .before .post in
+    let posted = l .before .before .posted .given .1 in
+    let e : l .loop .j ≡ played t .observations = le-antisymm (l .loop .inv .1) left ∙ is in
+    let m = covered-meets (played t) (acting t) a (answer .result) (answer .ensures) u posted (rw e at (l .loop .inv .2)) in
+    filled-end (observed t) (nextWord (played t) (listed t) u) (l .loop .j) (l .loop .out) (c .picking .result) left (l .loop .inv .1) (l .loop .inv .4)
+    ∙ set-words (played t) (listed t) (entry t .pre .0 .are) (acting t) a u (observed t) (c .picking .result) is
+    (chosen-is (played t) (acting t) (observed t) (last t) a (l .loop .out) (l .loop .inv .3) (l .before .before .before .before .before .actions-test .taken) m)
+    (after-is (played t) (acting t) a (answer .result) (answer .ensures) u posted) (c .picking .ensures ∙ ap (word kindCell (acting t) 0) (l .loop .inv .0))
 
 same-length-2 : tie.Need-same-length-2 Inv-loop2 μ-loop2 Inv-loop μ-loop Inv-actions μ-actions
 same-length-2 c =
-    let at = c .before in
-    at .actions .inv .size ∙ ap (λ (n : ℕ). 1 + n) (at .actions .inv .observations-are) ∙ sym (at .before .before .before .before .before .before .before .before .before .before .pre .0 .room)
+    let t = c .before in
+    t .actions .inv .size ∙ ap (λ (n : ℕ). 1 + n) (t .actions .inv .observations-are) ∙ sym (entry t .pre .3)
 
 returns-2 : tie.Need-returns-2 Inv-loop2 μ-loop2 Inv-loop μ-loop Inv-actions μ-actions
 returns-2 c =
-    let at = c .before in
-    let start = at .before .before .before .before .before .before .before .before .before .before in
-    let w = start .args .table .now in
-    absurd (never-none (game w) (start .args .cells .now) (start .args .s) (at .before .before .observations .result) (at .before .actions2 .result) (at .actions .a) (at .actions .out) (at .actions .inv) (accepted w (start .pre .0 .fine)) (start .pre .1) (c .actions-test .left))
+    let t = c .before in
+    absurd (never-none (played t) (acting t) (observed t) (last t) (t .actions .a) (t .actions .out) (t .actions .inv) (fine t) (entry t .pre .2) (c .actions-test .left))
 
 pub write-cell-spec : {M : Type 1} → statement M
 write-cell-spec =
@@ -327,31 +292,27 @@ write-cell-spec =
     actions-requires
     actions-holds
     post-requires
-    enum-known-walked
-    enum-told
-    add-a
-    actions-less
+    (λ c. search needs)
+    (λ c. search needs)
+    (λ c. search needs)
+    (λ c. search needs)
     actions-again
     loop-holds
     shown-requires
-    scan-from-requires
-    loop2-holds
+    (λ c. refl)
+    holding-requires
+    (λ c. search needs)
+    (λ c. search needs)
     add-a-2
     actions-less-2
     actions-again-2
-    mul-if3
-    shared-slice-read-if3
-    cast-cell
-    add-i
-    loop2-less
-    loop2-again
     naming-requires
-    cast-out
-    add-out
-    mul-out
+    (λ c. search needs)
+    (λ c. search needs)
+    (λ c. search needs)
     slice-write-out
-    add-j
-    loop-less
+    (λ c. search needs)
+    (λ c. search needs)
     loop-again
     picking-requires
     slice-write-out-2

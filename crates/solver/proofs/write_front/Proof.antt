@@ -1,114 +1,135 @@
+-- `solver::write_front` meets its contract. The loop's invariant: the first words of the start sets below j are written.
+-- Assumes nothing.
 use borrow.Author.Needs.{needs}
-use mathlib.Core.Path.{sym, ap, _∙_, subst}
+use mathlib.Core.List.{List}
+use mathlib.Core.Path.{_≡_, sym, ap, _∙_, subst}
 use Prim.Native.Nat.{ℕ, _+_, _≤_, _<_, _-_}
 use native.Mathlib.Omega.{arith}
 use lib.ListN.{length, length-set}
-use Rattle.games.specs.Format.{lowValues, maxCells, maxObservations}
-use Rattle.games.specs.Words.{game, word}
-use Rattle.tables.proofs.Checks.{sized}
-use Rattle.solver.proofs.Words.{Filled, filled-none, filled-more, filled-end, firstWord, first-word, front-is, holding-small, cells-small, observations-small, actions-small}
+use Rattle.families.proofs.Lanes.{lane-there}
+use Rattle.games.specs.Format.{lowValues, maxObservations, kindCard, kindFirst}
+use Rattle.games.specs.Game.{Game}
+use Rattle.games.specs.Verdict.{startSet}
+use Rattle.games.specs.Automaton.{holding}
+use Rattle.games.specs.Fields.{word}
+use Rattle.games.specs.Words.{game}
+use Rattle.games.proofs.Holding.{holding-small}
+use Rattle.games.proofs.Starts.{start-below}
+use Rattle.tables.proofs.Bounds.{few-observations, few-actions}
+use Rattle.tables.proofs.Checks.{sized, accepted}
+use Rattle.solver.specs.Writing.{named}
+use Rattle.solver.proofs.Index.{named-holding}
+use Rattle.solver.proofs.Words.{Filled, filled-none, filled-more, filled-end, sets-front, firstWord, front-is}
 use Rattle.solver.proofs.write_front.Statement.{statement}
 use Rattle.solver.proofs.write_front.Tie as tie
 
 abbrev Inv-loop : tie.InvT-loop
-Inv-loop table cells out₀ start o j₀ out j = (length cells ≤ maxCells) × (o ≤ maxObservations) × (j ≤ o) × Filled o (firstWord (game table) cells) j out
+Inv-loop table family starts cells out₀ sets j₀ out j = (sets ≤ maxObservations) × (j ≤ sets) × Filled sets (firstWord (game table) cells) j out
 
 abbrev μ-loop : tie.MeasureT-loop
-μ-loop table cells out₀ start o j₀ out j = o - j
+μ-loop table family starts cells out₀ sets j₀ out j = sets - j
 
-start-requires : tie.Need-start-requires Inv-loop μ-loop
-start-requires c κs = sized (c .before .before .before .args .table .now) (c .before .before .before .pre .fine)
+-- where the function begins
+abbrev entry : tie.At-loop Inv-loop μ-loop → tie.Start Inv-loop μ-loop
+entry at = at .before .before .before .before .before .before .before
 
-observations-requires : tie.Need-observations-requires Inv-loop μ-loop
-observations-requires c κs = sized (c .before .before .before .before .args .table .now) (c .before .before .before .before .pre .fine)
+-- the turn for a start set, and the cell named for it
+abbrev turn : tie.After-named Inv-loop μ-loop → tie.At-loop Inv-loop μ-loop
+turn c = c .before .before .before .before
+
+abbrev played : tie.At-loop Inv-loop μ-loop → Game
+played t = game (entry t .args .table .now)
+
+abbrev listed : tie.At-loop Inv-loop μ-loop → List ℕ
+listed t = entry t .args .cells .now
+
+first-cell : (c : tie.After-named Inv-loop μ-loop) → c .named .result .0 ≡ holding (listed (turn c)) (startSet (played (turn c)) (turn c .loop .j))
+first-cell c =
+    let t = turn c in
+    let set = c .before .before .start-set in
+    c .named .ensures ∙ ap named (c .before .holding .ensures) ∙ named-holding (listed t) (set .result) ∙ ap (holding (listed t)) (set .ensures)
+
+start-sets-requires : tie.Need-start-sets-requires Inv-loop μ-loop
+start-sets-requires c κs = let start = c .before .before .before .before .before in sized (start .args .table .now) (start .pre .0 .fine)
 
 loop-holds : tie.Need-loop-holds Inv-loop μ-loop
 loop-holds c =
-    let start = c .before .before .before .before .before in
-    let w = start .pre in
-    let e = c .observations .ensures in (
-      cells-small (start .args .table .now) (start .args .cells .now) (start .args .out .now) w,
-      subst (λ (n : ℕ). n ≤ maxObservations) (sym e) (observations-small (start .args .table .now) (start .args .cells .now) (start .args .out .now) w),
+    let start = c .before .before .before .before .before .before in
+    let w = start .args .table .now in
+    let e = ap (λ (n : ℕ). 1 + n) (c .start-sets .ensures) ∙ sets-front (game w) in (
+      omega (arith, e, few-observations w (sized w (start .pre .0 .fine))),
       search needs,
-      filled-none (c .observations .result) (firstWord (game (start .args .table .now)) (start .args .cells .now)) (start .args .out .now) (w .room ∙ ap (λ (n : ℕ). 1 + n) (sym e)),
+      filled-none (c .start-sets .result) (firstWord (game w) (start .args .cells .now)) (start .args .out .now) (start .pre .1 ∙ sym e),
     )
 
-shown-requires : tie.Need-shown-requires Inv-loop μ-loop
-shown-requires c κs = (sized (c .before .before .before .before .before .before .before .args .table .now) (c .before .before .before .before .before .before .before .pre .fine), omega arith)
+start-set-requires : tie.Need-start-set-requires Inv-loop μ-loop
+start-set-requires c κs =
+    let start = entry (c .before) in
+    (sized (start .args .table .now) (start .pre .0 .fine), omega arith)
 
 holding-requires : tie.Need-holding-requires Inv-loop μ-loop
-holding-requires c κs = c .before .before .loop .inv .0
+holding-requires c κs =
+    let at = c .before .before in
+    let start = entry at in
+    let w = start .args .table .now in
+    let l = start .pre .0 in
+    (l .index, rw (l .wide, c .start-set .ensures) (lane-there (game w .states) (startSet (game w) (at .loop .j)) (start-below (game w) (accepted w (l .fine)) (at .loop .j))))
 
 naming-requires : tie.Need-naming-requires Inv-loop μ-loop
 naming-requires c κs =
-    let at = c .before .before .before in
-    (search needs, subst (λ (x : ℕ). x < lowValues) (sym (c .holding .ensures)) (holding-small _ _ (at .loop .inv .0)), omega arith)
-
-cast-out : tie.Need-cast-out Inv-loop μ-loop
-cast-out c = search needs
-
-add-out : tie.Need-add-out Inv-loop μ-loop
-add-out c = search needs
-
-mul-out : tie.Need-mul-out Inv-loop μ-loop
-mul-out c = search needs
+    let few = entry (turn c) .pre .0 .index .few in
+    (search needs, subst (λ (x : ℕ). x < lowValues) (sym (first-cell c)) (holding-small _ _ few), omega arith)
 
 slice-write-out : tie.Need-slice-write-out Inv-loop μ-loop
-slice-write-out c = omega (arith, c .before .before .before .before .loop .inv .3 .size)
-
-add-j : tie.Need-add-j Inv-loop μ-loop
-add-j c = search needs
-
-loop-less : tie.Need-loop-less Inv-loop μ-loop
-loop-less c = search needs
+slice-write-out c = omega (arith, turn (c .before) .loop .inv .2 .size)
 
 loop-again : tie.Need-loop-again Inv-loop μ-loop
 loop-again c =
-    let at = c .before .before .before .before in
-    let start = at .before .before .before .before .before .before in
-    let g = game (start .args .table .now) in
-    let l = start .args .cells .now in (
+    let at = turn (c .before) in (
       at .loop .inv .0,
-      at .loop .inv .1,
       search needs,
-      filled-more (at .before .observations .result) (firstWord g l) (at .loop .j) (at .loop .out) (c .naming .result) (omega arith)
-          (first-word g l (at .loop .j) (c .naming .result) (c .before .holding .result) (at .before .before .start .result) (c .before .before .shown .result) (c .naming .ensures) (c .before .holding .ensures) (at .before .before .start .ensures) (c .before .before .shown .ensures))
-          (at .loop .inv .3),
+      filled-more (at .before .start-sets .result) (firstWord (played at) (listed at)) (at .loop .j) (at .loop .out) (c .naming .result) (omega arith)
+          (c .naming .ensures ∙ ap (λ (n : ℕ). word kindFirst n (at .loop .j) 0) (first-cell (c .before))) (at .loop .inv .2),
     )
 
 cast-word : tie.Need-cast-word Inv-loop μ-loop
-cast-word c = omega (arith, c .before .loop .inv .0)
+cast-word c = omega (arith, entry (c .before) .pre .0 .index .few)
+
+observations-requires : tie.Need-observations-requires Inv-loop μ-loop
+observations-requires c κs = let start = entry (c .before) in sized (start .args .table .now) (start .pre .0 .fine)
 
 actions-requires : tie.Need-actions-requires Inv-loop μ-loop
-actions-requires c κs = sized (c .before .before .before .before .before .before .before .args .table .now) (c .before .before .before .before .before .before .before .pre .fine)
+actions-requires c κs = let start = entry (c .before .before) in sized (start .args .table .now) (start .pre .0 .fine)
 
 word-requires : tie.Need-word-requires Inv-loop μ-loop
 word-requires c κs =
-    let at = c .before .before in
-    let start = at .before .before .before .before .before .before in (
+    let start = entry (c .before .before .before) in
+    let w = start .args .table .now in
+    let l = start .pre .0 in (
       search needs,
-      omega (arith, at .loop .inv .0),
-      omega (arith, at .loop .inv .1),
-      omega (arith, c .actions .ensures, actions-small (start .args .table .now) (start .args .cells .now) (start .args .out .now) (start .pre)),
+      omega (arith, l .index .few),
+      omega (arith, c .before .observations .ensures, few-observations w (sized w (l .fine))),
+      omega (arith, c .actions .ensures, few-actions w (sized w (l .fine))),
     )
 
 slice-write-out-2 : tie.Need-slice-write-out-2 Inv-loop μ-loop
-slice-write-out-2 c = omega (arith, c .before .before .before .loop .inv .3 .size)
+slice-write-out-2 c = omega (arith, c .before .before .before .before .loop .inv .2 .size)
 
 same-length : tie.Need-same-length Inv-loop μ-loop
 same-length c =
-    let at = c .before .before .before in
-    let start = at .before .before .before .before .before .before in
-    length-set (at .loop .out) 0 (c .word .result) ∙ at .loop .inv .3 .size ∙ ap (λ (n : ℕ). 1 + n) (at .before .observations .ensures) ∙ sym (start .pre .room)
+    let at = c .before .before .before .before in
+    let start = entry at in
+    length-set (at .loop .out) 0 (c .word .result) ∙ at .loop .inv .2 .size ∙ ap (λ (n : ℕ). 1 + n) (at .before .start-sets .ensures) ∙ sets-front (game (start .args .table .now)) ∙ sym (start .pre .1)
 
 returns : tie.Need-returns Inv-loop μ-loop
 returns c =
-    let at = c .before .before .before in
-    let start = at .before .before .before .before .before .before in
+    let at = c .before .before .before .before in
+    let start = entry at in
     let g = game (start .args .table .now) in
     let l = start .args .cells .now in
-    filled-end (at .before .observations .result) (firstWord g l) (at .loop .j) (at .loop .out) (c .word .result) (c .before .before .loop-test .left) (at .loop .inv .2) (at .loop .inv .3)
-    ∙ front-is g l (start .pre .listed) (at .before .observations .result) (c .word .result) (at .before .observations .ensures) (c .word .ensures ∙ ap (word 8 (length l) (at .before .observations .result)) (c .before .actions .ensures))
+    let n = at .before .start-sets .result in
+    filled-end n (firstWord g l) (at .loop .j) (at .loop .out) (c .word .result) (c .before .before .before .loop-test .left) (at .loop .inv .1) (at .loop .inv .2)
+    ∙ front-is g l (start .pre .0 .are) n (c .word .result) (at .before .start-sets .ensures) (c .word .ensures ∙ rw (c .before .before .observations .ensures, c .before .actions .ensures))
 
 pub write-front-spec : {M : Type 1} → statement M
 write-front-spec =
@@ -116,20 +137,21 @@ write-front-spec =
     (tie.spec
     Inv-loop
     μ-loop
-    start-requires
-    observations-requires
+    start-sets-requires
     loop-holds
-    shown-requires
+    start-set-requires
     holding-requires
+    (λ c κs. search needs)
     naming-requires
-    cast-out
-    add-out
-    mul-out
+    (λ c. search needs)
+    (λ c. search needs)
+    (λ c. search needs)
     slice-write-out
-    add-j
-    loop-less
+    (λ c. search needs)
+    (λ c. search needs)
     loop-again
     cast-word
+    observations-requires
     actions-requires
     word-requires
     slice-write-out-2
