@@ -8,7 +8,7 @@ use Rattle.abi.proofs.kirdanzug_drive.Statement.{statement}
 use Rattle.abi.proofs.kirdanzug_drive.Tie as tie
 
 returns : tie.Need-returns
-returns c = c .move-words .ensures ∙ ap (λ (s : Stood). moveWords (s .answer)) (c .before .drive .ensures .2)
+returns c = c .move-words .ensures ∙ ap (λ (s : Stood). moveWords (s .answer)) (c .before .before .drive .ensures .2)
 
 pub kirdanzug-drive-spec : {M : Type 1} → statement M
 kirdanzug-drive-spec = tie.close (tie.spec (λ c κs. search needs) (λ c κs. search needs) returns)
