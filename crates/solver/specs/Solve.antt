@@ -17,7 +17,7 @@ use Rattle.games.specs.Words.{game, cardLength, cardWords}
 use Rattle.games.specs.Demands.{UnderCard, Second, Third}
 use Rattle.games.specs.declared.Checked.the-variants.{Fine}
 use Rattle.tables.specs.Check.{checked}
-use Rattle.cards.specs.Card.{automaton}
+use Rattle.cards.specs.Card.{automaton, checked as cardChecked}
 use Rattle.cards.specs.Run.{ran, entered}
 use Rattle.solver.specs.declared.Answer.{Answer}
 use Rattle.solver.specs.declared.Answer.the-variants.{Yes as SaysYes, No as SaysNo, Refused}
@@ -81,8 +81,9 @@ CardRoom w d = cardLength (length (cells (game w))) (game w .observations) ≤ l
 abbrev pub written : List ℕ → ℕ → List ℕ → List ℕ
 written w m d = take (cardLength m (game w .observations)) d
 
--- a card's words keep every play clear, and on every play under the actions they give they never meet 12, 13 or 14
+-- the words are a card (13), it keeps every play clear, and on every play under the actions it gives it never meets 12, 13 or 14
 pub record Kept (g : Game) (words : List ℕ) : Type 0 where
+  pub right : cardChecked words ≡ Fine
   pub second : Second g (automaton words)
   pub runs : (p : Play) → PlayOf g p → UnderCard (automaton words) p →
       ran words (seen p) ≡ entered (cellAfter (automaton words) (seen p)) (actionAfter (automaton words) (seen p))
