@@ -87,6 +87,14 @@ void kirdanzug_step(const uint32_t *card, size_t card_length,
                     uint32_t cell, uint32_t observation,
                     uint64_t answer[3]);
 
+/* Runs the card over the observations and writes the action after each to the front of `out`:
+ * 0, number of observations taken (all of them), 0. Refused: 13, with no observation too; 12 and 14
+ * in the order of the observations; 15, whose place is the number of words needed. */
+void kirdanzug_run(const uint32_t *card, size_t card_length,
+                   const uint32_t *observations, size_t observations_length,
+                   uint32_t *out, size_t out_length,
+                   uint64_t answer[3]);
+
 /* The move words of a cell's action, as a part of the table's words: 0, offset, length.
  * Refused: the table's checks, 13, 16, 12. */
 void kirdanzug_show(const uint32_t *table, size_t table_length,

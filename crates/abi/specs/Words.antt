@@ -2,18 +2,18 @@
 -- Assumes nothing.
 use mathlib.Core.List.{List, [], _∷_}
 use Prim.Native.Nat.{ℕ}
-use Rattle.solver.specs.declared.Answer.{Answer as Solved}
-use Rattle.solver.specs.declared.Answer.the-variants as solved
+use Rattle.games.specs.declared.Written.{Written}
+use Rattle.games.specs.declared.Written.the-variants as written
 use Rattle.judge.specs.declared.Judged.{Judged}
 use Rattle.judge.specs.declared.Judged.the-variants as judged
-use Rattle.lists.specs.declared.Answer.{Answer as Listed}
-use Rattle.lists.specs.declared.Answer.the-variants as listed
-use Rattle.fields.specs.declared.Written.{Written}
-use Rattle.fields.specs.declared.Written.the-variants as written
 use Rattle.cards.specs.declared.Move.{Move}
 use Rattle.cards.specs.declared.Move.the-variants as moved
+use Rattle.runner.specs.declared.Ran.{Ran}
+use Rattle.runner.specs.declared.Ran.the-variants as ran
 use Rattle.show.specs.declared.Shown.{Shown}
 use Rattle.show.specs.declared.Shown.the-variants as shown
+use Rattle.solver.specs.declared.Answer.{Answer}
+use Rattle.solver.specs.declared.Answer.the-variants as answer
 
 -- done, with two values
 abbrev pub done : (x y : ℕ) → List ℕ
@@ -28,10 +28,10 @@ abbrev pub refused : (number place : ℕ) → List ℕ
 refused number place = 2 ∷ number ∷ place ∷ []
 
 -- solve: the settling count and the number of cells
-abbrev pub solveWords : Solved → List ℕ
-solveWords (solved.Yes settled cells) = done settled cells
-solveWords (solved.No k) = no k
-solveWords (solved.Refused number place) = refused number place
+abbrev pub solveWords : Answer → List ℕ
+solveWords (answer.Yes settled cells) = done settled cells
+solveWords (answer.No k) = no k
+solveWords (answer.Refused number place) = refused number place
 
 -- judge: 1 where the set is good, else 0
 abbrev pub judgeWords : Judged → List ℕ
@@ -39,20 +39,20 @@ judgeWords judged.Good = done 1 0
 judgeWords judged.NotGood = done 0 0
 judgeWords (judged.Refused number place) = refused number place
 
--- join and meet: the length of the result
-abbrev pub listWords : Listed → List ℕ
-listWords (listed.Words length) = done length 0
-listWords (listed.Refused number place) = refused number place
+-- join, meet and rewrite: the number of words in front of `out`
+abbrev pub writtenWords : Written → List ℕ
+writtenWords (written.Words length) = done length 0
+writtenWords (written.Refused number place) = refused number place
 
--- write: the number of words
-abbrev pub writeWords : Written → List ℕ
-writeWords (written.Words length) = done length 0
-writeWords (written.Refused number place) = refused number place
-
--- run: the cell entered and its action
+-- open and step: the cell entered and its action
 abbrev pub moveWords : Move → List ℕ
 moveWords (moved.Entered cell action) = done (cell .0) (action .0)
 moveWords (moved.Refused number place) = refused number place
+
+-- run: the number of observations taken, all of them
+abbrev pub ranWords : Ran → List ℕ
+ranWords (ran.Done taken) = done taken 0
+ranWords (ran.Refused number place taken) = refused number place
 
 -- show: where the part starts in the table, and its length
 abbrev pub showWords : Shown → List ℕ

@@ -1,28 +1,29 @@
 // The functions of the library for C and Rust. Each fills three words of answer: 0 and two values (done), 1 and the round number (no),
 // 2, number and place (refused).
 ghost use mathlib.Core.Path.{_≡_};
-ghost use Prim.Native.Nat.{ℕ, _≤_};
-ghost use mathlib.Core.List.{_++_};
-ghost use lib.ListN.{length, take, drop};
-ghost use Rattle.solver.specs.Solve.{solved, Promise};
-ghost use Rattle.solver.specs.declared.Answer.{Answer};
+ghost use mathlib.Core.List.{[], _∷_};
+ghost use Prim.Native.Nat.{ℕ};
+ghost use lib.ListN.{take};
+ghost use Rattle.games.specs.Answers.{leaves};
 ghost use Rattle.judge.specs.Judge.{judged};
 ghost use Rattle.lists.specs.Lists.{joined, met};
 ghost use Rattle.lists.specs.Plain.{OfEither, OfBoth, MaximalOf};
 ghost use Rattle.cards.specs.Run.{opened, stepped};
+ghost use Rattle.runner.specs.Runs.{standing, ranInto};
 ghost use Rattle.show.specs.Show.{found};
-ghost use Rattle.tables.specs.Check.{checked};
-ghost use Rattle.fields.specs.Write.{leaves};
-ghost use Rattle.tables.specs.declared.Checked.the-variants.{Fine};
-ghost use Rattle.abi.specs.Words.{done, no as noWords, refused as refusedWords, solveWords, judgeWords, listWords, writeWords, moveWords, showWords};
-ghost use Rattle.abi.specs.Calls.{solve, toldSolve, call, toldList, toldWrite, rewritten};
+ghost use Rattle.solver.specs.Solve.{rooms, solved, Promise};
+ghost use Rattle.solver.specs.declared.Answer.{Answer};
+ghost use Rattle.abi.specs.Words.{done, no as noWords, refused as refusedWords};
+ghost use Rattle.abi.specs.Words.{solveWords, judgeWords, writtenWords, moveWords, ranWords, showWords};
+ghost use Rattle.abi.specs.Calls.{told, rewritten, ComesBack};
 use cards::Move;
-use fields::Written;
 use games::Cell;
+use games::Checked;
 use games::Observation;
+use games::Written;
 use judge::Judged;
+use runner::Ran;
 use show::Shown;
-use tables::Checked;
 
 // Done, with two numbers.
 fn pair(x: u32, y: u32) -> [u64; 3]
@@ -70,17 +71,8 @@ fn judge_words(a: Judged) -> [u64; 3]
     }
 }
 
-fn list_words(a: lists::Answer) -> [u64; 3]
-    ensures { λ r. ⌜ r ≡ listWords a ⌝ }
-{
-    match a {
-        lists::Answer::Words(length) => span(length, 0),
-        lists::Answer::Refused(number, place) => refused(number, place),
-    }
-}
-
-fn write_words(a: Written) -> [u64; 3]
-    ensures { λ r. ⌜ r ≡ writeWords a ⌝ }
+fn written_words(a: Written) -> [u64; 3]
+    ensures { λ r. ⌜ r ≡ writtenWords a ⌝ }
 {
     match a {
         Written::Words(length) => span(length, 0),
@@ -94,6 +86,15 @@ fn move_words(a: Move) -> [u64; 3]
     match a {
         Move::Entered(cell, action) => pair(cell.0, action.0),
         Move::Refused(number, place) => refused(number, place),
+    }
+}
+
+fn ran_words(a: Ran) -> [u64; 3]
+    ensures { λ r. ⌜ r ≡ ranWords a ⌝ }
+{
+    match a {
+        Ran::Done(taken) => span(taken, 0),
+        Ran::Refused(number, place, _) => refused(number, place),
     }
 }
 
@@ -114,8 +115,10 @@ pub extern "C" fn kirdanzug_solve(
     card: &mut [u32],
     answer: &mut [u64; 3],
 )
-    ensures determined { λ _. ⌜ solve (now (answer .exit)) (now (work .exit)) (now (card .exit)) ≡ toldSolve (solved (now (table .entry)) (now (work .entry)) (now (card .entry))) ⌝ }
-    ensures promised { λ _. ⌜ ((r : Answer) → now (answer .exit) ≡ solveWords r → Promise (now (table .entry)) (now (work .entry)) (now (card .entry)) r (now (card .exit))) ⌝ }
+    ensures determined { λ _. ⌜ leaves (now (answer .exit)) (rooms (now (work .exit)) (now (card .exit)))
+        ≡ told solveWords (solved (now (table .entry)) (now (work .entry)) (now (card .entry))) ⌝ }
+    ensures promised { λ _. ⌜ ((r : Answer) → now (answer .exit) ≡ solveWords r
+        → Promise (now (table .entry)) (now (work .entry)) (now (card .entry)) r (now (card .exit))) ⌝ }
 {
     *answer = solve_words(solver::solve(table, work, card));
 }
@@ -137,10 +140,12 @@ pub extern "C" fn kirdanzug_join(
     out: &mut [u32],
     answer: &mut [u64; 3],
 )
-    ensures { λ _. ⌜ call (now (answer .exit)) (now (out .exit)) ≡ toldList (joined n (now (first .entry)) (now (second .entry)) (now (out .entry))) ⌝ }
-    ensures plain { λ _. ⌜ ((w : ℕ) → now (answer .exit) ≡ done w 0 → MaximalOf (OfEither (now (first .entry)) (now (second .entry))) (take w (now (out .exit)))) ⌝ }
+    ensures { λ _. ⌜ leaves (now (answer .exit)) (now (out .exit))
+        ≡ told writtenWords (joined n (now (first .entry)) (now (second .entry)) (now (out .entry))) ⌝ }
+    ensures plain { λ _. ⌜ ((w : ℕ) → now (answer .exit) ≡ done w 0
+        → MaximalOf (OfEither (now (first .entry)) (now (second .entry))) (take w (now (out .exit)))) ⌝ }
 {
-    *answer = list_words(lists::join(n, first, second, out));
+    *answer = written_words(lists::join(n, first, second, out));
 }
 
 // 0, length, 0: the maximal common parts of one set from each list.
@@ -152,10 +157,12 @@ pub extern "C" fn kirdanzug_meet(
     out: &mut [u32],
     answer: &mut [u64; 3],
 )
-    ensures { λ _. ⌜ call (now (answer .exit)) (now (out .exit)) ≡ toldList (met n (now (first .entry)) (now (second .entry)) (now (out .entry))) ⌝ }
-    ensures plain { λ _. ⌜ ((w : ℕ) → now (answer .exit) ≡ done w 0 → MaximalOf (OfBoth (now (first .entry)) (now (second .entry))) (take w (now (out .exit)))) ⌝ }
+    ensures { λ _. ⌜ leaves (now (answer .exit)) (now (out .exit))
+        ≡ told writtenWords (met n (now (first .entry)) (now (second .entry)) (now (out .entry))) ⌝ }
+    ensures plain { λ _. ⌜ ((w : ℕ) → now (answer .exit) ≡ done w 0
+        → MaximalOf (OfBoth (now (first .entry)) (now (second .entry))) (take w (now (out .exit)))) ⌝ }
 {
-    *answer = list_words(lists::meet(n, first, second, out));
+    *answer = written_words(lists::meet(n, first, second, out));
 }
 
 // Reads the table into fields, and writes these.
@@ -173,10 +180,12 @@ fn rewrite(table: &[u32], out: &mut [u32]) -> Written
 // 0, length, 0: the table read into fields and written again; an accepted table comes back as it was.
 #[no_mangle]
 pub extern "C" fn kirdanzug_rewrite(table: &[u32], out: &mut [u32], answer: &mut [u64; 3])
-    ensures { λ _. ⌜ call (now (answer .exit)) (now (out .exit)) ≡ toldWrite (rewritten (now (table .entry)) (now (out .entry))) ⌝ }
-    ensures same { λ _. ⌜ (checked (now (table .entry)) ≡ Fine → length (now (table .entry)) ≤ length (now (out .entry)) → call (now (answer .exit)) (now (out .exit)) ≡ call (done (length (now (table .entry))) 0) (now (table .entry) ++ drop (length (now (table .entry))) (now (out .entry)))) ⌝ }
+    ensures { λ _. ⌜ leaves (now (answer .exit)) (now (out .exit))
+        ≡ told writtenWords (rewritten (now (table .entry)) (now (out .entry))) ⌝ }
+    ensures same { λ _. ⌜ ComesBack (now (table .entry)) (now (out .entry))
+        (leaves (now (answer .exit)) (now (out .exit))) ⌝ }
 {
-    *answer = write_words(rewrite(table, out));
+    *answer = written_words(rewrite(table, out));
 }
 
 // 0, cell entered, its action: the card opened with the first observation.
@@ -193,6 +202,44 @@ pub extern "C" fn kirdanzug_step(card: &[u32], cell: u32, observation: u32, answ
     ensures { λ _. ⌜ now (answer .exit) ≡ moveWords (stepped (now (card .entry)) cell observation) ⌝ }
 {
     *answer = move_words(cards::step(card, Cell(cell), Observation(observation)));
+}
+
+// 0, observations taken, 0: the card run over the observations, and the action after each in front of `out`.
+#[no_mangle]
+pub extern "C" fn kirdanzug_run(
+    card: &[u32],
+    observations: &[u32],
+    out: &mut [u32],
+    answer: &mut [u64; 3],
+)
+    ensures { λ _. ⌜ leaves (now (answer .exit)) (now (out .exit))
+        ≡ told ranWords (ranInto (now (card .entry)) (now (observations .entry)) (now (out .entry))) ⌝ }
+{
+    *answer = ran_words(runner::run(card, observations, out));
+}
+
+// 0, cell entered, its action: a runner opened with the first observation and moved by two more; the answer to the third. It is for
+// the tests and the benchmark alone, and the header does not declare it.
+#[no_mangle]
+pub extern "C" fn kirdanzug_drive(
+    card: &[u32],
+    first: u32,
+    second: u32,
+    third: u32,
+    answer: &mut [u64; 3],
+)
+    ensures { λ _. ⌜ now (answer .exit)
+        ≡ moveWords (standing (now (card .entry)) (first ∷ second ∷ third ∷ []) .answer) ⌝ }
+{
+    let driven = runner::drive(
+        card,
+        Observation(first),
+        Observation(second),
+        Observation(third),
+    );
+    let last = driven.last;
+    let said = last.answer;
+    *answer = move_words(said);
 }
 
 // 0, offset, length: where the move words of a cell's action stand in the table.

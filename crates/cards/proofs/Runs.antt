@@ -1,5 +1,5 @@
 -- What a card does on a list of observations: one observation more, and the automaton's cell and action as long as no observation
--- is one that cannot occur. A card written of an automaton that meets the second demand is never refused on a play.
+-- is one that cannot occur. A card that meets the second demand is never refused on a play under it.
 -- Assumes nothing.
 use mathlib.Core.Path.{_≡_, refl, sym, ap, subst, _∙_}
 use mathlib.Core.List.{List, [], _∷_, _++_}
@@ -12,7 +12,6 @@ use lib.Seq.{take-suc, length-take-le}
 use Rattle.games.specs.Game.{Game}
 use Rattle.games.specs.Play.{Play, begin, more as longer, PlayOf, seen}
 use Rattle.games.specs.Automaton.{Automaton, noCell, nextCell, cellFrom, cellAfter, actionAfter}
-use Rattle.games.specs.Words.{cardWords}
 use Rattle.games.specs.Demands.{UnderCard, Second}
 use Rattle.games.proofs.Winning.{next-cell}
 use Rattle.games.specs.declared.Checked.the-variants.{Fine}
@@ -22,7 +21,6 @@ use Rattle.cards.specs.Card.{cardObservations, automaton, checked, Fitti
 use Rattle.cards.specs.Run.{entered, enters, opened, stepped, moved, ranFrom, ran}
 use Rattle.cards.proofs.Checked.{fitting}
 use Rattle.cards.proofs.Running.{named-cell, enters-cell, begun-enters, followed-outside, followed-enters, opened-fine, stepped-fine}
-use Rattle.cards.proofs.Written.{Agree, written-observations, written-checked, written-agrees}
 
 -- ---- one observation more
 
@@ -122,55 +120,24 @@ ran-way w e (more {h} {j} v l n) =
     ∙ enters-cell A o (cellAfter A (h ++ (j ∷ []))) j n
     ∙ ap (entered (cellAfter A (h ++ (j ∷ [])))) (sym (action-after A (h ++ (j ∷ []))))
 
--- automata that agree go the same way
-module _ (A B : Automaton) (a o : ℕ) (G : Agree B A o) (F : Fitting A a o) where
-  below : (c : ℕ) → c < A .size → c < B .size
-  below c l = subst (λ (n : ℕ). c < n) (sym (G .size-same)) l
-
-  same-cell : {h : List ℕ} → Way A o h → cellAfter B h ≡ cellAfter A h
-  same-cell (one {j} l n) = cell-after-one B j ∙ G .begins-same j l ∙ sym (cell-after-one A j)
-  same-cell (more {h} {j} v l n) =
-      let here = way-cell F v in
-      let there = below (cellAfter A h) here in
-      cell-after-cell B h j (way-some v) (subst (λ (c : ℕ). c < B .size) (sym (same-cell v)) there)
-      ∙ ap (λ (c : ℕ). B .next c j) (same-cell v)
-      ∙ G .next-same (cellAfter A h) j there l
-      ∙ sym (cell-after-cell A h j (way-some v) here)
-
-  same-way : {h : List ℕ} → Way A o h → Way B o h
-  same-way (one {j} l n) = one l (λ e. n (sym (same-cell (one {j = j} l n)) ∙ e))
-  same-way (more {h} {j} v l n) = more (same-way v) l (λ e. n (sym (same-cell (more v l n)) ∙ e))
-
-  same-action : {h : List ℕ} → Way A o h → actionAfter B h ≡ actionAfter A h
-  same-action {h} v =
-      action-after B h ∙ ap (B .action) (same-cell v) ∙ G .action-same (cellAfter A h) (below (cellAfter A h) (way-cell F v)) ∙ sym (action-after A h)
-
--- the card written of an automaton does what the automaton does
-pub written-runs : (A : Automaton) (a o : ℕ) {h : List ℕ} → Fitting A a o → Way A o h → ran (cardWords A a o) h ≡ entered (cellAfter A h) (actionAfter A h)
-written-runs A a o {h} F v =
-    let w = cardWords A a o in
-    let B = automaton w in
-    let G : Agree B A o = written-agrees A a o F in
-    let u : Way B (cardObservations w) h = subst (λ (n : ℕ). Way B n h) (sym (written-observations A a o F)) (same-way A B a o G F v) in
-    ran-way w (written-checked A a o F) u
-    ∙ ap (λ (c : ℕ). entered c (actionAfter B h)) (same-cell A B a o G F v)
-    ∙ ap (entered (cellAfter A h)) (same-action A B a o G F v)
-
 -- ---- on a play
 
-module _ (g : Game) (A : Automaton) (S : Second g A) (F : Fitting A (g .actions) (g .observations)) where
-  here : (p : Play) → PlayOf g p → UnderCard A p → cellAfter A (seen p) ≡ noCell → ⊥
-  here p m u e = omega (arith, S .keeps p m u .cell-below, F .cells)
+-- document 01: played on any play of its table under the actions it gives, a card that meets the second demand never meets 12, 13 or 14
+module _ (g : Game) (w : List ℕ) (right : checked w ≡ Fine) (observations : cardObservations w ≡ g .observations) (S : Second g (automaton w)) where
+  here : (p : Play) → PlayOf g p → UnderCard (automaton w) p → cellAfter (automaton w) (seen p) ≡ noCell → ⊥
+  here p m u e = omega (arith, S .keeps p m u .cell-below, fitting w right .cells)
 
-  pub play-way : (p : Play) → PlayOf g p → UnderCard A p → Way A (g .observations) (seen p)
+  shown : (j : ℕ) → j < g .observations → j < cardObservations w
+  shown j l = omega (arith, observations)
+
+  play-way : (p : Play) → PlayOf g p → UnderCard (automaton w) p → Way (automaton w) (cardObservations w) (seen p)
   unfolding PlayOf UnderCard seen
-  play-way (begin i o) m u = one (m .1 .0) (here (begin i o) m u)
-  play-way (longer p b i o) m u = more (play-way p (m .0) (u .0)) (m .3 .0) (here (longer p b i o) m u)
+  play-way (begin i o) m u = one (shown o (m .1 .0)) (here (begin i o) m u)
+  play-way (longer p b i o) m u = more (play-way p (m .0) (u .0)) (shown o (m .3 .0)) (here (longer p b i o) m u)
 
-  -- document 01: played on any play of its table under the actions it gives, the card never meets 12, 13 or 14
-  pub never-refused : (p : Play) → PlayOf g p → UnderCard A p
-      → ran (cardWords A (g .actions) (g .observations)) (seen p) ≡ entered (cellAfter A (seen p)) (actionAfter A (seen p))
-  never-refused p m u = written-runs A (g .actions) (g .observations) F (play-way p m u)
+  pub never-refused : (p : Play) → PlayOf g p → UnderCard (automaton w) p
+      → ran w (seen p) ≡ entered (cellAfter (automaton w) (seen p)) (actionAfter (automaton w) (seen p))
+  never-refused p m u = ran-way w right (play-way p m u)
 
 -- ---- before the opening: from cell 65,535 every step is refused, by 13, else by 12
 

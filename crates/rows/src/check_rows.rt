@@ -4,16 +4,11 @@ use crate::print::say;
 use crate::stations;
 use crate::stations::A;
 use crate::stations::changed_a;
-use tables::Checked;
+use games::Checked;
 
 fn print_answer(answer: Checked) {
-    match answer {
-        Checked::Fine => say(b": fine\n"),
-        Checked::Refused(number, place) => {
-            print::refusal(number, place);
-            say(b"\n");
-        }
-    }
+    print::checked(answer);
+    say(b"\n");
 }
 
 fn check(name: &[u8], table: &[u32]) {

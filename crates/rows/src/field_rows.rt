@@ -5,8 +5,6 @@ use crate::stations;
 use crate::stations::A;
 use crate::stations::GUARD;
 use crate::stations::changed_a;
-use fields::Written;
-use tables::Checked;
 use tables::Fields;
 
 fn print_fields(f: Fields) {
@@ -26,10 +24,7 @@ fn read(name: &[u8], table: &[u32]) {
     say(name);
     let r = fields::read(table);
     let answer = r.answer;
-    match answer {
-        Checked::Fine => say(b": fine"),
-        Checked::Refused(number, place) => print::refusal(number, place),
-    }
+    print::checked(answer);
     say(b" ");
     let f = r.fields;
     print_fields(f);
@@ -47,10 +42,7 @@ fn reads() {
 fn write(f: Fields, out: &mut [u32]) {
     say(b" into ");
     print::decimal(out.len() as u64);
-    match fields::write(f, out) {
-        Written::Words(count) => print::wrote(count),
-        Written::Refused(number, place) => print::refusal(number, place),
-    }
+    print::written(fields::write(f, out));
     print::room(out);
 }
 

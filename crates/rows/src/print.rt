@@ -1,4 +1,6 @@
 // Printing on standard output.
+use games::Checked;
+use games::Written;
 use libc::STDOUT_FILENO;
 
 pub fn say(text: &[u8]) {
@@ -81,7 +83,23 @@ pub fn refusal(number: u32, place: usize) {
     decimal(place as u64);
 }
 
+// What a check answers.
+pub fn checked(answer: Checked) {
+    match answer {
+        Checked::Fine => say(b": fine"),
+        Checked::Refused(number, place) => refusal(number, place),
+    }
+}
+
 pub fn wrote(count: usize) {
     say(b": wrote ");
     decimal(count as u64);
+}
+
+// What a writer answers.
+pub fn written(answer: Written) {
+    match answer {
+        Written::Words(count) => wrote(count),
+        Written::Refused(number, place) => refusal(number, place),
+    }
 }

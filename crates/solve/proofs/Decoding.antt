@@ -1,15 +1,16 @@
 -- Laws of the bytes read and of the card's parts.
 -- Assumes nothing.
-use mathlib.Core.Path.{_≡_, refl, sym, ap, ap₂, _∙_, subst}
+use mathlib.Core.Path.{_≡_, refl, sym, ap, ap₂, _∙_}
 use mathlib.Core.List.{List, [], _∷_, _++_}
 use Prim.Native.Nat.{ℕ, suc, _+_, _*_, _≤_, _<_}
-use native.Mathlib.Nat.{suc-mul, mul-le-mul-right}
+use native.Mathlib.Nat.{suc-mul, mul-comm, mul-le-mul-right}
 use native.Mathlib.Numerals.{add-one}
 use native.Mathlib.Omega.{arith}
-use lib.ListN.{length, getD, take, set}
+use lib.ListN.{length, take, set}
 use lib.Seq.{take-suc-set}
 use Rattle.sets.specs.Bounded.{gather}
-use Rattle.games.specs.Words.{game, headObservations, cardLength}
+use Rattle.games.specs.Format.{maxObservations, maxSets, lowValues, numberValues}
+use Rattle.games.specs.Words.{partLength, cardLength}
 use Rattle.solve.specs.Bytes.{word, wordsOf}
 
 pub words-none : (b : List ℕ) → take 0 b ≡ wordsOf 0 b
@@ -24,11 +25,12 @@ words-more i b d x l h e =
     ∙ ap₂ (λ (k : List ℕ) (y : ℕ). k ++ (y ∷ [])) h e
     ∙ sym (ap (λ (n : ℕ). gather n (λ j. word b (4 * j) ∷ [])) (add-one i))
 
--- a cell's part lies in the card
-pub part-inside : (p c m n : ℕ) → c < m → p + m * p ≤ n → p + c * p + p ≤ n
-part-inside p c m n h r = let k = mul-le-mul-right {m = suc c} {n = m} p h in omega (arith, suc-mul c p)
+-- a cell's part lies in the card's room
+pub part-inside : (c m o n : ℕ) → c < m → cardLength m o ≤ n → cardLength c o + partLength o ≤ n
+part-inside c m o n h r = let k = mul-le-mul-right {m = suc c} {n = m} (partLength o) h in omega (arith, suc-mul c (partLength o))
 
--- the card of a yes lies in its room
-pub card-inside : (w : List ℕ) (m n k : ℕ) → k ≡ n → cardLength m (game w .observations) ≤ n → 1 + headObservations (getD w 0 0) + m * (1 + headObservations (getD w 0 0)) ≤ k
-unfolding game
-card-inside w m n k e h = subst (λ (x : ℕ). cardLength m (headObservations (getD w 0 0)) ≤ x) (sym e) h
+-- a card in a room of at most 4 * maxSets words has numbers that its head can hold; k is the room's length after the call
+pub card-fits : (m o p n k : ℕ) → p ≡ o → o ≤ maxObservations → n ≤ 4 * maxSets → k ≡ n → cardLength m o ≤ n → (m ≤ lowValues) × (p < numberValues) × (cardLength m p ≤ k)
+card-fits m o p n k e l h f r =
+    let c : 1 * m ≤ partLength o * m = mul-le-mul-right m (omega arith) in
+    (omega (arith, mul-comm (partLength o) m), omega arith, rw (e, f) r)

@@ -2,8 +2,10 @@
 ghost use mathlib.Core.Path.{_≡_};
 ghost use Prim.Native.Nat.{_+_, _*_, _≤_, _<_};
 ghost use lib.ListN.{length};
-ghost use Rattle.games.specs.Format.{maxSets};
+ghost use Rattle.games.specs.Format.{maxSets, lowValues, numberValues};
+ghost use Rattle.games.specs.Words.{cardLength};
 ghost use Rattle.solve.specs.Bytes.{word, wordsOf};
+use games::Cell;
 use libc::STDIN_FILENO;
 use libc::STDOUT_FILENO;
 use solver::Answer;
@@ -41,11 +43,11 @@ fn print_number(n: u64) {
     io::print_decimal(STDOUT_FILENO, n);
 }
 
-fn print_cell_number(c: u32) {
-    if c == games::NO_CELL {
+fn print_cell_number(c: Cell) {
+    if c.0 == games::NO_CELL {
         io::write_all(STDOUT_FILENO, b" -");
     } else {
-        print_number(c as u64);
+        print_number(c.0 as u64);
     }
 }
 
@@ -63,28 +65,28 @@ fn print_refusal(number: u32, place: usize) {
 fn print_first(w: u32) {
     io::write_all(STDOUT_FILENO, b"first");
     print_number(games::number_field(w) as u64);
-    print_cell_number(games::low_field(w));
+    print_cell_number(Cell(games::low_field(w)));
     end_line();
 }
 
-fn print_next(c: usize, w: u32) {
+fn print_next(c: Cell, w: u32) {
     io::write_all(STDOUT_FILENO, b"next");
-    print_number(c as u64);
+    print_number(c.0 as u64);
     print_number(games::number_field(w) as u64);
-    print_cell_number(games::low_field(w));
+    print_cell_number(Cell(games::low_field(w)));
     end_line();
 }
 
-fn print_cell(c: usize, w: u32) {
+fn print_cell(c: Cell, w: u32) {
     io::write_all(STDOUT_FILENO, b"cell");
-    print_number(c as u64);
+    print_number(c.0 as u64);
     print_number(games::low_field(w) as u64);
     print_number(games::action_field(w) as u64);
     end_line();
 }
 
 // One cell: its own word and its next words.
-fn print_part(c: usize, part: &[u32]) {
+fn print_part(c: Cell, part: &[u32]) {
     if 0 < part.len() {
         print_cell(c, part[0]);
     }
@@ -104,15 +106,17 @@ fn print_front(front: &[u32]) {
     }
 }
 
-// The card's lines: the first cells, then each cell.
-fn print_card(card: &[u32], part: usize, m: usize)
-    requires { ⌜ part + m * part ≤ length (now card) ⌝ }
+// The lines of a card of m cells for o observations: the first cells, then each cell.
+fn print_card(card: &[u32], m: u32, o: u32)
+    requires { ⌜ (m ≤ lowValues) × (o < numberValues) × (cardLength m o ≤ length (now card)) ⌝ }
 {
-    print_front(&card[..part]);
-    let mut c: usize = 0;
+    let front = games::front_length(o);
+    print_front(&card[..front]);
+    let part = games::part_length(o);
+    let mut c: u32 = 0;
     while c < m {
-        let at = part + c * part;
-        print_part(c, &card[at..at + part]);
+        let at = games::card_length(c, o);
+        print_part(Cell(c), &card[at..at + part]);
         c += 1;
     }
 }
@@ -131,7 +135,9 @@ fn print_no(round: u32) {
 }
 
 // Takes the verdict apart: a card, a round number or a refusal.
-fn report(table: &[u32], work: &mut [u32], card: &mut [u32]) {
+fn report(table: &[u32], work: &mut [u32], card: &mut [u32])
+    requires { ⌜ length (now card) ≤ 4 * maxSets ⌝ }
+{
     let answer = solver::solve(table, work, card);
     let Answer::Yes(settled, cells) = answer else {
         let Answer::No(round) = answer else {
@@ -145,8 +151,7 @@ fn report(table: &[u32], work: &mut [u32], card: &mut [u32]) {
         return;
     };
     print_yes(settled, cells);
-    let part = 1 + (table[0] / games::HEAD_OBSERVATIONS_AT % games::HEAD_VALUES) as usize;
-    print_card(card, part, cells as usize);
+    print_card(card, cells, tables::observations(table));
 }
 
 // Room for the words of the longest input.

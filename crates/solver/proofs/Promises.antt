@@ -1,6 +1,6 @@
 -- What solve promises follows from its outcome: the demands on the entry.
 -- Assumes nothing.
-use mathlib.Core.Path.{_≡_, sym, ap, _∙_, subst, subst₂}
+use mathlib.Core.Path.{_≡_, sym, ap, _∙_, subst}
 use mathlib.Core.Logic.{_⊎_, inl, inr, ⊎-elim}
 use mathlib.Core.Bool.{true}
 use mathlib.Core.List.{List, _++_}
@@ -13,7 +13,6 @@ use Rattle.sets.specs.Mask.{member}
 use Rattle.sets.proofs.Family.{mem-at, holds-found}
 use Rattle.games.specs.Answers.{leaves}
 use Rattle.games.specs.Game.{Game, Accepted, enabled}
-use Rattle.games.specs.Play.{seen}
 use Rattle.games.specs.Step.{after, settling}
 use Rattle.games.specs.Verdict.{Yes, No, startSet, startsIn, settled, cells, verdict}
 use Rattle.games.specs.Automaton.{Automaton, chosen, card}
@@ -31,9 +30,8 @@ use Rattle.tables.specs.Check.{checked}
 use Rattle.tables.proofs.Checks.{sized, accepted}
 use Rattle.tables.proofs.Bounds.{few-actions, few-observations, few-sets}
 use Rattle.cards.specs.Card.{automaton, Fitting}
-use Rattle.cards.proofs.Written.{Agree, card-long, written-checked, written-agrees, written-observations, written-actions}
-use Rattle.cards.proofs.Checked.{fitting}
-use Rattle.cards.proofs.Runs.{Way, ran-way, play-way}
+use Rattle.cards.proofs.Written.{Agree, card-long, written-checked, written-agrees, written-observations}
+use Rattle.cards.proofs.Runs.{never-refused}
 use Rattle.solver.specs.Solve.{cardOf, rooms, solved, WorkRoom, written, Kept, Promise}
 use Rattle.solver.specs.declared.Answer.{Answer}
 use Rattle.solver.specs.declared.Answer.the-variants.{Yes as SaysYes, No as SaysNo, Refused}
@@ -105,14 +103,7 @@ module _ (w : List ℕ) (fine : checked w ≡ Fine) where
       let wins : Second g (automaton words) =
       covering-wins g A (automaton words) (covers-agree g (card g) (automaton words) (written-agrees (card g) a o card-fits) (card-covers g A won)) in
       let ok = written-checked (card g) a o card-fits in
-      let same = written-observations (card g) a o card-fits in
-      let F : Fitting (automaton words) a o = subst₂ (Fitting (automaton words)) (written-actions (card g) a o card-fits) same (fitting words ok) in
-      record {
-        right = ok;
-        second = wins;
-        runs = λ p played under.
-            ran-way words ok (subst (λ (n : ℕ). Way (automaton words) n (seen p)) (sym same) (play-way g (automaton words) wins F p played under));
-      }
+      record { right = ok; second = wins; runs = never-refused g words ok (written-observations (card g) a o card-fits) wins }
 
 card-size : (w : List ℕ) (m : ℕ) → m ≡ length (cells (game w)) → length (cardOf (game w)) ≡ cardLength m (game w .observations)
 unfolding card

@@ -18,11 +18,8 @@ pub length-short : (s : Shape) → Limited s → tableLength s ≤ maxWords
 length-short s l = omega (arith, moves-below (s .actions) (s .states) (l .most-actions) (l .most-states))
 
 module _ (w : List ℕ) (h : Sized w) where
-  pub table-short : length w ≤ maxWords
-  table-short = omega (arith, length-short (shapeIn w) (h .limits), h .long)
-
   -- the numbers of the game
-  pub game-limited : Limited (record { states = game w .states; actions = game w .actions; observations = game w .observations })
+  game-limited : Limited (record { states = game w .states; actions = game w .actions; observations = game w .observations })
   unfolding game
   game-limited = h .limits
 

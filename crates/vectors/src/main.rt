@@ -1,9 +1,9 @@
 // Runs the rows of document 01 and prints what each entry answers and leaves in its buffers.
+use entry_rows::card_rows;
+use entry_rows::judge_rows;
+use entry_rows::list_rows;
 use rows::check_rows;
 use rows::field_rows;
-use small_rows::card_rows;
-use small_rows::judge_rows;
-use small_rows::list_rows;
 
 mod run_rows;
 mod show_rows;

@@ -1,14 +1,15 @@
 -- `abi::kirdanzug_solve` meets its contract: the words of what `solve` answers, what it leaves, and what it promises.
 -- Assumes nothing.
 use borrow.Author.Needs.{needs}
-use Rattle.abi.proofs.Told.{solve-told, solve-promised}
+use Rattle.abi.specs.Words.{solveWords}
+use Rattle.abi.proofs.Told.{tells, solve-promised}
 use Rattle.abi.proofs.kirdanzug_solve.Statement.{statement}
 use Rattle.abi.proofs.kirdanzug_solve.Tie as tie
 
 returns : tie.Need-returns
 returns c =
     let said = c .before .before .before .before .before .solve in (
-      solve-told _ (said .result) (c .solve-words .ensures) _ _ _ (said .ensures .0),
+      tells solveWords _ (said .result) _ _ (c .solve-words .ensures) (said .ensures .0),
       solve-promised _ (said .result) (c .solve-words .ensures) _ _ _ _ (said .ensures .1),
     )
 

@@ -8,13 +8,16 @@ use Rattle.abi.proofs.rewrite.Tie as tie
 
 returns : tie.Need-returns
 returns c =
-    let x = c .before .before .before .before .before .before .args in
-    rewrite-refused (x .table .now) (x .out .now) _ (c .before .before .before .read .ensures) (c .before .answer .given .0 .0) (c .before .answer .given .0 .1 .0) (cc)
+    let got = c .before .before .before in
+    let start = got .before .before .before in
+    rewrite-refused (start .args .table .now) (start .args .out .now) _ (got .read .ensures .0) (c .before .answer .given .0 .0) (c .before .answer .given .0 .1 .0) (cc)
 
 returns-2 : tie.Need-returns-2
 returns-2 c =
-    let x = c .before .before .before .before .before .before .before .before .before .args in
-    c .before .before .write .ensures ∙ rewrite-fine (x .table .now) (x .out .now) _ (c .before .before .before .before .before .before .read .ensures) (cc)
+    let written = c .before .before in
+    let got = written .before .before .before .before in
+    let start = got .before .before .before in
+    written .write .ensures .0 ∙ rewrite-fine (start .args .table .now) (start .args .out .now) _ (got .read .ensures .0) (cc)
 
 pub rewrite-spec : {M : Type 1} → statement M
 rewrite-spec =

@@ -9,7 +9,10 @@ use Rattle.pairs.proofs.numbers_agree.Tie as tie
 
 returns : tie.Need-returns
 unfolding agree
-returns c = cc
+returns c =
+    let number = c .before in
+    let actions = number .before in
+    rw (actions .before .action-field .ensures, actions .actions .ensures, number .number-field .ensures, c .observations .ensures)
 
 pub numbers-agree-spec : {M : Type 1} → statement M
 numbers-agree-spec =

@@ -1,3 +1,5 @@
+-- `decode` meets its contract. The loop's invariant: the words below i are those of the bytes.
+-- Assumes nothing.
 use borrow.Author.Needs.{needs}
 use mathlib.Core.Path.{_≡_, sym, ap, _∙_}
 use Prim.Native.Nat.{ℕ, _≤_, _-_}
@@ -15,35 +17,15 @@ Inv-loop bytes words₀ i₀ words i = (i ≤ length words₀) × (length words 
 abbrev μ-loop : tie.MeasureT-loop
 μ-loop bytes words₀ i₀ words i = length words₀ - i
 
-loop-holds : tie.Need-loop-holds Inv-loop μ-loop
-loop-holds c = (search needs, search needs, words-none _)
-
-mul-word-at : tie.Need-mul-word-at Inv-loop μ-loop
-mul-word-at c = search needs
-
-word-at-requires : tie.Need-word-at-requires Inv-loop μ-loop
-word-at-requires c κs = search needs
-
-mul-words : tie.Need-mul-words Inv-loop μ-loop
-mul-words c = search needs
-
-slice-write-words : tie.Need-slice-write-words Inv-loop μ-loop
-slice-write-words c = search needs
-
-add-i : tie.Need-add-i Inv-loop μ-loop
-add-i c = search needs
-
-loop-less : tie.Need-loop-less Inv-loop μ-loop
-loop-less c = search needs
-
 loop-again : tie.Need-loop-again Inv-loop μ-loop
 loop-again c =
     let at = c .before .before in
     let start = at .before .before .before in
-    (search needs, length-set (at .loop .words) (at .loop .i) (c .word-at .result) ∙ at .loop .inv .1, words-more (at .loop .i) (start .args .bytes .now) (at .loop .words) (c .word-at .result) (c .before .loop-test .taken) (at .loop .inv .2) (c .word-at .ensures))
-
-same-length : tie.Need-same-length Inv-loop μ-loop
-same-length c = search needs
+    let word = c .word-at in (
+      search needs,
+      length-set (at .loop .words) (at .loop .i) (word .result) ∙ at .loop .inv .1,
+      words-more (at .loop .i) (start .args .bytes .now) (at .loop .words) (word .result) (c .before .loop-test .taken) (at .loop .inv .2) (word .ensures),
+    )
 
 returns : tie.Need-returns Inv-loop μ-loop
 returns c =
@@ -58,13 +40,13 @@ decode-spec =
     (tie.spec
     Inv-loop
     μ-loop
-    loop-holds
-    mul-word-at
-    word-at-requires
-    mul-words
-    slice-write-words
-    add-i
-    loop-less
+    (λ c. (search needs, search needs, words-none _))
+    (λ c. search needs)
+    (λ c κs. search needs)
+    (λ c. search needs)
+    (λ c. search needs)
+    (λ c. search needs)
+    (λ c. search needs)
     loop-again
-    same-length
+    (λ c. search needs)
     returns)

@@ -1,6 +1,8 @@
+-- `print_card` is safe and ends. The loop's invariant: c is at most m, so that the part of a cell c below m lies in the card's room.
+-- Assumes nothing.
 use borrow.Author.Needs.{needs}
-use mathlib.Core.Path.{sym}
-use Prim.Native.Nat.{_≤_, _-_}
+use mathlib.Core.Path.{_≡_, sym}
+use Prim.Native.Nat.{ℕ, _+_, _≤_, _-_}
 use native.Mathlib.Omega.{arith}
 use lib.ListN.{length}
 use lib.Seq.{length-take-le}
@@ -9,55 +11,21 @@ use Rattle.solve.proofs.print_card.Statement.{statement}
 use Rattle.solve.proofs.print_card.Tie as tie
 
 abbrev Inv-loop : tie.InvT-loop
-Inv-loop card part m c₀ c = c ≤ m
+Inv-loop card m o front part c₀ c = c ≤ m
 
 abbrev μ-loop : tie.MeasureT-loop
-μ-loop card part m c₀ c = m - c
+μ-loop card m o front part c₀ c = m - c
 
-slice-aggregate-print-front : tie.Need-slice-aggregate-print-front Inv-loop μ-loop
-slice-aggregate-print-front c = sym (length-take-le _ _ (omega (arith, c .before .before .pre)))
+abbrev entry : tie.After-part-length Inv-loop μ-loop → tie.Start Inv-loop μ-loop
+entry p = p .before .before .before .before .before
 
-print-front-requires : tie.Need-print-front-requires Inv-loop μ-loop
-print-front-requires c κs = search needs
-
-loop-holds : tie.Need-loop-holds Inv-loop μ-loop
-loop-holds c = search needs
-
-mul-at : tie.Need-mul-at Inv-loop μ-loop
-mul-at c = omega (arith, part-inside (c .before .before .before .before .before .args .part) (c .before .loop .c) (c .before .before .before .before .before .args .m) (length (c .before .before .before .before .before .args .card .now)) (c .loop-test .taken) (c .before .before .before .before .before .pre))
-
-add-at : tie.Need-add-at Inv-loop μ-loop
-add-at c = omega (arith, part-inside (c .before .before .before .before .before .args .part) (c .before .loop .c) (c .before .before .before .before .before .args .m) (length (c .before .before .before .before .before .args .card .now)) (c .loop-test .taken) (c .before .before .before .before .before .pre))
-
-add-print-part : tie.Need-add-print-part Inv-loop μ-loop
-add-print-part c = omega (arith, part-inside (c .before .before .before .before .before .args .part) (c .before .loop .c) (c .before .before .before .before .before .args .m) (length (c .before .before .before .before .before .args .card .now)) (c .loop-test .taken) (c .before .before .before .before .before .pre))
-
-mul-print-part : tie.Need-mul-print-part Inv-loop μ-loop
-mul-print-part c = omega (arith, part-inside (c .before .before .before .before .before .args .part) (c .before .loop .c) (c .before .before .before .before .before .args .m) (length (c .before .before .before .before .before .args .card .now)) (c .loop-test .taken) (c .before .before .before .before .before .pre))
-
-sub-print-part : tie.Need-sub-print-part Inv-loop μ-loop
-sub-print-part c = search needs
-
-part-print-part-start : tie.Need-part-print-part-start Inv-loop μ-loop
-part-print-part-start c = search needs
-
-part-print-part-end : tie.Need-part-print-part-end Inv-loop μ-loop
-part-print-part-end c = part-inside (c .before .before .before .before .before .args .part) (c .before .loop .c) (c .before .before .before .before .before .args .m) (length (c .before .before .before .before .before .args .card .now)) (c .loop-test .taken) (c .before .before .before .before .before .pre)
-
-print-part-requires : tie.Need-print-part-requires Inv-loop μ-loop
-print-part-requires c κs = search needs
-
-add-c : tie.Need-add-c Inv-loop μ-loop
-add-c c = search needs
-
-loop-less : tie.Need-loop-less Inv-loop μ-loop
-loop-less c = search needs
-
-loop-again : tie.Need-loop-again Inv-loop μ-loop
-loop-again c = search needs
-
-returns : tie.Need-returns Inv-loop μ-loop
-returns c = search needs
+-- the part of the cell that the loop is at
+part-fits : (p : tie.After-card-length Inv-loop μ-loop)
+    → p .card-length .result + p .before .before .before .part-length .result ≤ length (entry (p .before .before .before) .args .card .now)
+part-fits p =
+    let at = p .before .before in
+    let start = entry (at .before) in
+    omega (arith, p .card-length .ensures, at .before .part-length .ensures, part-inside (at .loop .c) (start .args .m) (start .args .o) (length (start .args .card .now)) (p .before .loop-test .taken) (start .pre .2))
 
 pub print-card-spec : {M : Type 1} → statement M
 print-card-spec =
@@ -65,18 +33,19 @@ print-card-spec =
     (tie.spec
     Inv-loop
     μ-loop
-    slice-aggregate-print-front
-    print-front-requires
-    loop-holds
-    mul-at
-    add-at
-    add-print-part
-    mul-print-part
-    sub-print-part
-    part-print-part-start
-    part-print-part-end
-    print-part-requires
-    add-c
-    loop-less
-    loop-again
-    returns)
+    (λ c κs. search needs)
+    (λ c. sym (length-take-le _ _ (omega (arith, c .before .front-length .ensures, c .before .before .before .pre .2))))
+    (λ c κs. search needs)
+    (λ c κs. search needs)
+    (λ c. search needs)
+    (λ c κs. search needs)
+    (λ c. omega (arith, part-fits c))
+    (λ c. omega (arith, part-fits c))
+    (λ c. search needs)
+    (λ c. search needs)
+    part-fits
+    (λ c κs. search needs)
+    (λ c. search needs)
+    (λ c. search needs)
+    (λ c. search needs)
+    (λ c. search needs))

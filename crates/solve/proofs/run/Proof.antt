@@ -1,69 +1,55 @@
-use mathlib.Core.Path.{sym, ap, _∙_}
-use Prim.Native.Nat.{ℕ, _*_, _/_}
-use native.Mathlib.Omega.{arith}
-use lib.ListN.{length, drop, length-append}
-use lib.Seq.{length-take-le}
+-- `run` is safe: the words are as many as the bytes give, and the rooms as long as `report` asks.
+-- Assumes nothing.
 use borrow.Author.Needs.{needs}
+use mathlib.Core.Path.{_≡_, sym, ap, _∙_}
+use mathlib.Core.List.{List, _++_}
+use Prim.Native.Nat.{ℕ, _*_, _/_, _≤_}
+use native.Mathlib.Omega.{arith}
+use lib.ListN.{length, take, drop, length-append}
+use lib.Seq.{length-take-le}
 use Rattle.solve.proofs.run.Statement.{statement}
 use Rattle.solve.proofs.run.Tie as tie
 
-words-room-requires : tie.Need-words-room-requires
-words-room-requires c κs = search needs
+-- ---- where the words have their room
 
-room-requires : tie.Need-room-requires
-room-requires c κs = search needs
+abbrev Roomed : Type 0
+Roomed = tie.After-words-room
 
-room-requires-2 : tie.Need-room-requires-2
-room-requires-2 c κs = search needs
+abbrev bytes : Roomed → List ℕ
+bytes p = p .before .before .args .bytes .now
 
-mul-whole : tie.Need-mul-whole
-mul-whole c = search needs
+abbrev count : Roomed → ℕ
+count p = length (bytes p) / 4
 
-slice-aggregate-decode : tie.Need-slice-aggregate-decode
-slice-aggregate-decode c = sym (length-take-le (4 * (length (c .before .before .before .before .before .args .bytes .now) / 4)) (c .before .before .before .before .before .args .bytes .now) (omega arith))
+bytes-front : (p : Roomed) → length (take (4 * count p) (bytes p)) ≡ 4 * count p
+bytes-front p = length-take-le (4 * count p) (bytes p) (omega arith)
 
-array-borrow-prefix-words : tie.Need-array-borrow-prefix-words
-array-borrow-prefix-words c = search needs
+words-front : (p : Roomed) → length (take (count p) (p .words-room .result)) ≡ count p
+words-front p = length-take-le (count p) (p .words-room .result) (omega (arith, p .before .before .pre, p .words-room .ensures))
 
-slice-aggregate-decode-2 : tie.Need-slice-aggregate-decode-2
-slice-aggregate-decode-2 c = sym (length-take-le (length (c .before .before .before .before .before .before .args .bytes .now) / 4) (c .before .before .before .before .words-room .result) (omega (arith, c .before .before .before .before .before .before .pre, c .before .before .before .before .words-room .ensures)))
+-- ---- the words decoded in front of it
 
-decode-requires : tie.Need-decode-requires
-decode-requires c κs = length-take-le (4 * (length (c .before .before .before .before .before .before .args .bytes .now) / 4)) (c .before .before .before .before .before .before .args .bytes .now) (omega arith) ∙ sym (ap (λ (x : ℕ). 4 * x) (length-take-le (length (c .before .before .before .before .before .before .args .bytes .now) / 4) (c .before .before .before .before .words-room .result) (omega (arith, c .before .before .before .before .before .before .pre, c .before .before .before .before .words-room .ensures))))
+abbrev roomed : tie.After-decode → Roomed
+roomed d = d .before .before .before .before .before
 
-array-share-prefix-words : tie.Need-array-share-prefix-words
-array-share-prefix-words c = omega (arith, length-append (c .before .decode .last .1 .0) (drop (length (c .before .before .before .before .before .before .before .before .args .bytes .now) / 4) (c .before .before .before .before .before .before .words-room .result)), c .before .decode .kept .1 .0, length-take-le (length (c .before .before .before .before .before .before .before .before .args .bytes .now) / 4) (c .before .before .before .before .before .before .words-room .result) (omega (arith, c .before .before .before .before .before .before .before .before .pre, c .before .before .before .before .before .before .words-room .ensures)))
-
-slice-aggregate-report : tie.Need-slice-aggregate-report
-slice-aggregate-report c = sym (length-take-le _ _ (omega (arith, length-append (c .before .before .decode .last .1 .0) (drop (length (c .before .before .before .before .before .before .before .before .before .args .bytes .now) / 4) (c .before .before .before .before .before .before .before .words-room .result)), c .before .before .decode .kept .1 .0, length-take-le (length (c .before .before .before .before .before .before .before .before .before .args .bytes .now) / 4) (c .before .before .before .before .before .before .before .words-room .result) (omega (arith, c .before .before .before .before .before .before .before .before .before .pre, c .before .before .before .before .before .before .before .words-room .ensures)))))
-
-slice-aggregate-report-2 : tie.Need-slice-aggregate-report-2
-slice-aggregate-report-2 c = search needs
-
-slice-aggregate-report-3 : tie.Need-slice-aggregate-report-3
-slice-aggregate-report-3 c = search needs
-
-report-requires : tie.Need-report-requires
-report-requires c κs = search needs
-
-returns : tie.Need-returns
-returns c = search needs
+decoded : (d : tie.After-decode) → count (roomed d) ≤ length (d .decode .last .1 .0 ++ drop (count (roomed d)) (roomed d .words-room .result))
+decoded d = let p = roomed d in omega (arith, length-append (d .decode .last .1 .0) (drop (count p) (p .words-room .result)), d .decode .kept .1 .0, words-front p)
 
 pub run-spec : {M : Type 1} → statement M
 run-spec =
     tie.close
     (tie.spec
-    words-room-requires
-    room-requires
-    room-requires-2
-    mul-whole
-    slice-aggregate-decode
-    array-borrow-prefix-words
-    slice-aggregate-decode-2
-    decode-requires
-    array-share-prefix-words
-    slice-aggregate-report
-    slice-aggregate-report-2
-    slice-aggregate-report-3
-    report-requires
-    returns)
+    (λ c κs. search needs)
+    (λ c κs. search needs)
+    (λ c κs. search needs)
+    (λ c. search needs)
+    (λ c. sym (bytes-front (c .before .before .before)))
+    (λ c. search needs)
+    (λ c. sym (words-front (c .before .before .before .before)))
+    (λ c κs. let p = c .before .before .before .before in bytes-front p ∙ sym (ap (λ (x : ℕ). 4 * x) (words-front p)))
+    (λ c. decoded (c .before))
+    (λ c. sym (length-take-le _ _ (decoded (c .before .before))))
+    (λ c. search needs)
+    (λ c. search needs)
+    (λ c κs. search needs)
+    (λ c. search needs))

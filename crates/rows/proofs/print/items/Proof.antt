@@ -1,4 +1,5 @@
--- `items` is safe and ends: the measure is the number of items left.
+-- `items` is safe and ends. The loop's invariant says nothing; the measure is the number of items left.
+-- Assumes nothing.
 use borrow.Author.Needs.{needs}
 use Prim.Native.Nat.{_-_}
 use lib.ListN.{length}

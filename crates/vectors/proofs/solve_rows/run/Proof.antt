@@ -1,4 +1,5 @@
--- `run` is safe and ends: the measure is the number of words left.
+-- `run` is safe and ends. The loop's invariant: no more words are counted than the place is on; the measure is the number of words left.
+-- Assumes nothing.
 use borrow.Author.Needs.{needs}
 use Prim.Native.Nat.{_-_, _≤_}
 use lib.ListN.{length}

@@ -1,5 +1,4 @@
 // Join and meet of mask lists: refusals 2, 5 and 15.
-use lists::Answer;
 use rows::print;
 use rows::print::say;
 use rows::stations::GUARD;
@@ -14,24 +13,17 @@ fn print_call(n: u32, first: &[u32], second: &[u32], words: usize) {
     print::decimal(words as u64);
 }
 
-fn print_answer(answer: Answer) {
-    match answer {
-        Answer::Words(count) => print::wrote(count),
-        Answer::Refused(number, place) => print::refusal(number, place),
-    }
-}
-
 fn join(n: u32, first: &[u32], second: &[u32], out: &mut [u32]) {
     say(b"join ");
     print_call(n, first, second, out.len());
-    print_answer(lists::join(n, first, second, out));
+    print::written(lists::join(n, first, second, out));
     print::room(out);
 }
 
 fn meet(n: u32, first: &[u32], second: &[u32], out: &mut [u32]) {
     say(b"meet ");
     print_call(n, first, second, out.len());
-    print_answer(lists::meet(n, first, second, out));
+    print::written(lists::meet(n, first, second, out));
     print::room(out);
 }
 

@@ -1,7 +1,8 @@
 // A card's words, its opening and its steps: refusals 13, 12 and 14.
-use cards::CardCheck;
 use cards::Move;
+use cards::Stood;
 use games::Cell;
+use games::Checked;
 use games::Observation;
 use rows::print;
 use rows::print::say;
@@ -9,11 +10,8 @@ use rows::stations::A_CARD;
 use rows::stations::C_CARD;
 use rows::stations::changed_card;
 
-fn print_check(answer: CardCheck) {
-    match answer {
-        CardCheck::Fine => say(b": fine"),
-        CardCheck::Refused(number, place) => print::refusal(number, place),
-    }
+fn print_check(answer: Checked) {
+    print::checked(answer);
     say(b"\n");
 }
 
@@ -32,7 +30,8 @@ fn check_a(place: usize, word: u32) {
 }
 
 // The cell and the action, or the refusal; then the cell that the runner is in.
-pub fn print_move(answer: Move, after: Cell) {
+pub fn print_stood(stood: Stood) {
+    let answer = stood.answer;
     match answer {
         Move::Entered(cell, action) => {
             say(b": cell ");
@@ -43,7 +42,7 @@ pub fn print_move(answer: Move, after: Cell) {
         Move::Refused(number, place) => print::refusal(number, place),
     }
     say(b", now in ");
-    print::decimal(after.0 as u64);
+    print::decimal(stood.cell.0 as u64);
     say(b"\n");
 }
 
@@ -52,10 +51,7 @@ fn open(name: &[u8], card: &[u32], seen: u32) {
     say(name);
     say(b" on ");
     print::decimal(seen as u64);
-    print_move(
-        cards::begin(card, Observation(seen)),
-        cards::first_cell(card, Observation(seen)),
-    );
+    print_stood(cards::opening(card, Observation(seen)));
 }
 
 fn step(name: &[u8], card: &[u32], cell: u32, seen: u32) {
@@ -65,11 +61,7 @@ fn step(name: &[u8], card: &[u32], cell: u32, seen: u32) {
     print::decimal(cell as u64);
     say(b" on ");
     print::decimal(seen as u64);
-    let answer = cards::step(card, Cell(cell), Observation(seen));
-    print_move(
-        answer,
-        cards::next_cell(card, Cell(cell), Observation(seen)),
-    );
+    print_stood(cards::moving(card, Cell(cell), Observation(seen)));
 }
 
 fn whole() {

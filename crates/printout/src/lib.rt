@@ -1,0 +1,189 @@
+// What the solving program prints (document 01): its lines, and a card part by part, written into a lent buffer.
+use games::Action;
+use games::Cell;
+use games::Checked;
+use games::Observation;
+ghost use mathlib.Core.Path.{_≡_};
+ghost use Prim.Native.Nat.{_+_, _≤_, _<_};
+ghost use lib.ListN.{length};
+ghost use Rattle.cards.specs.Card.{automaton, cardCells, cardObservations, checked};
+ghost use Rattle.text.specs.Text.{room, Wrote};
+ghost use Rattle.printout.specs.Lines.{field, cellField, yesLine, firstLine, cellLine, nextLine, noLine, refusedLine};
+ghost use Rattle.printout.specs.Lines.{frontText, ownText, partText, fieldBytes, lineBytes, frontBytes, partBytes};
+
+// The most bytes of a field: a space and the digits of a 64-bit number.
+const FIELD_BYTES: usize = 1 + 20;
+
+// The most bytes of a line: the longest word, three fields, the end.
+pub const LINE_BYTES: usize = 7 + 3 * FIELD_BYTES + 1;
+
+// The most bytes of a card's first lines: one for each observation.
+pub const FRONT_BYTES: usize = games::MAX_OBSERVATIONS as usize * LINE_BYTES;
+
+// The most bytes of a cell's part: its own line and one for each observation.
+pub const PART_BYTES: usize = (1 + games::MAX_OBSERVATIONS as usize) * LINE_BYTES;
+
+// A buffer with room for any line, for a card's first lines and for a cell's part.
+pub fn buffer() -> [u8; PART_BYTES]
+    ensures { λ r. ⌜ partBytes ≡ length r ⌝ }
+{
+    [0; PART_BYTES]
+}
+
+// The bytes of a space, of the sign for no cell, and of a line's end.
+const SPACE: u8 = 32;
+
+const DASH: u8 = 45;
+
+const NEWLINE: u8 = 10;
+
+// A space, and the number.
+fn put_field(out: &mut [u8], at: usize, n: u64) -> usize
+    requires { ⌜ at + fieldBytes < room ⌝ }
+    ensures { λ r. ⌜ Wrote (field n) at (now (out .entry)) r (now (out .exit)) × (r ≤ at + fieldBytes) ⌝ }
+{
+    let next = text::put(out, at, SPACE);
+    text::put_decimal(out, next, n)
+}
+
+// A space, and the cell's number, or the sign for no cell.
+fn put_cell_field(out: &mut [u8], at: usize, cell: Cell) -> usize
+    requires { ⌜ at + fieldBytes < room ⌝ }
+    ensures { λ r. ⌜ Wrote (cellField (cell .0)) at (now (out .entry)) r (now (out .exit)) × (r ≤ at + fieldBytes) ⌝ }
+{
+    let next = text::put(out, at, SPACE);
+    if cell.0 == games::NO_CELL {
+        text::put(out, next, DASH)
+    } else {
+        text::put_decimal(out, next, cell.0 as u64)
+    }
+}
+
+// The line of a yes: the settling count and the cells.
+pub fn put_yes(out: &mut [u8], at: usize, settled: u32, cells: u32) -> usize
+    requires { ⌜ at + lineBytes < room ⌝ }
+    ensures { λ r. ⌜ Wrote (yesLine settled cells) at (now (out .entry)) r (now (out .exit)) × (r ≤ at + lineBytes) ⌝ }
+{
+    let next = text::put_bytes(out, at, b"yes");
+    let next = put_field(out, next, settled as u64);
+    let next = put_field(out, next, cells as u64);
+    text::put(out, next, NEWLINE)
+}
+
+// The line of a no: the round number.
+pub fn put_no(out: &mut [u8], at: usize, round: u32) -> usize
+    requires { ⌜ at + lineBytes < room ⌝ }
+    ensures { λ r. ⌜ Wrote (noLine round) at (now (out .entry)) r (now (out .exit)) × (r ≤ at + lineBytes) ⌝ }
+{
+    let next = text::put_bytes(out, at, b"no");
+    let next = put_field(out, next, round as u64);
+    text::put(out, next, NEWLINE)
+}
+
+// The line of a refusal: its number and place.
+pub fn put_refused(out: &mut [u8], at: usize, number: u32, place: usize) -> usize
+    requires { ⌜ at + lineBytes < room ⌝ }
+    ensures { λ r. ⌜ Wrote (refusedLine number place) at (now (out .entry)) r (now (out .exit)) × (r ≤ at + lineBytes) ⌝ }
+{
+    let next = text::put_bytes(out, at, b"refused");
+    let next = put_field(out, next, number as u64);
+    let next = put_field(out, next, place as u64);
+    text::put(out, next, NEWLINE)
+}
+
+// The line of an observation's first cell.
+fn put_first(out: &mut [u8], at: usize, first: Observation, to: Cell) -> usize
+    requires { ⌜ at + lineBytes < room ⌝ }
+    ensures { λ r. ⌜ Wrote (firstLine (first .0) (to .0)) at (now (out .entry)) r (now (out .exit)) × (r ≤ at + lineBytes) ⌝ }
+{
+    let next = text::put_bytes(out, at, b"first");
+    let next = put_field(out, next, first.0 as u64);
+    let next = put_cell_field(out, next, to);
+    text::put(out, next, NEWLINE)
+}
+
+// A cell's own line: its set and action.
+fn put_cell(out: &mut [u8], at: usize, cell: Cell, set: u32, picked: Action) -> usize
+    requires { ⌜ at + lineBytes < room ⌝ }
+    ensures { λ r. ⌜ Wrote (cellLine (cell .0) set (picked .0)) at (now (out .entry)) r (now (out .exit)) × (r ≤ at + lineBytes) ⌝ }
+{
+    let next = text::put_bytes(out, at, b"cell");
+    let next = put_field(out, next, cell.0 as u64);
+    let next = put_field(out, next, set as u64);
+    let next = put_field(out, next, picked.0 as u64);
+    text::put(out, next, NEWLINE)
+}
+
+// The line of the cell that an observation leads to.
+fn put_next(out: &mut [u8], at: usize, from: Cell, seen: Observation, to: Cell) -> usize
+    requires { ⌜ at + lineBytes < room ⌝ }
+    ensures { λ r. ⌜ Wrote (nextLine (from .0) (seen .0) (to .0)) at (now (out .entry)) r (now (out .exit)) × (r ≤ at + lineBytes) ⌝ }
+{
+    let next = text::put_bytes(out, at, b"next");
+    let next = put_field(out, next, from.0 as u64);
+    let next = put_field(out, next, seen.0 as u64);
+    let next = put_cell_field(out, next, to);
+    text::put(out, next, NEWLINE)
+}
+
+// The first cell of an observation.
+fn first_cell(card: &[u32], first: Observation) -> Cell
+    requires { ⌜ (checked (now card) ≡ Checked.Fine) × (first .0 < cardObservations (now card)) ⌝ }
+    ensures { λ r. ⌜ r .0 ≡ automaton (now (card .entry)) .begins (first .0) ⌝ }
+{
+    let place = 1 + first.0 as usize;
+    Cell(games::low_field(card[place]))
+}
+
+// The cell that an observation leads to.
+fn next_cell(card: &[u32], cell: Cell, seen: Observation) -> Cell
+    requires { ⌜ (checked (now card) ≡ Checked.Fine) × (cell .0 < cardCells (now card)) × (seen .0 < cardObservations (now card)) ⌝ }
+    ensures { λ r. ⌜ r .0 ≡ automaton (now (card .entry)) .next (cell .0) (seen .0) ⌝ }
+{
+    let place = cards::cell_place(games::number_field(card[0]), cell) + 1 + seen.0 as usize;
+    Cell(games::low_field(card[place]))
+}
+
+// The first lines of a card.
+pub fn put_front(out: &mut [u8], at: usize, card: &[u32]) -> usize
+    requires { ⌜ (checked (now card) ≡ Checked.Fine) × (at + frontBytes < room) ⌝ }
+    ensures { λ r. ⌜ Wrote (frontText (now (card .entry))) at (now (out .entry)) r (now (out .exit)) × (r ≤ at + frontBytes) ⌝ }
+{
+    let o = games::number_field(card[0]);
+    let mut next = at;
+    let mut j: u32 = 0;
+    while j < o {
+        let first = Observation(j);
+        next = put_first(out, next, first, first_cell(card, first));
+        j += 1;
+    }
+    next
+}
+
+// A cell's own line.
+fn put_own(out: &mut [u8], at: usize, card: &[u32], cell: Cell) -> usize
+    requires { ⌜ (checked (now card) ≡ Checked.Fine) × (cell .0 < cardCells (now card)) × (at + lineBytes < room) ⌝ }
+    ensures { λ r. ⌜ Wrote (ownText (now (card .entry)) (cell .0)) at (now (out .entry)) r (now (out .exit)) × (r ≤ at + lineBytes) ⌝ }
+{
+    let place = cards::cell_place(games::number_field(card[0]), cell);
+    let word = card[place];
+    let set = games::low_field(word);
+    let action = games::action_field(word);
+    put_cell(out, at, cell, set, Action(action))
+}
+
+// A cell's part: its own line and its next lines.
+pub fn put_part(out: &mut [u8], at: usize, card: &[u32], cell: Cell) -> usize
+    requires { ⌜ (checked (now card) ≡ Checked.Fine) × (cell .0 < cardCells (now card)) × (at + partBytes < room) ⌝ }
+    ensures { λ r. ⌜ Wrote (partText (now (card .entry)) (cell .0)) at (now (out .entry)) r (now (out .exit)) × (r ≤ at + partBytes) ⌝ }
+{
+    let o = games::number_field(card[0]);
+    let mut next = put_own(out, at, card, cell);
+    let mut j: u32 = 0;
+    while j < o {
+        let seen = Observation(j);
+        next = put_next(out, next, cell, seen, next_cell(card, cell, seen));
+        j += 1;
+    }
+    next
+}
