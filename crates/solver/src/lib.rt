@@ -46,7 +46,7 @@ fn mark_starts(cells: &[u32], starts: &mut [usize])
 }
 
 // What holds a set of states.
-pub enum Held {
+enum Held {
     // the lowest-numbered cell whose set holds it, or NO_CELL where it has no state
     By(Cell),
     // no cell's set does
