@@ -84,23 +84,23 @@ module _ (m a o i x : ℕ) where
         ap (λ (k : ℕ). cellNamed kindNext m (i % k - 1) x) e ∙ sym (part-next (λ z. n (subst (λ (k : ℕ). i % k ≡ 0) (sym e) z)))
 
 -- the loop of the check has passed the words below p
-pub record Passed (w : List ℕ) (p : ℕ) : Type 0 where
+pub record FitsBelow (w : List ℕ) (p : ℕ) : Type 0 where
   pub within : p ≤ length w
   pub right : first p (λ q. not (wordFits w q)) ≡ nothing
 
-pub passed-none : (w : List ℕ) → Passed w 0
-passed-none w = record { within = omega arith; right = first-zero (λ q. not (wordFits w q)) }
+pub fits-none : (w : List ℕ) → FitsBelow w 0
+fits-none w = record { within = omega arith; right = first-zero (λ q. not (wordFits w q)) }
 
-pub passed-more : (w : List ℕ) (p : ℕ) → Passed w p → p < length w → wordFits w p ≡ true → Passed w (p + 1)
-passed-more w p h l e = record { within = omega arith; right = first-skip p (λ q. not (wordFits w q)) (h .right) (true-not e) }
+pub fits-more : (w : List ℕ) (p : ℕ) → FitsBelow w p → p < length w → wordFits w p ≡ true → FitsBelow w (p + 1)
+fits-more w p h l e = record { within = omega arith; right = first-skip p (λ q. not (wordFits w q)) (h .right) (true-not e) }
 
-pub stopped : (w : List ℕ) (p : ℕ) → Passed w p → p < length w → wordFits w p ≡ false → wordsChecked w ≡ Refused 13 p
+pub stopped : (w : List ℕ) (p : ℕ) → FitsBelow w p → p < length w → wordFits w p ≡ false → wordsChecked w ≡ Refused 13 p
 unfolding wordsChecked
 stopped w p h l e = ap (λ (f : Found). atFound f (Refused 13) Fine) (first-stop (length w) (λ q. not (wordFits w q)) p l (h .right) (false-not e))
 
-pub passed-all : (w : List ℕ) (p : ℕ) → Passed w p → length w ≤ p → wordsChecked w ≡ Fine
+pub fits-all : (w : List ℕ) (p : ℕ) → FitsBelow w p → length w ≤ p → wordsChecked w ≡ Fine
 unfolding wordsChecked
-passed-all w p h l =
+fits-all w p h l =
     let e : p ≡ length w = omega arith in
     ap (λ (f : Found). atFound f (Refused 13) Fine) (subst (λ (n : ℕ). first n (λ q. not (wordFits w q)) ≡ nothing) e (h .right))
 

@@ -1,4 +1,3 @@
-pub mod Extra
 pub mod Checked
 pub mod Running
 pub mod Written

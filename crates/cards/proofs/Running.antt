@@ -4,10 +4,8 @@ use mathlib.Core.Path.{_≡_, refl, sym, ap, subst, _∙_}
 use mathlib.Core.Logic.{⊎-elim}
 use mathlib.Core.List.{List}
 use Prim.Native.Nat.{ℕ, _+_, _≤_, _<_}
-use native.Mathlib.Omega.{arith}
 use lib.ListN.{length, getD}
 use borrow.Author.Tests.{eq-eqb, ne-eqb, le-leb, lt-leb}
-use Rattle.games.specs.Format.{lowValues}
 use Rattle.games.specs.Automaton.{Automaton, noCell}
 use Rattle.games.specs.Fields.{lowField, actionField}
 use Rattle.games.specs.declared.Checked.the-variants.{Fine, Refused as Wrong}
@@ -89,44 +87,41 @@ pub stepped-wrong : (w : List ℕ) (c j n p : ℕ) → checked w ≡ Wrong n p �
 unfolding stepped
 stepped-wrong w c j n p e = rw (stepped, e)
 
--- what the functions over a checked card read
+-- what the functions over a checked card read; p is the place that the code has of a cell's own word
 module _ (w : List ℕ) (e : checked w ≡ Fine) where
-  pub named-small : (c : ℕ) → Named (automaton w) c → c < lowValues
-  named-small c h =
-      ⊎-elim (λ (l : c < automaton w .size). omega (arith, fitting w e .cells)) (λ (n : c ≡ noCell). omega arith) h
+  pub own-in : (c p : ℕ) → c < cardCells w → p ≡ cellPlace (cardObservations w) c → p < length w
+  own-in c p l g = subst (λ (i : ℕ). i < length w) (sym g) (cell-in w e c l)
 
-  pub place-in : (c o p : ℕ) → Named (automaton w) c → (c ≡ noCell → ⊥) → o ≡ cardObservations w → p ≡ cellPlace o c → p < length w
-  place-in c o p h n f g =
-      subst (λ (k : ℕ). k < length w) (sym (g ∙ ap (λ (k : ℕ). cellPlace k c) f)) (cell-in w e c (subst (λ (k : ℕ). c < k) (size-of w) (named-cell (automaton w) c h n)))
+  pub later-in : (c j p : ℕ) → c < cardCells w → j < cardObservations w → p ≡ cellPlace (cardObservations w) c → p + 1 + j < length w
+  later-in c j p l k g = subst (λ (i : ℕ). i + 1 + j < length w) (sym g) (next-in w e c j l k)
 
-  pub enter-told : (c j o p x : ℕ) → (c ≡ noCell → ⊥) → o ≡ cardObservations w → p ≡ cellPlace o c → x ≡ actionField (getD w p 0) → entered c x ≡ enters (automaton w) c j
-  enter-told c j o p x n f g h =
-      ap (entered c) (h ∙ ap (λ (k : ℕ). actionField (getD w k 0)) (g ∙ ap (λ (k : ℕ). cellPlace k c) f) ∙ sym (action-of w c)) ∙ sym (enters-cell (automaton w) 0 c j n)
+  -- a cell that is named, and is not none, by the number of the head
+  pub cell-below : (c : ℕ) → Named (automaton w) c → (c ≡ noCell → ⊥) → c < cardCells w
+  cell-below c h n = subst (λ (i : ℕ). c < i) (size-of w) (named-cell (automaton w) c h n)
 
-  pub begins-named-at : (j x : ℕ) → j < cardObservations w → x ≡ lowField (getD w (1 + j) 0) → Named (automaton w) x
-  begins-named-at j x l f = subst (Named (automaton w)) (begins-of w j ∙ sym f) (fitting w e .begins-named j l)
+  pub begins-named-at : (j x : ℕ) → j < cardObservations w → x ≡ automaton w .begins j → Named (automaton w) x
+  begins-named-at j x l f = subst (Named (automaton w)) (sym f) (fitting w e .begins-named j l)
 
-  pub next-named-at : (c j o p x : ℕ) → c < cardCells w → j < o → o ≡ cardObservations w → p ≡ cellPlace o c → x ≡ lowField (getD w (p + 1 + j) 0) → Named (automaton w) x
-  next-named-at c j o p x l k f g h =
-      subst (Named (automaton w)) (next-of w c j ∙ sym (h ∙ ap (λ (i : ℕ). lowField (getD w (i + 1 + j) 0)) (g ∙ ap (λ (i : ℕ). cellPlace i c) f)))
-      (fitting w e .next-named c j (subst (λ (n : ℕ). c < n) (sym (size-of w)) l) (subst (λ (n : ℕ). j < n) f k))
+  pub next-named-at : (c j x : ℕ) → c < cardCells w → j < cardObservations w → x ≡ automaton w .next c j → Named (automaton w) x
+  next-named-at c j x l k f = subst (Named (automaton w)) (sym f) (fitting w e .next-named c j (subst (λ (n : ℕ). c < n) (sym (size-of w)) l) k)
 
-  pub begun-told : (j x : ℕ) → j < cardObservations w → x ≡ lowField (getD w (1 + j) 0) → enters (automaton w) x j ≡ begun (automaton w) (cardObservations w) j
-  begun-told j x l f = ap (λ (c : ℕ). enters (automaton w) c j) (f ∙ sym (begins-of w j)) ∙ sym (begun-enters (automaton w) (cardObservations w) j l)
+-- the moves of a checked card, by what the code read
+module _ (w : List ℕ) where
+  pub enter-told : (c j x : ℕ) → (c ≡ noCell → ⊥) → x ≡ automaton w .action c → entered c x ≡ enters (automaton w) c j
+  enter-told c j x n h = ap (entered c) h ∙ sym (enters-cell (automaton w) 0 c j n)
 
-  pub outside-told : (c j m : ℕ) → m ≡ cardCells w → m ≤ c → Refused 12 c ≡ followed (automaton w) (cardObservations w) c j
-  outside-told c j m f l = sym (followed-outside (automaton w) (cardObservations w) c j (subst (λ (n : ℕ). n ≤ c) (f ∙ sym (size-of w)) l))
+  pub begun-told : (j x : ℕ) → j < cardObservations w → x ≡ automaton w .begins j → enters (automaton w) x j ≡ begun (automaton w) (cardObservations w) j
+  begun-told j x l f = ap (λ (c : ℕ). enters (automaton w) c j) f ∙ sym (begun-enters (automaton w) (cardObservations w) j l)
 
-  pub late-told : (c j m o : ℕ) → m ≡ cardCells w → c < m → o ≡ cardObservations w → o ≤ j → Refused 12 j ≡ followed (automaton w) (cardObservations w) c j
-  late-told c j m o f l g k =
-      sym (followed-late (automaton w) (cardObservations w) c j (subst (λ (n : ℕ). c < n) (f ∙ sym (size-of w)) l) (subst (λ (n : ℕ). n ≤ j) g k))
+  pub outside-told : (c j : ℕ) → cardCells w ≤ c → Refused 12 c ≡ followed (automaton w) (cardObservations w) c j
+  outside-told c j l = sym (followed-outside (automaton w) (cardObservations w) c j (subst (λ (n : ℕ). n ≤ c) (sym (size-of w)) l))
 
-  pub next-read : (c j m o p : ℕ) → m ≡ cardCells w → c < m → o ≡ cardObservations w → j < o → p ≡ cellPlace o c → p + 1 + j < length w
-  next-read c j m o p f l g k h =
-      subst (λ (q : ℕ). q + 1 + j < length w) (sym (h ∙ ap (λ (i : ℕ). cellPlace i c) g)) (next-in w e c j (subst (λ (n : ℕ). c < n) f l) (subst (λ (n : ℕ). j < n) g k))
+  module _ (c j : ℕ) (l : c < cardCells w) where
+    pub late-told : cardObservations w ≤ j → Refused 12 j ≡ followed (automaton w) (cardObservations w) c j
+    late-told k = sym (followed-late (automaton w) (cardObservations w) c j (subst (λ (n : ℕ). c < n) (sym (size-of w)) l) k)
 
-  pub followed-told : (c j m o p x : ℕ) → m ≡ cardCells w → c < m → o ≡ cardObservations w → j < o → p ≡ cellPlace o c
-      → x ≡ lowField (getD w (p + 1 + j) 0) → enters (automaton w) x j ≡ followed (automaton w) (cardObservations w) c j
-  followed-told c j m o p x f l g k h r =
-      ap (λ (i : ℕ). enters (automaton w) i j) (r ∙ ap (λ (i : ℕ). lowField (getD w (i + 1 + j) 0)) (h ∙ ap (λ (i : ℕ). cellPlace i c) g) ∙ sym (next-of w c j))
-      ∙ sym (followed-enters (automaton w) (cardObservations w) c j (subst (λ (n : ℕ). c < n) (f ∙ sym (size-of w)) l) (subst (λ (n : ℕ). j < n) g k))
+    pub followed-told : (x : ℕ) → j < cardObservations w → x ≡ automaton w .next c j
+        → enters (automaton w) x j ≡ followed (automaton w) (cardObservations w) c j
+    followed-told x k f =
+        ap (λ (i : ℕ). enters (automaton w) i j) f
+        ∙ sym (followed-enters (automaton w) (cardObservations w) c j (subst (λ (n : ℕ). c < n) (sym (size-of w)) l) k)

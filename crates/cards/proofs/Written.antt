@@ -21,8 +21,8 @@ use Rattle.games.proofs.Limits.{within-limit}
 use Rattle.games.specs.declared.Checked.the-variants.{Fine}
 use Rattle.cards.specs.Card.{headPlace, firstPlace, cellPlace, nextPlace, cardCells, cardObservations, cardActions, automaton, headFits, cellNamed, cellFits, wordFits, checked, Named, Fitting}
 use Rattle.sets.proofs.Bounded.{first-none}
-use Rattle.cards.proofs.Extra.{gather-length, gather-at}
-use Rattle.cards.proofs.Checked.{word-head, word-begins, word-cell, word-next, only-words, passed-all}
+use Rattle.sets.proofs.Fills.{gather-length, gather-at, length-values, getD-values}
+use Rattle.cards.proofs.Checked.{word-head, word-begins, word-cell, word-next, only-words, fits-all}
 use Rattle.cards.proofs.Running.{size-of, set-of, action-of, begins-of, next-of}
 
 -- the fields of a word
@@ -75,18 +75,12 @@ module _ (A : Automaton) (a o : ℕ) where
   abbrev cellsOf : List ℕ
   cellsOf = gather (A .size) (cellWords A o)
 
-  abbrev nexts : ℕ → List ℕ
-  nexts c = gather o (λ j. word kindNext (A .next c j) j 0 ∷ [])
-
-  nexts-length : (c : ℕ) → length (nexts c) ≡ o
-  nexts-length c = let l : length (nexts c) ≡ o * 1 = gather-length o 1 (λ j. word kindNext (A .next c j) j 0 ∷ []) (λ i b. refl) in omega arith
-
-  firsts-length : length firsts ≡ o
-  firsts-length = let l : length firsts ≡ o * 1 = gather-length o 1 (λ j. word kindFirst (A .begins j) j 0 ∷ []) (λ i b. refl) in omega arith
-
   cell-length : (c : ℕ) → length (cellWords A o c) ≡ partLength o
   unfolding cellWords
-  cell-length c = omega (arith, nexts-length c)
+  cell-length c = omega (arith, length-values (λ j. word kindNext (A .next c j) j 0) o)
+
+  firsts-length : length firsts ≡ o
+  firsts-length = length-values (λ j. word kindFirst (A .begins j) j 0) o
 
   cells-length : length cellsOf ≡ A .size * partLength o
   cells-length = gather-length (A .size) (partLength o) (cellWords A o) (λ c l. cell-length c)
@@ -104,11 +98,8 @@ module _ (A : Automaton) (a o : ℕ) where
   unfolding cardWords
   tail-at p = ap (λ (q : ℕ). getD (cardWords A a o) q 0) (let e : 1 + p ≡ suc p = omega arith in e)
 
-  single : (f : ℕ → ℕ) (j : ℕ) → j < o → getD (gather o (λ i. f i ∷ [])) j 0 ≡ f j
-  single f j l = ap (λ (p : ℕ). getD (gather o (λ i. f i ∷ [])) p 0) (let e : j ≡ j * 1 + 0 = omega arith in e) ∙ gather-at o 1 (λ i. f i ∷ []) (λ i b. refl) j 0 l (omega arith)
-
   pub first-at : (j : ℕ) → j < o → getD (cardWords A a o) (firstPlace j) 0 ≡ word kindFirst (A .begins j) j 0
-  first-at j l = tail-at j ∙ List·getD-append firsts cellsOf 0 j (omega (arith, firsts-length)) ∙ single (λ i. word kindFirst (A .begins i) i 0) j l
+  first-at j l = tail-at j ∙ List·getD-append firsts cellsOf 0 j (omega (arith, firsts-length)) ∙ getD-values (λ i. word kindFirst (A .begins i) i 0) o j l
 
   -- behind the front
   cells-at : (q : ℕ) → getD (cardWords A a o) (frontLength o + q) 0 ≡ getD cellsOf q 0
@@ -130,7 +121,7 @@ module _ (A : Automaton) (a o : ℕ) where
 
   pub next-at : (c j : ℕ) → c < A .size → j < o → getD (cardWords A a o) (nextPlace o c j) 0 ≡ word kindNext (A .next c j) j 0
   unfolding cellWords
-  next-at c j l k = part-at c (suc j) (nextPlace o c j) l (omega arith) (omega arith) ∙ single (λ i. word kindNext (A .next c i) i 0) j k
+  next-at c j l k = part-at c (suc j) (nextPlace o c j) l (omega arith) (omega arith) ∙ getD-values (λ i. word kindNext (A .next c i) i 0) o j k
 
 -- two automata with the same cells, sets and actions, and the same first and next cells for o observations
 pub record Agree (A B : Automaton) (o : ℕ) : Type 0 where
@@ -216,7 +207,7 @@ module _ (A : Automaton) (a o : ℕ) (F : Fitting A a o) where
   written-checked =
       let w = cardWords A a o in
       only-words w (λ e. omega (arith, card-long A a o)) head-word written-long
-      ∙ passed-all w (length w)
+      ∙ fits-all w (length w)
       (record { within = omega arith; right = first-none (length w) (λ p. not (wordFits w p)) (λ p l. true-not (every-word p l)) })
       (omega arith)
 

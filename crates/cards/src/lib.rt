@@ -9,7 +9,7 @@ ghost use lib.ListN.{length};
 ghost use Rattle.games.specs.Format.{lowValues, numberValues, actionValues, kindValues, kindCell};
 ghost use Rattle.games.specs.Fields.{word};
 ghost use Rattle.cards.specs.Card.{headFits, cellNamed, cellFits, partFits, wordFits, wordsChecked, checked};
-ghost use Rattle.cards.specs.Card.{automaton, cardObservations, cellPlace, Named};
+ghost use Rattle.cards.specs.Card.{automaton, cardCells, cardObservations, cardActions, cellPlace, Named};
 ghost use Rattle.cards.specs.Run.{enters, begun, followed, opened, stepped, standsAfter, starts, advances};
 
 // What an observation leads to: the cell entered and its action, or a refusal's number and place.
@@ -148,6 +148,70 @@ pub fn cell_place(o: u32, cell: Cell) -> usize
     games::card_length(cell.0, o)
 }
 
+// What the words of a checked card say: the numbers of its head,
+pub fn cells(card: &[u32]) -> u32
+    requires { ⌜ checked (now card) ≡ Checked.Fine ⌝ }
+    ensures { λ r. ⌜ r ≡ cardCells (now (card .entry)) ⌝ }
+{
+    games::low_field(card[0])
+}
+
+pub fn observations(card: &[u32]) -> u32
+    requires { ⌜ checked (now card) ≡ Checked.Fine ⌝ }
+    ensures { λ r. ⌜ r ≡ cardObservations (now (card .entry)) ⌝ }
+{
+    games::number_field(card[0])
+}
+
+pub fn actions(card: &[u32]) -> u32
+    requires { ⌜ checked (now card) ≡ Checked.Fine ⌝ }
+    ensures { λ r. ⌜ r ≡ cardActions (now (card .entry)) ⌝ }
+{
+    games::action_field(card[0])
+}
+
+// the cell that a first observation leads to,
+pub fn first_cell(card: &[u32], seen: Observation) -> Cell
+    requires { ⌜ (checked (now card) ≡ Checked.Fine) × (seen .0 < cardObservations (now card)) ⌝ }
+    ensures { λ r. ⌜ r .0 ≡ automaton (now (card .entry)) .begins (seen .0) ⌝ }
+{
+    let place = 1 + seen.0 as usize;
+    Cell(games::low_field(card[place]))
+}
+
+// where a cell's own word stands, with its set and its action,
+fn own_place(card: &[u32], cell: Cell) -> usize
+    requires { ⌜ (checked (now card) ≡ Checked.Fine) × (cell .0 < cardCells (now card)) ⌝ }
+    ensures { λ r. ⌜ r ≡ cellPlace (cardObservations (now (card .entry))) (cell .0) ⌝ }
+{
+    cell_place(observations(card), cell)
+}
+
+pub fn cell_set(card: &[u32], cell: Cell) -> u32
+    requires { ⌜ (checked (now card) ≡ Checked.Fine) × (cell .0 < cardCells (now card)) ⌝ }
+    ensures { λ r. ⌜ r ≡ automaton (now (card .entry)) .set (cell .0) ⌝ }
+{
+    let place = own_place(card, cell);
+    games::low_field(card[place])
+}
+
+pub fn cell_action(card: &[u32], cell: Cell) -> Action
+    requires { ⌜ (checked (now card) ≡ Checked.Fine) × (cell .0 < cardCells (now card)) ⌝ }
+    ensures { λ r. ⌜ r .0 ≡ automaton (now (card .entry)) .action (cell .0) ⌝ }
+{
+    let place = own_place(card, cell);
+    Action(games::action_field(card[place]))
+}
+
+// and the cell that a later observation leads to.
+pub fn next_cell(card: &[u32], cell: Cell, seen: Observation) -> Cell
+    requires { ⌜ (checked (now card) ≡ Checked.Fine) × (cell .0 < cardCells (now card)) × (seen .0 < cardObservations (now card)) ⌝ }
+    ensures { λ r. ⌜ r .0 ≡ automaton (now (card .entry)) .next (cell .0) (seen .0) ⌝ }
+{
+    let place = own_place(card, cell) + 1 + seen.0 as usize;
+    Cell(games::low_field(card[place]))
+}
+
 // The cell that the observation leads to, with its action, or 14.
 fn enter(card: &[u32], cell: Cell, seen: Observation) -> Move
     requires { ⌜ (checked (now card) ≡ Checked.Fine) × Named (automaton (now card)) (cell .0) ⌝ }
@@ -156,8 +220,7 @@ fn enter(card: &[u32], cell: Cell, seen: Observation) -> Move
     if cell.0 == games::NO_CELL {
         return Move::Refused(14, seen.0 as usize);
     }
-    let place = cell_place(games::number_field(card[0]), cell);
-    Move::Entered(cell, Action(games::action_field(card[place])))
+    Move::Entered(cell, cell_action(card, cell))
 }
 
 // Opening a checked card. It is no entry: a run checks its card once and calls this.
@@ -165,11 +228,10 @@ pub fn start(card: &[u32], seen: Observation) -> Move
     requires { ⌜ checked (now card) ≡ Checked.Fine ⌝ }
     ensures { λ r. ⌜ r ≡ begun (automaton (now (card .entry))) (cardObservations (now (card .entry))) (seen .0) ⌝ }
 {
-    if games::number_field(card[0]) <= seen.0 {
+    if observations(card) <= seen.0 {
         return Move::Refused(12, seen.0 as usize);
     }
-    let place = 1 + seen.0 as usize;
-    enter(card, Cell(games::low_field(card[place])), seen)
+    enter(card, first_cell(card, seen), seen)
 }
 
 // A step on a checked card. It is no entry, as `start`.
@@ -177,15 +239,13 @@ pub fn follow(card: &[u32], cell: Cell, seen: Observation) -> Move
     requires { ⌜ checked (now card) ≡ Checked.Fine ⌝ }
     ensures { λ r. ⌜ r ≡ followed (automaton (now (card .entry))) (cardObservations (now (card .entry))) (cell .0) (seen .0) ⌝ }
 {
-    if games::low_field(card[0]) <= cell.0 {
+    if cells(card) <= cell.0 {
         return Move::Refused(12, cell.0 as usize);
     }
-    let o = games::number_field(card[0]);
-    if o <= seen.0 {
+    if observations(card) <= seen.0 {
         return Move::Refused(12, seen.0 as usize);
     }
-    let place = cell_place(o, cell) + 1 + seen.0 as usize;
-    enter(card, Cell(games::low_field(card[place])), seen)
+    enter(card, next_cell(card, cell, seen), seen)
 }
 
 // Document 01's opening of a card with the first observation.

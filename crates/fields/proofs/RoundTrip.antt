@@ -18,13 +18,13 @@ use Rattle.sets.proofs.Logic.{decided, and-intro, and-left, and-right, or-left,
 use Rattle.sets.proofs.Bounded.{all-intro, all-at, first-none}
 use Rattle.sets.proofs.Fills.{length-values, getD-values, getD-filled, getD-rest, length-filled}
 use Rattle.games.specs.Answers.{Leaves, leaves}
-use Rattle.games.specs.Format.{maxStates, maxObservations, maxMoves, lowValues, headSpareAt}
+use Rattle.games.specs.Format.{maxStates, maxObservations, maxMoves, headSpareAt}
 use Rattle.games.specs.Fields.{lowField}
 use Rattle.games.specs.Places.{shapeOf, shown, move, placeOf, placeAt, tableLength, Within, Limited}
 use Rattle.games.specs.Words.{maskAt, game}
 use Rattle.games.specs.declared.Shape.{Shape}
 use Rattle.games.specs.declared.Place.{Place}
-use Rattle.games.specs.declared.Place.the-variants.{Start, Bad, Shown, Move}
+use Rattle.games.specs.declared.Place.the-variants.{Start, Bad}
 use Rattle.games.specs.declared.Checked.{Checked}
 use Rattle.games.specs.declared.Checked.the-variants.{Fine, Refused}
 use Rattle.games.specs.declared.Written.{Written}

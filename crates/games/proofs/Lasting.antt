@@ -1,7 +1,7 @@
 -- Where all start sets are good for k, a strategy lasts k rounds: it remembers the rounds left and the set of states that the
 -- observations leave possible.
 -- Assumes nothing.
-use mathlib.Core.Path.{_≡_, refl, sym, ap, _∙_, subst}
+use mathlib.Core.Path.{_≡_, refl, sym, ap, subst}
 use mathlib.Core.Logic.{_⊎_, ⊎-elim}
 use mathlib.Core.Bool.{true, false}
 use mathlib.Core.List.{List}

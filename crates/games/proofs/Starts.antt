@@ -1,7 +1,7 @@
 -- The sets before the first action: every first state and observation of a play belong to one of them, and each has only such states.
 -- Assumes nothing.
 use mathlib.Core.Path.{_≡_, sym, _∙_}
-use mathlib.Core.Bool.{Bool, true, false}
+use mathlib.Core.Bool.{true, false}
 use Prim.Native.Nat.{ℕ, _^_, _<_}
 use Rattle.sets.specs.Mask.{member}
 use Rattle.sets.specs.Family.{Family}

@@ -1,7 +1,7 @@
 -- The demands as statements about the game, strategies and plays alone.
 -- Assumes nothing.
 use mathlib.Core.Path.{_≡_}
-use mathlib.Core.Bool.{Bool, true, false}
+use mathlib.Core.Bool.{true, false}
 use mathlib.Core.Logic.{_↔_, _⊎_}
 use Prim.Native.Nat.{ℕ, _-_, _^_, _≤_, _<_}
 use Rattle.sets.specs.Mask.{member}

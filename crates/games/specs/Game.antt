@@ -2,7 +2,7 @@
 -- States, actions and observations are numbers from 0; a set of states is a mask.
 -- Assumes nothing.
 use mathlib.Core.Path.{_≡_}
-use mathlib.Core.Bool.{Bool, true, false, not, _&&_}
+use mathlib.Core.Bool.{Bool, true, not}
 use Prim.Native.Nat.{ℕ, _^_, _≤_, _<_}
 use lib.Dec.{eqb}
 use Rattle.sets.specs.Mask.{member}

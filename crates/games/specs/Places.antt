@@ -1,6 +1,5 @@
 -- What stands at each place of a table (document 01, "Words"). A table's head has the place 0.
 -- Assumes nothing.
-use mathlib.Core.Path.{_≡_}
 use mathlib.Core.Bool.{cond}
 use Prim.Native.Nat.{ℕ, _+_, _-_, _*_, _/_, _%_, _^_, _≤_, _<_}
 use lib.Dec.{eqb, ltb}

@@ -1,6 +1,6 @@
 -- The step on sets and the good sets (document 01, "The step on sets"; documents 000 and 002: CPre and its iterates from the top).
 -- Assumes nothing.
-use mathlib.Core.Bool.{Bool, true, false, not, _&&_, _||_}
+use mathlib.Core.Bool.{Bool, true, not, _&&_, _||_}
 use mathlib.Core.List.{List}
 use Prim.Native.Nat.{ℕ, zero, suc, _^_}
 use lib.Dec.{eqb}

@@ -1,6 +1,6 @@
 -- The verdict (document 01, "The step on sets").
 -- Assumes nothing.
-use mathlib.Core.Bool.{Bool, true, false, not, cond}
+use mathlib.Core.Bool.{Bool, not, cond}
 use mathlib.Core.List.{List}
 use Prim.Native.Nat.{ℕ, _^_}
 use lib.ListN.{length}

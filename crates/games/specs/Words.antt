@@ -2,7 +2,7 @@
 -- Assumes nothing.
 use mathlib.Core.List.{List, [], _∷_, _++_}
 use Prim.Native.Nat.{ℕ, _+_, _*_}
-use lib.ListN.{length, getD}
+use lib.ListN.{getD}
 use Rattle.sets.specs.Bounded.{gather}
 use Rattle.games.specs.Format.{kindCard, kindFirst, kindCell, kindNext}
 use Rattle.games.specs.Fields.{lowField, word}

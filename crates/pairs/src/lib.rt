@@ -10,9 +10,8 @@ fn numbers_agree(table: &[u32], card: &[u32]) -> bool
     requires { ⌜ (tableChecked (now table) ≡ Checked.Fine) × (cardChecked (now card) ≡ Checked.Fine) ⌝ }
     ensures { λ r. ⌜ r ≡ agree (now (table .entry)) (now (card .entry)) ⌝ }
 {
-    let head = card[0];
-    (games::action_field(head) == tables::actions(table))
-        & (games::number_field(head) == tables::observations(table))
+    (cards::actions(card) == tables::actions(table))
+        & (cards::observations(card) == tables::observations(table))
 }
 
 // The table checks, 13, and 16 where the two don't go together.

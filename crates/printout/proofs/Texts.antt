@@ -1,26 +1,24 @@
 -- Laws of the printed texts: a cell's field by its case, a card's lines as its words have them, the lines of a loop over the
 -- observations, and that a card's parts together are the whole text.
 -- Assumes nothing.
-use mathlib.Core.Path.{_≡_, sym, ap, ap₂, subst, _∙_}
+use mathlib.Core.Path.{_≡_, sym, ap, subst, _∙_}
 use mathlib.Core.List.{List, _++_, append-nil, append-assoc}
 use Prim.Native.Nat.{ℕ, _+_, _*_, _≤_, _<_}
 use native.Mathlib.Numerals.{add-one}
 use native.Mathlib.Omega.{arith}
 use borrow.Author.Tests.{eq-eqb, ne-eqb}
-use lib.ListN.{length, getD, take, drop}
+use lib.ListN.{length, take, drop}
 use lib.Seq.{take-append-seam}
 use Rattle.sets.specs.Bounded.{gather}
 use Rattle.games.specs.Format.{maxObservations}
 use Rattle.games.specs.Automaton.{noCell}
-use Rattle.games.specs.Fields.{lowField, actionField}
 use Rattle.games.specs.declared.Checked.the-variants.{Fine}
-use Rattle.cards.specs.Card.{automaton, cardCells, cardObservations, cellPlace, checked}
-use Rattle.cards.proofs.Checked.{fitting, cell-in}
-use Rattle.cards.proofs.Running.{set-of, action-of, next-of}
+use Rattle.cards.specs.Card.{cardCells, cardObservations, checked}
+use Rattle.cards.proofs.Checked.{fitting}
 use Rattle.text.specs.Text.{bytes, Wrote}
 use Rattle.text.specs.Decimal.{decimal}
 use Rattle.text.proofs.Writing.{wrote-gathered-none, wrote-gathered-more, wrote-front}
-use Rattle.printout.specs.Lines.{cellText, cellField, cellLine, ownText, yesLine, frontText, partText, cardText, yesText, lineBytes}
+use Rattle.printout.specs.Lines.{cellText, cellField, yesLine, frontText, partText, cardText, yesText, lineBytes}
 
 -- no cell, and a cell
 pub field-none : (c : ℕ) → c ≡ noCell → cellField c ≡ bytes " " ++ bytes "-"
@@ -30,26 +28,6 @@ field-none c e = rw (cellText, eq-eqb c noCell e)
 pub field-cell : (c : ℕ) → (c ≡ noCell → ⊥) → cellField c ≡ bytes " " ++ decimal c
 unfolding cellField cellText
 field-cell c n = rw (cellText, ne-eqb c noCell n)
-
--- ---- a card's words, read at a cell's place p for the o observations of its head
-
-module _ (w : List ℕ) (c o p : ℕ) (f : o ≡ cardObservations w) (g : p ≡ cellPlace o c) where
-  there : p ≡ cellPlace (cardObservations w) c
-  there = g ∙ ap (λ (i : ℕ). cellPlace i c) f
-
-  -- the cell's word lies in the card
-  pub own-in : checked w ≡ Fine → c < cardCells w → p < length w
-  own-in e l = subst (λ (i : ℕ). i < length w) (sym there) (cell-in w e c l)
-
-  -- and gives its line
-  pub own-told : (s a : ℕ) → s ≡ lowField (getD w p 0) → a ≡ actionField (getD w p 0) → cellLine c s a ≡ ownText w c
-  own-told s a h k =
-      ap₂ (cellLine c) (h ∙ ap (λ (i : ℕ). lowField (getD w i 0)) there ∙ sym (set-of w c))
-      (k ∙ ap (λ (i : ℕ). actionField (getD w i 0)) there ∙ sym (action-of w c))
-
-  -- the next cell
-  pub next-told : (j x : ℕ) → x ≡ lowField (getD w (p + 1 + j) 0) → x ≡ automaton w .next c j
-  next-told j x h = h ∙ ap (λ (i : ℕ). lowField (getD w (i + 1 + j) 0)) there ∙ sym (next-of w c j)
 
 -- ---- a loop over the o observations of a card, with a line for each
 

@@ -6,7 +6,7 @@ use games::Observation;
 ghost use mathlib.Core.Path.{_≡_};
 ghost use Prim.Native.Nat.{_+_, _≤_, _<_};
 ghost use lib.ListN.{length};
-ghost use Rattle.cards.specs.Card.{automaton, cardCells, cardObservations, checked};
+ghost use Rattle.cards.specs.Card.{cardCells, checked};
 ghost use Rattle.text.specs.Text.{room, Wrote};
 ghost use Rattle.printout.specs.Lines.{field, cellField, yesLine, firstLine, cellLine, nextLine, noLine, refusedLine};
 ghost use Rattle.printout.specs.Lines.{frontText, ownText, partText, fieldBytes, lineBytes, frontBytes, partBytes};
@@ -126,35 +126,17 @@ fn put_next(out: &mut [u8], at: usize, from: Cell, seen: Observation, to: Cell) 
     text::put(out, next, NEWLINE)
 }
 
-// The first cell of an observation.
-fn first_cell(card: &[u32], first: Observation) -> Cell
-    requires { ⌜ (checked (now card) ≡ Checked.Fine) × (first .0 < cardObservations (now card)) ⌝ }
-    ensures { λ r. ⌜ r .0 ≡ automaton (now (card .entry)) .begins (first .0) ⌝ }
-{
-    let place = 1 + first.0 as usize;
-    Cell(games::low_field(card[place]))
-}
-
-// The cell that an observation leads to.
-fn next_cell(card: &[u32], cell: Cell, seen: Observation) -> Cell
-    requires { ⌜ (checked (now card) ≡ Checked.Fine) × (cell .0 < cardCells (now card)) × (seen .0 < cardObservations (now card)) ⌝ }
-    ensures { λ r. ⌜ r .0 ≡ automaton (now (card .entry)) .next (cell .0) (seen .0) ⌝ }
-{
-    let place = cards::cell_place(games::number_field(card[0]), cell) + 1 + seen.0 as usize;
-    Cell(games::low_field(card[place]))
-}
-
 // The first lines of a card.
 pub fn put_front(out: &mut [u8], at: usize, card: &[u32]) -> usize
     requires { ⌜ (checked (now card) ≡ Checked.Fine) × (at + frontBytes < room) ⌝ }
     ensures { λ r. ⌜ Wrote (frontText (now (card .entry))) at (now (out .entry)) r (now (out .exit)) × (r ≤ at + frontBytes) ⌝ }
 {
-    let o = games::number_field(card[0]);
+    let o = cards::observations(card);
     let mut next = at;
     let mut j: u32 = 0;
     while j < o {
         let first = Observation(j);
-        next = put_first(out, next, first, first_cell(card, first));
+        next = put_first(out, next, first, cards::first_cell(card, first));
         j += 1;
     }
     next
@@ -165,11 +147,9 @@ fn put_own(out: &mut [u8], at: usize, card: &[u32], cell: Cell) -> usize
     requires { ⌜ (checked (now card) ≡ Checked.Fine) × (cell .0 < cardCells (now card)) × (at + lineBytes < room) ⌝ }
     ensures { λ r. ⌜ Wrote (ownText (now (card .entry)) (cell .0)) at (now (out .entry)) r (now (out .exit)) × (r ≤ at + lineBytes) ⌝ }
 {
-    let place = cards::cell_place(games::number_field(card[0]), cell);
-    let word = card[place];
-    let set = games::low_field(word);
-    let action = games::action_field(word);
-    put_cell(out, at, cell, set, Action(action))
+    let set = cards::cell_set(card, cell);
+    let action = cards::cell_action(card, cell);
+    put_cell(out, at, cell, set, action)
 }
 
 // A cell's part: its own line and its next lines.
@@ -177,12 +157,12 @@ pub fn put_part(out: &mut [u8], at: usize, card: &[u32], cell: Cell) -> usize
     requires { ⌜ (checked (now card) ≡ Checked.Fine) × (cell .0 < cardCells (now card)) × (at + partBytes < room) ⌝ }
     ensures { λ r. ⌜ Wrote (partText (now (card .entry)) (cell .0)) at (now (out .entry)) r (now (out .exit)) × (r ≤ at + partBytes) ⌝ }
 {
-    let o = games::number_field(card[0]);
+    let o = cards::observations(card);
     let mut next = put_own(out, at, card, cell);
     let mut j: u32 = 0;
     while j < o {
         let seen = Observation(j);
-        next = put_next(out, next, cell, seen, next_cell(card, cell, seen));
+        next = put_next(out, next, cell, seen, cards::next_cell(card, cell, seen));
         j += 1;
     }
     next

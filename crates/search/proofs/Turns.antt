@@ -1,22 +1,20 @@
 -- What one turn of the loops over observations, actions and sets shows, over plain variables.
 -- Assumes nothing.
 use mathlib.Core.Path.{_≡_, sym, ap, _∙_}
-use mathlib.Core.Logic.{_⊎_, ⊎-elim}
 use mathlib.Core.Bool.{Bool, true, false, _&&_}
 use mathlib.Core.List.{List}
 use Prim.Native.Nat.{ℕ, _-_, _^_, _≤_, _<_}
-use native.Mathlib.Omega.{arith}
 use borrow.Author.Tests.{eq-eqb, ne-eqb}
 use Rattle.sets.specs.Mask.{common}
 use Rattle.sets.specs.Bounded.{all, any}
 use Rattle.sets.specs.Family.{Family, DownClosed}
-use Rattle.sets.proofs.Logic.{decided, refuted, and-intro, and-false-left, and-false-right}
+use Rattle.sets.proofs.Logic.{and-intro, and-false-left, and-false-right}
 use Rattle.sets.proofs.Bounded.{all-intro, all-refuted, any-intro}
 use Rattle.sets.proofs.Mask.{common-lt, common-subset-left}
 use Rattle.families.specs.Bits.{maxLanes, lanes}
 use Rattle.families.proofs.Lanes.{lanes-few}
 use Rattle.games.specs.Game.{Game, Accepted}
-use Rattle.games.specs.Step.{safe, enabledAt, post, after, meets, step}
+use Rattle.games.specs.Step.{safe, post, after, meets, step}
 use Rattle.games.specs.Words.{game}
 use Rattle.tables.specs.Layout.{Sized}
 use Rattle.tables.proofs.Bounds.{few-states}

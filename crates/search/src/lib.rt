@@ -1,6 +1,6 @@
 // The search on sets: the step, applied to families of sets as bits until a start set is lost or nothing changes.
 ghost use mathlib.Core.Path.{_≡_};
-ghost use Prim.Native.Nat.{ℕ, _+_, _*_, _^_, _<_, _≤_};
+ghost use Prim.Native.Nat.{_+_, _*_, _^_, _<_};
 ghost use lib.ListN.{length};
 ghost use Rattle.sets.specs.Mask.{member};
 ghost use Rattle.families.specs.Bits.{lanes, has as isIn, Bits};

@@ -1,30 +1,63 @@
--- A list filled from the front by a function's values, one store a turn.
+-- Lists gathered piece by piece, and a list filled from the front by a function's values, one store a turn.
 -- Assumes nothing.
 use mathlib.Core.Path.{_≡_, refl, sym, ap, ap₂, _∙_, subst}
 use mathlib.Core.List.{List, [], _∷_, _++_, append-assoc}
-use mathlib.Core.Logic.{_⊎_, ⊎-elim}
-use Prim.Native.Nat.{ℕ, zero, suc, _+_, _-_, _≤_, _<_}
-use native.Mathlib.Nat.{le-refl, le-step, eq-or-lt-of-le, le-of-suc-le-suc, not-suc-le-zero}
+use mathlib.Core.Logic.{⊎-elim}
+use Prim.Native.Nat.{ℕ, zero, suc, _+_, _-_, _*_, _≤_, _<_}
+use native.Mathlib.Nat.{le-refl, le-step, eq-or-lt-of-le, le-of-suc-le-suc, not-suc-le-zero, zero-mul, suc-mul, mul-le-mul-right}
 use native.Mathlib.Numerals.{add-one}
 use native.Mathlib.Omega.{arith}
 use lib.ListN.{length, getD, set, drop, length-append, length-drop, List·getD-append}
-use lib.Seq.{drop-cons, set-at, getD-append-add, getD-drop, getD-at}
+use lib.Seq.{drop-cons, set-at, getD-append-add, getD-drop}
 use Rattle.sets.specs.Bounded.{gather, filledBy}
+
+-- ---- pieces of the same length, one behind the other
+
+pub gather-length : (n k : ℕ) (piece : ℕ → List ℕ) → ((i : ℕ) → i < n → length (piece i) ≡ k) → length (gather n piece) ≡ n * k
+unfolding gather
+gather-length zero k piece h = sym (zero-mul k)
+gather-length (suc n) k piece h =
+    let l : length (gather n piece) ≡ n * k = gather-length n k piece (λ i b. h i (le-step b)) in
+    let m : length (piece n) ≡ k = h n (le-refl (suc n)) in
+    omega (arith, length-append (gather n piece) (piece n), suc-mul n k)
+
+-- element r of list i
+pub gather-at : (n k : ℕ) (piece : ℕ → List ℕ) → ((i : ℕ) → i < n → length (piece i) ≡ k) → (i r : ℕ) → i < n → r < k
+    → getD (gather n piece) (i * k + r) 0 ≡ getD (piece i) r 0
+unfolding gather
+gather-at zero k piece h i r b c = absurd (not-suc-le-zero b)
+gather-at (suc n) k piece h i r b c =
+    let l : length (gather n piece) ≡ n * k = gather-length n k piece (λ j d. h j (le-step d)) in
+    ⊎-elim
+    (λ (e : i ≡ n). ap (λ (j : ℕ). getD (gather n piece ++ piece n) (j * k + r) 0) e
+    ∙ ap (λ (j : ℕ). getD (gather n piece ++ piece n) (j + r) 0) (sym l)
+    ∙ getD-append-add (gather n piece) (piece n) r 0
+    ∙ ap (λ (j : ℕ). getD (piece j) r 0) (sym e))
+    (λ (d : i < n). List·getD-append (gather n piece) (piece n) 0 (i * k + r) (under l d)
+    ∙ gather-at n k piece (λ j f. h j (le-step f)) i r d c)
+    (eq-or-lt-of-le (le-of-suc-le-suc b))
+  where
+    under : length (gather n piece) ≡ n * k → i < n → i * k + r < length (gather n piece)
+    under l d =
+        let e : suc i * k ≤ n * k = mul-le-mul-right k d in
+        omega (arith, suc-mul i k)
+
+-- lists gathered from the same pieces are the same
+pub gather-ext : (n : ℕ) (p q : ℕ → List ℕ) → ((j : ℕ) → j < n → p j ≡ q j) → gather n p ≡ gather n q
+unfolding gather
+gather-ext zero p q h = refl
+gather-ext (suc n) p q h = ap₂ _++_ (gather-ext n p q (λ j l. h j (le-step l))) (h n (le-refl (suc n)))
+
+-- ---- a function's values, in a list of their own and in front of another
 
 module _ (f : ℕ → ℕ) where
   pub length-values : (k : ℕ) → length (gather k (λ i. f i ∷ [])) ≡ k
-  unfolding gather
-  length-values zero = refl
-  length-values (suc k) = length-append (gather k (λ i. f i ∷ [])) (f k ∷ []) ∙ omega (arith, length-values k)
+  length-values k = omega (arith, gather-length k 1 (λ i. f i ∷ []) (λ i l. refl))
 
   pub getD-values : (k i : ℕ) → i < k → getD (gather k (λ i. f i ∷ [])) i 0 ≡ f i
-  unfolding gather
-  getD-values zero i l = absurd (not-suc-le-zero l)
-  getD-values (suc k) i l =
-      ⊎-elim
-      (λ (e : i ≡ k). ap (λ (j : ℕ). getD (gather k (λ i. f i ∷ []) ++ (f k ∷ [])) j 0) e ∙ getD-at (gather k (λ i. f i ∷ [])) (f k) [] 0 k (length-values k) ∙ ap f (sym e))
-      (λ m. List·getD-append (gather k (λ i. f i ∷ [])) (f k ∷ []) 0 i (subst (λ (j : ℕ). i < j) (sym (length-values k)) m) ∙ getD-values k i m)
-      (eq-or-lt-of-le (le-of-suc-le-suc l))
+  getD-values k i l =
+      ap (λ (p : ℕ). getD (gather k (λ i. f i ∷ [])) p 0) (let e : i ≡ i * 1 + 0 = omega arith in e)
+      ∙ gather-at k 1 (λ i. f i ∷ []) (λ j m. refl) i 0 l (omega arith)
 
   pub filled-none : (d : List ℕ) → d ≡ filledBy 0 f d
   unfolding gather
@@ -54,12 +87,6 @@ module _ (f : ℕ → ℕ) where
       ∙ getD-append-add (gather k (λ i. f i ∷ [])) (drop k d) (i - k) 0
       ∙ getD-drop k d (i - k) 0
       ∙ ap (λ (j : ℕ). getD d j 0) m
-
--- lists gathered from the same pieces are the same
-pub gather-ext : (n : ℕ) (p q : ℕ → List ℕ) → ((j : ℕ) → j < n → p j ≡ q j) → gather n p ≡ gather n q
-unfolding gather
-gather-ext zero p q h = refl
-gather-ext (suc n) p q h = ap₂ _++_ (gather-ext n p q (λ j l. h j (le-step l))) (h n (le-refl (suc n)))
 
 pub filled-ext : (f g : ℕ → ℕ) (k : ℕ) (d : List ℕ) → ((i : ℕ) → i < k → f i ≡ g i) → filledBy k f d ≡ filledBy k g d
 filled-ext f g k d h =

@@ -6,10 +6,9 @@ use mathlib.Core.List.{List, []}
 use Prim.Native.Nat.{ℕ, _+_, _*_, _-_, _≤_, _<_}
 use native.Mathlib.Omega.{arith}
 use lib.Dec.{leb}
-use lib.ListN.{length, getD, take, drop}
+use lib.ListN.{length, take, drop}
 use borrow.Author.Tests.{le-leb, lt-leb, leb-false}
 use Rattle.games.specs.Answers.{unless}
-use Rattle.games.specs.Fields.{actionField}
 use Rattle.games.specs.Places.{move, placeOf}
 use Rattle.games.specs.Words.{game}
 use Rattle.games.specs.declared.Checked.{Checked}
@@ -17,9 +16,9 @@ use Rattle.games.specs.declared.Checked.the-variants.{Fine, Refused as Stopped}
 use Rattle.games.proofs.Places.{action-row}
 use Rattle.tables.specs.Layout.{shapeIn}
 use Rattle.tables.proofs.Checks.{sized}
-use Rattle.cards.specs.Card.{cellPlace, cardCells, cardActions, cardObservations, automaton}
-use Rattle.cards.proofs.Checked.{fitting, cell-in}
-use Rattle.cards.proofs.Running.{size-of, action-of}
+use Rattle.cards.specs.Card.{cardCells, automaton}
+use Rattle.cards.proofs.Checked.{fitting}
+use Rattle.cards.proofs.Running.{size-of}
 use Rattle.pairs.specs.Pair.{checked}
 use Rattle.pairs.proofs.Pairing.{paired}
 use Rattle.show.specs.Show.{located, found, handed, partOf}
@@ -36,27 +35,17 @@ module _ (w k : List ℕ) (c : ℕ) where
   unfolding found
   pair-fine e = rw e
 
-  -- m is the number of cells that the code read
-  module _ (m : ℕ) (cells : m ≡ cardCells k) where
-    -- then 12
-    pub no-such-cell : m ≤ c → Refused 12 c ≡ located w k c
-    unfolding located
-    no-such-cell l = rw (located, le-leb (automaton k .size) c (subst (λ (i : ℕ). i ≤ c) (cells ∙ sym (size-of k)) l))
+  -- then 12
+  pub no-such-cell : cardCells k ≤ c → Refused 12 c ≡ located w k c
+  unfolding located
+  no-such-cell l = rw (located, le-leb (automaton k .size) c (subst (λ (i : ℕ). i ≤ c) (sym (size-of k)) l))
 
-    -- else the part; q is the place of the cell's own word
-    module _ (below : c < m) (o q : ℕ) (seen : o ≡ cardObservations k) (cell : q ≡ cellPlace o c) where
-      -- the word lies in the card
-      pub cell-read : checked w k ≡ Fine → q < length k
-      cell-read e =
-          subst (λ (i : ℕ). i < length k) (sym (cell ∙ ap (λ (i : ℕ). cellPlace i c) seen))
-          (cell-in k (paired w k e .card-fine) c (subst (λ (i : ℕ). c < i) cells below))
-
-      pub part-told : (b at n : ℕ) → b ≡ actionField (getD k q 0) → at ≡ placeOf (shapeIn w) (move b 0) → n ≡ game w .states → Part at n ≡ located w k c
-      unfolding located
-      part-told b at n picked h s =
-          let d : b ≡ automaton k .action c = picked ∙ ap (λ (i : ℕ). actionField (getD k i 0)) (cell ∙ ap (λ (i : ℕ). cellPlace i c) seen) ∙ sym (action-of k c) in
-          let g : at ≡ placeOf (shapeIn w) (move (automaton k .action c) 0) = h ∙ ap (λ (i : ℕ). placeOf (shapeIn w) (move i 0)) d in
-          rw (located, lt-leb (automaton k .size) c (subst (λ (i : ℕ). c < i) (cells ∙ sym (size-of k)) below), g, s)
+  -- else the part, by the action that the code read
+  pub part-told : c < cardCells k → (b at n : ℕ) → b ≡ automaton k .action c → at ≡ placeOf (shapeIn w) (move b 0) → n ≡ game w .states → Part at n ≡ located w k c
+  unfolding located
+  part-told l b at n picked h s =
+      let g : at ≡ placeOf (shapeIn w) (move (automaton k .action c) 0) = h ∙ ap (λ (i : ℕ). placeOf (shapeIn w) (move i 0)) picked in
+      rw (located, lt-leb (automaton k .size) c (subst (λ (i : ℕ). c < i) (sym (size-of k)) l), g, s)
 
 -- ---- the part lies in the table
 

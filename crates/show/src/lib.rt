@@ -1,5 +1,4 @@
 // The move words of a cell's action, as a part of a table's words (document 01, "Entries": Show).
-use games::Action;
 use games::Cell;
 use games::Checked;
 use games::Place;
@@ -19,12 +18,10 @@ fn locate(table: &[u32], card: &[u32], cell: Cell) -> Shown
     requires { ⌜ checked (now table) (now card) ≡ Checked.Fine ⌝ }
     ensures { λ r. ⌜ r ≡ located (now (table .entry)) (now (card .entry)) (cell .0) ⌝ }
 {
-    let head = card[0];
-    if games::low_field(head) <= cell.0 {
+    if cards::cells(card) <= cell.0 {
         return Shown::Refused(12, cell.0 as usize);
     }
-    let place = cards::cell_place(games::number_field(head), cell);
-    let action = Action(games::action_field(card[place]));
+    let action = cards::cell_action(card, cell);
     Shown::Part(
         tables::place_in(table, Place::Move(action, State(0))),
         tables::states(table) as usize,

@@ -10,20 +10,20 @@ use lib.ListN.{length, getD, take, drop, length-append, length-drop, take-append
 use lib.Seq.{take-at, drop-drop, drop-append-add, length-take-le}
 use borrow.Rule.Slice.PartMut.{putMid, postOf, drop-put, same-len-mid, mid-len}
 use Rattle.sets.specs.Bounded.{gather}
+use Rattle.sets.proofs.Fills.{length-values}
 use Rattle.games.specs.Game.{Game, Accepted}
 use Rattle.games.specs.Verdict.{startSets, cells}
 use Rattle.games.specs.Automaton.{card}
 use Rattle.games.specs.Words.{frontLength, partLength, cardLength, cellWords, cardWords}
 use Rattle.games.proofs.Winning.{cell-settled}
 use Rattle.cards.specs.Card.{cellPlace}
-use Rattle.cards.proofs.Extra.{gather-length}
 use Rattle.solver.specs.Writing.{SettledSet, frontWords, setWords}
 use Rattle.solver.specs.Solve.{cardOf}
 use Rattle.solver.proofs.Words.{sets-front}
 
 -- a word, and n words behind it
 words-length : (n : ℕ) (f : ℕ → ℕ) → suc (length (gather n (λ j. f j ∷ []))) ≡ 1 + n
-words-length n f = omega (arith, gather-length n 1 (λ j. f j ∷ []) (λ i l. refl))
+words-length n f = omega (arith, length-values f n)
 
 set-words-length : (g : Game) (s : ℕ) → length (setWords g s) ≡ partLength (g .observations)
 unfolding setWords

@@ -13,7 +13,6 @@ use lib.Seq.{getD-set-same, getD-set-other}
 use lib.Dec.{ltb}
 use borrow.Author.Count.{below-none, below-more}
 use borrow.Author.Tests.{ltb-true, ltb-false}
-use Rattle.sets.specs.Mask.{subset}
 use Rattle.sets.specs.Bounded.{firstFrom}
 use Rattle.sets.specs.Family.{holds}
 use Rattle.sets.proofs.Logic.{decided, refuted, same-truth}
@@ -27,7 +26,7 @@ use Rattle.games.specs.declared.Cell.{Cell}
 use Rattle.games.specs.Game.{Game, Accepted}
 use Rattle.games.specs.Step.{antichain}
 use Rattle.games.specs.Verdict.{settled, cells}
-use Rattle.games.specs.Automaton.{noCell, holding}
+use Rattle.games.specs.Automaton.{holding}
 use Rattle.games.proofs.Holding.{holdsAt, Unheld, unheld-from, holding-unheld}
 use Rattle.games.proofs.Settling.{cells-hold}
 use Rattle.solver.specs.declared.Held.{Held}

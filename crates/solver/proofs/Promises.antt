@@ -3,7 +3,7 @@
 use mathlib.Core.Path.{_≡_, sym, ap, _∙_, subst}
 use mathlib.Core.Logic.{_⊎_, inl, inr, ⊎-elim}
 use mathlib.Core.Bool.{true}
-use mathlib.Core.List.{List, _++_}
+use mathlib.Core.List.{List}
 use Prim.Native.Nat.{ℕ, _≤_, _<_}
 use native.Mathlib.Omega.{arith}
 use lib.Pow.{pow-pos}
@@ -14,7 +14,7 @@ use Rattle.sets.proofs.Family.{mem-at, holds-found}
 use Rattle.games.specs.Answers.{leaves}
 use Rattle.games.specs.Game.{Game, Accepted, enabled}
 use Rattle.games.specs.Step.{after, settling}
-use Rattle.games.specs.Verdict.{Yes, No, startSet, startsIn, settled, cells, verdict}
+use Rattle.games.specs.Verdict.{Yes, startSet, startsIn, settled, cells, verdict}
 use Rattle.games.specs.Automaton.{Automaton, chosen, card}
 use Rattle.games.specs.Words.{game, cardLength}
 use Rattle.games.specs.Demands.{Second, Third}

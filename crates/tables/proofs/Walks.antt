@@ -28,34 +28,34 @@ module _ (g : Game) (s a : ℕ) where
   passes i = not (member s i) || enabled g i a
 
   -- the action is enabled at all members below i, and u is what it gives them
-  pub record Passed (i u : ℕ) : Type 0 where
+  pub record WalkedBelow (i u : ℕ) : Type 0 where
     pub enabled-below : all i passes ≡ true
     pub united : u ≡ unionOver i s (g .successors a)
 
-  passed-none : Passed 0 0
-  passed-none = record { enabled-below = all-zero passes; united = sym (unionOver-zero s (g .successors a)) }
+  below-none : WalkedBelow 0 0
+  below-none = record { enabled-below = all-zero passes; united = sym (unionOver-zero s (g .successors a)) }
 
-  passed-skip : (i u : ℕ) → Passed i u → member s i ≡ false → Passed (i + 1) u
-  passed-skip i u h m =
+  below-skip : (i u : ℕ) → WalkedBelow i u → member s i ≡ false → WalkedBelow (i + 1) u
+  below-skip i u h m =
       record {
         enabled-below = all-more i passes ∙ and-intro (h .enabled-below) (or-left (enabled g i a) (false-not m));
         united = h .united ∙ sym (unionOver-skip i s (g .successors a) m);
       }
 
-  passed-more : (i u : ℕ) → Passed i u → member s i ≡ true → enabled g i a ≡ true → Passed (i + 1) (union u (g .successors a i))
-  passed-more i u h m e =
+  below-more : (i u : ℕ) → WalkedBelow i u → member s i ≡ true → enabled g i a ≡ true → WalkedBelow (i + 1) (union u (g .successors a i))
+  below-more i u h m e =
       record {
         enabled-below = all-more i passes ∙ and-intro (h .enabled-below) (or-right (not (member s i)) e);
         united = ap (λ (v : ℕ). union v (g .successors a i)) (h .united) ∙ sym (unionOver-hit i s (g .successors a) m);
       }
 
   -- states that are no members change nothing
-  passed-gap : (u i j : ℕ) → Passed i u → i ≤ j → ((k : ℕ) → i ≤ k → k < j → member s k ≡ false) → Passed j u
-  passed-gap u i j h l =
+  below-gap : (u i j : ℕ) → WalkedBelow i u → i ≤ j → ((k : ℕ) → i ≤ k → k < j → member s k ≡ false) → WalkedBelow j u
+  below-gap u i j h l =
       le-ind
-      (λ m. ((k : ℕ) → i ≤ k → k < m → member s k ≡ false) → Passed m u)
+      (λ m. ((k : ℕ) → i ≤ k → k < m → member s k ≡ false) → WalkedBelow m u)
       (λ gap. h)
-      (λ m le more gap. subst (λ (k : ℕ). Passed k u) (add-one m) (passed-skip m u (more (λ k a b. gap k a (le-step b))) (gap m le (le-refl (suc m)))))
+      (λ m le more gap. subst (λ (k : ℕ). WalkedBelow k u) (add-one m) (below-skip m u (more (λ k a b. gap k a (le-step b))) (gap m le (le-refl (suc m)))))
       j
       l
 
@@ -63,7 +63,7 @@ module _ (g : Game) (s a : ℕ) where
   pub record Walking (rest u : ℕ) : Type 0 where
     pub to : ℕ
     pub within : to ≤ g .states
-    pub passed : Passed to u
+    pub passed : WalkedBelow to u
     pub small : rest < 2 ^ g .states
     pub behind : (i : ℕ) → i < to → member rest i ≡ false
     pub ahead : (i : ℕ) → to ≤ i → i < g .states → member rest i ≡ member s i
@@ -73,7 +73,7 @@ module _ (g : Game) (s a : ℕ) where
       record {
         to = 0;
         within = zero-le;
-        passed = passed-none;
+        passed = below-none;
         small = mod-lt s (pow-pos (g .states));
         behind = λ i l. absurd (not-suc-le-zero l);
         ahead = λ i l h. member-low s (g .states) i h;
@@ -85,7 +85,7 @@ module _ (g : Game) (s a : ℕ) where
     unfolding walked enabledAt post
     walking-end z =
         let k =
-        passed-gap u (h .to) (g .states) (h .passed) (h .within)
+        below-gap u (h .to) (g .states) (h .passed) (h .within)
         (λ i a b. sym (h .ahead i a b) ∙ ap (λ (r : ℕ). member r i) z ∙ member-zero i) in
         rw (k .enabled-below, ← k .united)
 
@@ -124,8 +124,8 @@ module _ (g : Game) (s a : ℕ) where
             to = t + 1;
             within = omega (arith, next-below);
             passed =
-                passed-more t u
-                (passed-gap u (h .to) t (h .passed) next-ahead (λ i a b. sym (h .ahead i a (omega (arith, next-below))) ∙ next-is .2 i b))
+                below-more t u
+                (below-gap u (h .to) t (h .passed) next-ahead (λ i a b. sym (h .ahead i a (omega (arith, next-below))) ∙ next-is .2 i b))
                 next-member
                 e;
             small = omega (arith, next-less, h .small);

@@ -4,7 +4,8 @@ use mathlib.Core.Path.{_≡_}
 use mathlib.Core.List.{List}
 use Prim.Native.Nat.{ℕ, _+_, _*_, _/_}
 use lib.ListN.{length, getD}
-use Rattle.games.specs.Format.{maxStates, maxActions, maxObservations, kindAt, headActionsAt, headObservationsAt, headSpareAt, kindTable, kindStart, kindBad, kindShown, kindMove}
+use Rattle.games.specs.Format.{maxStates, maxActions, maxObservations, kindAt, headActionsAt, headObservationsAt, headSpareAt}
+use Rattle.games.specs.Format.{kindTable, kindStart, kindBad, kindShown, kindMove}
 use Rattle.games.specs.Fields.{word}
 use Rattle.games.specs.Places.{shapeOf, tableLength, Limited}
 use Rattle.games.specs.declared.Shape.{Shape}

@@ -1,7 +1,7 @@
 // The words of a station table: checks, what the words say, and its fields.
 ghost use mathlib.Core.Path.{_≡_};
 ghost use Prim.Native.Nat.{_<_, _+_, _≤_};
-ghost use lib.ListN.{length, getD};
+ghost use lib.ListN.{length};
 ghost use Rattle.sets.specs.Bounded.{filledBy};
 ghost use Rattle.games.specs.Format.{maxObservations};
 ghost use Rattle.games.specs.Places.{placeAt, placeOf, tableLength, Within, Limited};

@@ -5,12 +5,12 @@ use Prim.Native.Nat.{_-_}
 use native.Mathlib.Omega.{arith}
 use borrow.Author.Tests.{not-true, not-false}
 use lib.ListN.{length}
-use Rattle.cards.proofs.Checked.{Passed, passed-none, passed-more, stopped, passed-all}
+use Rattle.cards.proofs.Checked.{FitsBelow, fits-none, fits-more, stopped, fits-all}
 use Rattle.cards.proofs.check_words.Statement.{statement}
 use Rattle.cards.proofs.check_words.Tie as tie
 
 abbrev Inv-loop : tie.InvT-loop
-Inv-loop card p₀ p = Passed card p
+Inv-loop card p₀ p = FitsBelow card p
 
 abbrev μ-loop : tie.MeasureT-loop
 μ-loop card p₀ p = length card - p
@@ -21,7 +21,7 @@ check-words-spec =
     (tie.spec
     Inv-loop
     μ-loop
-    (λ c. passed-none _)
+    (λ c. fits-none _)
     (λ c κs. omega arith)
     (λ c.
     let word = c .before in
@@ -32,5 +32,5 @@ check-words-spec =
     (λ c.
     let word = c .before in
     let turn = word .before in
-    passed-more _ _ (turn .before .loop .inv) (turn .loop-test .taken) (sym (word .word-fits .ensures) ∙ not-false (word .word-fits .result) (c .if1 .left)))
-    (λ c. sym (passed-all _ _ (c .before .loop .inv) (c .loop-test .left))))
+    fits-more _ _ (turn .before .loop .inv) (turn .loop-test .taken) (sym (word .word-fits .ensures) ∙ not-false (word .word-fits .result) (c .if1 .left)))
+    (λ c. sym (fits-all _ _ (c .before .loop .inv) (c .loop-test .left))))

@@ -22,7 +22,7 @@ limits c = c .limits-hold .ensures ∙ ap limitsHold (c .before .fields-shape .e
 within : (c : tie.Else1) → limitsHold (fieldsShape (c .before .before .before .args .f)) ≡ true
 within c = sym (limits (c .before)) ∙ not-false _ (c .if1 .left)
 
-moves : (c : tie.Else1) → c .before .before .before .args .f .actions * c .before .before .before .args .f .states ≤ maxMoves
+moves : (c : tie.Else1) → let f = c .before .before .before .args .f in f .actions * f .states ≤ maxMoves
 moves c =
     let l = limits-hold (fieldsShape (c .before .before .before .args .f)) (within c) in
     moves-below _ _ (l .most-actions) (l .most-states)

@@ -1,7 +1,7 @@
 -- `fields::word_at` meets its contract: the sum fits, since the mask is below 2 ^ `maxStates`.
 -- Assumes nothing.
 use mathlib.Core.Path.{_≡_, sym, ap, _∙_}
-use Prim.Native.Nat.{_+_, _≤_}
+use Prim.Native.Nat.{_≤_}
 use native.Mathlib.Omega.{arith}
 use borrow.Author.Needs.{needs}
 use lib.Pow.{pow-mono}
@@ -21,8 +21,10 @@ from-one : (c : tie.Else1) → 1 ≤ c .before .before .args .p
 from-one c = let some = c .if1 .left in omega arith
 
 -- the word of its place
-bare : (c : tie.After-bare-word) → c .bare-word .result ≡ bareWord (placeAt (fieldsShape (c .before .before .before .args .f)) (c .before .before .before .args .p))
-bare c = c .bare-word .ensures ∙ ap (λ (s : Shape). bareWord (placeAt s (c .before .before .before .args .p))) (c .before .before .fields-shape .ensures)
+bare : (c : tie.After-bare-word) → let x = c .before .before .before .args in c .bare-word .result ≡ bareWord (placeAt (fieldsShape (x .f)) (x .p))
+bare c =
+    let shape = c .before .before in
+    c .bare-word .ensures ∙ ap (λ (s : Shape). bareWord (placeAt s (shape .before .args .p))) (shape .fields-shape .ensures)
 
 add-result : tie.Need-add-result
 add-result c =

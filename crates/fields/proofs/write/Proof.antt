@@ -4,9 +4,7 @@ use mathlib.Core.Path.{_≡_, sym, _∙_}
 use mathlib.Core.List.{List}
 use Prim.Native.Nat.{ℕ}
 use borrow.Author.Needs.{needs}
-use lib.ListN.{length}
 use Rattle.games.specs.Answers.{leaves}
-use Rattle.games.specs.Format.{maxObservations, maxMoves}
 use Rattle.games.specs.declared.Written.{Written}
 use Rattle.fields.specs.RoundTrip.{ReadsBack}
 use Rattle.fields.specs.Write.{writeOf}

@@ -1,6 +1,5 @@
 -- `games::card_length` meets its contract: the two numbers are small, so product and sum fit.
 -- Assumes nothing.
-use mathlib.Core.Path.{_≡_}
 use native.Mathlib.Omega.{arith}
 use borrow.Author.Needs.{needs}
 use Rattle.games.proofs.Limits.{parts-below, length-told}

@@ -1,10 +1,8 @@
 -- `games::place_at` meets its contract: one law for each kind of place.
 -- Assumes nothing.
-use mathlib.Core.Path.{_≡_, sym, _∙_}
-use Prim.Native.Nat.{_≤_, _<_}
+use mathlib.Core.Path.{sym}
 use native.Mathlib.Omega.{arith}
 use borrow.Author.Needs.{needs}
-use Rattle.games.specs.Places.{movesPlace}
 use Rattle.games.proofs.Places.{at-start, at-bad, at-shown, at-move}
 use Rattle.games.proofs.place_at.Statement.{statement}
 use Rattle.games.proofs.place_at.Tie as tie
@@ -17,15 +15,18 @@ returns-2 c = let x = c .before .before .args in sym (at-bad (x .s) (x .p) (c .b
 
 returns-3 : tie.Need-returns-3
 returns-3 c =
-    let x = c .before .before .before .before .args in
-    let e = c .before .moves-place .ensures in
-    sym (at-shown (x .s) (x .p) (c .before .before .before .if1 .left) (c .before .before .if2 .left) (omega arith))
+    let from = c .before in
+    let later = from .before in
+    let x = later .before .before .args in
+    let e = from .moves-place .ensures in
+    sym (at-shown (x .s) (x .p) (later .before .if1 .left) (later .if2 .left) (omega arith))
 
 returns-4 : tie.Need-returns-4
 returns-4 c =
-    let from = c .before .before .before .moves-place in
-    let x = c .before .before .before .before .before .before .args in
-    rw (from .ensures) (sym (at-move (x .s) (x .p) (c .before .before .before .before .before .if1 .left) (c .before .before .before .before .if2 .left) (omega arith)))
+    let from = c .before .before .before in
+    let later = from .before in
+    let x = later .before .before .args in
+    rw (from .moves-place .ensures) (sym (at-move (x .s) (x .p) (later .before .if1 .left) (later .if2 .left) (omega arith)))
 
 pub place-at-spec : {M : Type 1} → statement M
 place-at-spec =

@@ -1,6 +1,5 @@
 -- `games::place_of` meets its contract: by the kind of place; the product fits because a head's number of states is small.
 -- Assumes nothing.
-use mathlib.Core.Path.{_≡_}
 use native.Mathlib.Omega.{arith}
 use borrow.Author.Needs.{needs}
 use Rattle.games.proofs.Limits.{product-below}
@@ -10,15 +9,18 @@ use Rattle.games.proofs.place_of.Tie as tie
 
 mul-result : tie.Need-mul-result
 mul-result c =
-    omega (arith, product-below (c .before .before .before .before .x2 .given .0 .0 .0) (c .before .before .before .before .before .before .args .s .states) (omega arith) (omega arith))
+    let moved = c .before .before .before .before in
+    omega (arith, product-below (moved .x2 .given .0 .0 .0) (moved .before .before .args .s .states) (omega arith) (omega arith))
 
 add-result-2 : tie.Need-add-result-2
 add-result-2 c =
-    omega (arith, product-below (c .before .before .before .before .x2 .given .0 .0 .0) (c .before .before .before .before .before .before .args .s .states) (omega arith) (omega arith))
+    let moved = c .before .before .before .before in
+    omega (arith, product-below (moved .x2 .given .0 .0 .0) (moved .before .before .args .s .states) (omega arith) (omega arith))
 
 add-result-3 : tie.Need-add-result-3
 add-result-3 c =
-    omega (arith, product-below (c .before .before .before .before .before .x2 .given .0 .0 .0) (c .before .before .before .before .before .before .before .args .s .states) (omega arith) (omega arith))
+    let moved = c .before .before .before .before .before in
+    omega (arith, product-below (moved .x2 .given .0 .0 .0) (moved .before .before .args .s .states) (omega arith) (omega arith))
 
 returns-3 : tie.Need-returns-3
 returns-3 c =
@@ -27,8 +29,10 @@ returns-3 c =
 
 returns-4 : tie.Need-returns-4
 returns-4 c =
-    let x = c .before .before .before .before .before .before .before .args in
-    move-told (x .s) (x .x) _ _ _ (c .before .before .before .before .before .x2 .given .1) (c .before .before .before .moves-place .ensures)
+    let from = c .before .before .before in
+    let moved = from .before .before in
+    let x = moved .before .before .args in
+    move-told (x .s) (x .x) _ _ _ (moved .x2 .given .1) (from .moves-place .ensures)
 
 pub place-of-spec : {M : Type 1} → statement M
 place-of-spec =

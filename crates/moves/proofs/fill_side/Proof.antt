@@ -1,8 +1,8 @@
 -- `moves::fill_side` meets its contract. The loop's invariant: the halves of the actions below a are filled.
 -- Assumes nothing.
 use borrow.Author.Needs.{needs}
-use mathlib.Core.Path.{_≡_, sym, _∙_, subst}
-use Prim.Native.Nat.{ℕ, _≤_, _<_, _-_}
+use mathlib.Core.Path.{_≡_, sym, _∙_}
+use Prim.Native.Nat.{_≤_, _-_}
 use native.Mathlib.Omega.{arith}
 use Rattle.games.specs.Format.{maxActions}
 use Rattle.games.specs.Words.{game}

@@ -1,7 +1,6 @@
 -- `pairs::check` meets its contract: the table checks, then 13, then 16.
 -- Assumes nothing.
-use mathlib.Core.Bool.{true, false}
-use mathlib.Core.Path.{_≡_, sym, _∙_}
+use mathlib.Core.Path.{sym, _∙_}
 use borrow.Author.Needs.{needs}
 use denote.Ref.{now}
 use Rattle.pairs.proofs.Pairing.{table-stops, card-stops, differ, fine-pair}

@@ -2,7 +2,6 @@
 -- Assumes nothing.
 use borrow.Author.Needs.{needs}
 use Rattle.tables.proofs.Checks.{sized}
-use Rattle.cards.proofs.Checked.{some-word}
 use Rattle.pairs.specs.Pair.{agree}
 use Rattle.pairs.proofs.numbers_agree.Statement.{statement}
 use Rattle.pairs.proofs.numbers_agree.Tie as tie
@@ -12,15 +11,14 @@ unfolding agree
 returns c =
     let number = c .before in
     let actions = number .before in
-    rw (actions .before .action-field .ensures, actions .actions .ensures, number .number-field .ensures, c .observations .ensures)
+    rw (actions .before .actions .ensures, actions .actions2 .ensures, number .observations .ensures, c .observations2 .ensures)
 
 pub numbers-agree-spec : {M : Type 1} → statement M
 numbers-agree-spec =
     tie.close
     (tie.spec
-    (λ c. some-word _ (c .before .before .before .pre .1))
     (λ c κs. search needs)
-    (λ c κs. sized _ (c .before .before .before .before .pre .0))
+    (λ c κs. sized _ (c .before .before .before .pre .0))
     (λ c κs. search needs)
-    (λ c κs. sized _ (c .before .before .before .before .before .before .pre .0))
+    (λ c κs. sized _ (c .before .before .before .before .before .pre .0))
     returns)

@@ -4,7 +4,6 @@ use mathlib.Core.Path.{ap}
 use Prim.Native.Nat.{_-_}
 use native.Mathlib.Omega.{arith}
 use borrow.Author.Needs.{needs}
-use Rattle.cards.proofs.Checked.{some-word}
 use Rattle.text.proofs.Writing.{wrote-length}
 use Rattle.printout.specs.Lines.{firstLine, firstText, frontText}
 use Rattle.printout.proofs.Texts.{Below, below-none, below-more, below-fits, below-all}
@@ -24,15 +23,14 @@ put-front-spec =
     (tie.spec
     Inv-loop
     μ-loop
-    (λ c. some-word _ (c .before .before .before .pre .0))
     (λ c κs. search needs)
     (λ c. below-none _ _)
     (λ c κs. search needs)
     (λ c κs.
     let turn = c .before .before in
     let number = turn .before .before in
-    let asked = number .before .before .before .before .pre in
-    omega (arith, below-fits _ _ _ (asked .0) (number .number-field .ensures) _ (turn .loop-test .taken) (turn .before .loop .inv)))
+    let asked = number .before .before .before .pre in
+    omega (arith, below-fits _ _ _ (asked .0) (number .observations .ensures) _ (turn .loop-test .taken) (turn .before .loop .inv)))
     (λ c. search needs)
     (λ c. search needs)
     (λ c.
@@ -43,4 +41,4 @@ put-front-spec =
     (λ c. wrote-length (c .before .loop .inv .wrote))
     (λ c.
     let number = c .before .before in
-    below-all _ _ _ (number .before .before .before .before .pre .0) (number .number-field .ensures) _ (c .loop-test .left) (c .before .loop .inv)))
+    below-all _ _ _ (number .before .before .before .pre .0) (number .observations .ensures) _ (c .loop-test .left) (c .before .loop .inv)))

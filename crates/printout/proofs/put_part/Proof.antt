@@ -4,7 +4,6 @@ use mathlib.Core.Path.{ap, _∙_}
 use Prim.Native.Nat.{_-_}
 use native.Mathlib.Omega.{arith}
 use borrow.Author.Needs.{needs}
-use Rattle.cards.proofs.Checked.{some-word}
 use Rattle.text.proofs.Writing.{wrote-then, wrote-length}
 use Rattle.printout.specs.Lines.{nextLine, nextText, partText}
 use Rattle.printout.proofs.Texts.{Below, below-none, below-more, below-fits, below-all}
@@ -24,7 +23,6 @@ put-part-spec =
     (tie.spec
     Inv-loop
     μ-loop
-    (λ c. some-word _ (c .before .before .before .pre .0))
     (λ c κs. search needs)
     (λ c κs. search needs)
     (λ c. below-none _ _)
@@ -33,8 +31,8 @@ put-part-spec =
     let turn = c .before .before in
     let own = turn .before .before .before .before in
     let number = own .before .before in
-    let asked = number .before .before .before .before .pre in
-    omega (arith, own .put-own .ensures .1, below-fits _ _ _ (asked .0) (number .number-field .ensures) _ (turn .loop-test .taken) (turn .before .loop .inv)))
+    let asked = number .before .before .before .pre in
+    omega (arith, own .put-own .ensures .1, below-fits _ _ _ (asked .0) (number .observations .ensures) _ (turn .loop-test .taken) (turn .before .loop .inv)))
     (λ c. search needs)
     (λ c. search needs)
     (λ c.
@@ -46,6 +44,6 @@ put-part-spec =
     (λ c.
     let own = c .before .before .before .before in
     let number = own .before .before in
-    let asked = number .before .before .before .before .pre in
-    let nexts = below-all _ _ _ (asked .0) (number .number-field .ensures) _ (c .loop-test .left) (c .before .loop .inv) in
+    let asked = number .before .before .before .pre in
+    let nexts = below-all _ _ _ (asked .0) (number .observations .ensures) _ (c .loop-test .left) (c .before .loop .inv) in
     (wrote-then (own .put-own .ensures .0) (nexts .0), omega (arith, nexts .1, own .put-own .ensures .1))))

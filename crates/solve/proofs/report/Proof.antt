@@ -3,7 +3,6 @@
 use borrow.Author.Needs.{needs}
 use mathlib.Core.Path.{_≡_}
 use Prim.Native.Nat.{ℕ, _≤_}
-use native.Mathlib.Omega.{arith}
 use lib.ListN.{length}
 use Rattle.games.specs.Words.{game, cardLength}
 use Rattle.games.specs.declared.Checked.the-variants.{Fine}

@@ -5,9 +5,9 @@ use mathlib.Core.List.{List}
 use mathlib.Core.Path.{_≡_, sym, ap, _∙_, subst}
 use Prim.Native.Nat.{ℕ, _+_, _≤_, _<_, _-_}
 use native.Mathlib.Omega.{arith}
-use lib.ListN.{length, length-set}
+use lib.ListN.{length-set}
 use Rattle.families.proofs.Lanes.{lane-there}
-use Rattle.games.specs.Format.{lowValues, maxObservations, kindCard, kindFirst}
+use Rattle.games.specs.Format.{lowValues, maxObservations, kindFirst}
 use Rattle.games.specs.Game.{Game}
 use Rattle.games.specs.Verdict.{startSet}
 use Rattle.games.specs.Automaton.{holding}

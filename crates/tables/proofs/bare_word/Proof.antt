@@ -1,6 +1,6 @@
 -- `tables::bare_word` meets its contract: the word of what stands there; its numbers fit, because the table has it.
 -- Assumes nothing.
-use mathlib.Core.Path.{_≡_, sym, ap, _∙_}
+use mathlib.Core.Path.{sym, ap, _∙_}
 use native.Mathlib.Omega.{arith}
 use borrow.Author.Needs.{needs}
 use Rattle.games.specs.Places.{Within}

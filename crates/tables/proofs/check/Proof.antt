@@ -1,6 +1,6 @@
 -- `tables::check` meets its contract: one check after the other.
 -- Assumes nothing.
-use mathlib.Core.Path.{_≡_, sym, _∙_}
+use mathlib.Core.Path.{sym, _∙_}
 use borrow.Author.Needs.{needs}
 use Rattle.tables.proofs.Same.{fields-limited, fields-decide}
 use Rattle.tables.proofs.Checks.{size-sized, size-stops, words-stop}

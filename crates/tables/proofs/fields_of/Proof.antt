@@ -1,6 +1,6 @@
 -- `tables::fields_of` meets its contract: each field is the table's.
 -- Assumes nothing.
-use mathlib.Core.Path.{_≡_, refl, ap}
+use mathlib.Core.Path.{refl}
 use Prim.Native.Nat.{_*_, _≤_}
 use native.Mathlib.Omega.{arith}
 use borrow.Author.Needs.{needs}

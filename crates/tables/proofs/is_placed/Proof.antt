@@ -18,8 +18,10 @@ bare-word-requires c κs =
     rw (c .shape-in .ensures) (start .pre .0 .limits, start .pre .1, omega (arith, start .pre .0 .long))
 
 -- the word of its place
-bare : (c : tie.After-bare-word) → c .bare-word .result ≡ bareWord (placeAt (shapeIn (c .before .before .before .before .args .table .now)) (c .before .before .before .before .args .p))
-bare c = c .bare-word .ensures ∙ ap (λ (s : Shape). bareWord (placeAt s (c .before .before .before .before .args .p))) (c .before .shape-in .ensures)
+bare : (c : tie.After-bare-word) → let x = c .before .before .before .before .args in c .bare-word .result ≡ bareWord (placeAt (shapeIn (x .table .now)) (x .p))
+bare c =
+    let shape = c .before in
+    c .bare-word .ensures ∙ ap (λ (s : Shape). bareWord (placeAt s (shape .before .before .before .args .p))) (shape .shape-in .ensures)
 
 add-result : tie.Need-add-result
 add-result c =

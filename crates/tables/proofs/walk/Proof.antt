@@ -1,6 +1,6 @@
 -- `tables::walk` meets its contract: before each turn the action is enabled at all members so far, u is what it gives them, and `rest` has the other members.
 -- Assumes nothing.
-use mathlib.Core.Path.{_≡_, sym, _∙_}
+use mathlib.Core.Path.{sym, _∙_}
 use Prim.Native.Nat.{_<_, _≤_}
 use native.Mathlib.Omega.{arith}
 use borrow.Author.Needs.{needs}

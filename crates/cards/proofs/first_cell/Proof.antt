@@ -1,11 +1,11 @@
--- `printout::first_cell` meets its contract: the observation's first word lies in the card and names the cell.
+-- The first word of the observation lies in the card and names the cell.
 -- Assumes nothing.
 use mathlib.Core.Path.{sym, _∙_}
 use borrow.Author.Needs.{needs}
 use Rattle.cards.proofs.Checked.{first-in}
 use Rattle.cards.proofs.Running.{begins-of}
-use Rattle.printout.proofs.first_cell.Statement.{statement}
-use Rattle.printout.proofs.first_cell.Tie as tie
+use Rattle.cards.proofs.first_cell.Statement.{statement}
+use Rattle.cards.proofs.first_cell.Tie as tie
 
 pub first-cell-spec : {M : Type 1} → statement M
 first-cell-spec =
