@@ -6,13 +6,14 @@ use mathlib.Core.Bool.{Bool, true, false, not, _&&_, _||_}
 use mathlib.Core.List.{List}
 use Prim.Native.Nat.{ℕ, suc, _+_, _*_, _-_, _%_, _≤_, _<_}
 use native.Mathlib.Nat.{suc-mul, mul-le-mul-right, mul-mod-left, mul-add-mod-self-right, mod-eq-of-lt}
+use native.Mathlib.Numerals.{add-one}
 use native.Mathlib.Omega.{arith}
 use lib.Dec.{eqb, ltb}
 use lib.ListN.{length, getD}
-use borrow.Author.Tests.{eq-eqb, ne-eqb, lt-ltb, le-ltb, eqb-true, ltb-true, not-false}
-use Rattle.sets.specs.Bounded.{Found, nothing, first, atFound}
-use Rattle.sets.proofs.Logic.{and-left, and-right, or-cases, true-not, false-not}
-use Rattle.sets.proofs.Bounded.{first-zero, first-skip, first-stop, first-nothing}
+use borrow.Author.Tests.{eq-eqb, ne-eqb, lt-ltb, le-ltb, eqb-true, ltb-true, ltb-false, not-false}
+use Rattle.sets.specs.Bounded.{Found, first, atFound}
+use Rattle.sets.proofs.Logic.{decided, and-left, and-right, or-cases, true-not, false-not}
+use Rattle.sets.proofs.Bounded.{first-is, first-none, first-nothing}
 use Rattle.games.specs.Format.{within, maxActions, maxObservations, maxSets, maxCells, kindCard, kindFirst, kindCell, kindNext}
 use Rattle.games.specs.Automaton.{noCell}
 use Rattle.games.specs.Fields.{lowField, numberField, actionField, word}
@@ -22,6 +23,7 @@ use Rattle.games.proofs.Answers.{never, cond-passed, found-none}
 use Rattle.games.proofs.Limits.{within-low, within-high}
 use Rattle.cards.specs.Card.{headPlace, firstPlace, cellPlace, nextPlace, cardCells, cardObservations, cardActions, automaton, Fitting}
 use Rattle.cards.specs.Card.{headFits, cellNamed, cellFits, partFits, wordFits, wordsChecked, checked}
+use Rattle.cards.specs.Checking.{Shaped, FitsBelow, names, RightNames}
 
 -- the word at a place, by where the place lies
 pub word-head : (w : List ℕ) (p : ℕ) → p ≡ 0 → wordFits w p ≡ headFits (getD w p 0)
@@ -37,17 +39,6 @@ module _ (w : List ℕ) (p : ℕ) (n : p ≡ 0 → ⊥) where
       → wordFits w p ≡ partFits (cardCells w) (cardActions w) (cardObservations w) (p - frontLength (cardObservations w)) (getD w p 0)
   unfolding wordFits
   word-part l = rw (wordFits, ne-eqb p 0 n, le-ltb p (frontLength (cardObservations w)) l)
-
-  -- the same as the code has it, which read the head's fields before
-  module _ (m o f : ℕ) (e : m ≡ cardCells w) (g : o ≡ cardObservations w) (h : f ≡ frontLength o) where
-    front : f ≡ frontLength (cardObservations w)
-    front = h ∙ ap frontLength g
-
-    pub first-told : {b : Bool} → p < f → b ≡ cellNamed kindFirst m (p - 1) (getD w p 0) → b ≡ wordFits w p
-    first-told l r = r ∙ ap (λ (k : ℕ). cellNamed kindFirst k (p - 1) (getD w p 0)) e ∙ sym (word-first (subst (λ (k : ℕ). p < k) front l))
-
-    pub part-told : (a : ℕ) {b : Bool} → a ≡ cardActions w → f ≤ p → b ≡ partFits m a o (p - f) (getD w p 0) → b ≡ wordFits w p
-    part-told a k l r = r ∙ rw (h, e, k, g) (sym (word-part (subst (λ (i : ℕ). i ≤ p) front l)))
 
 pub named-told : (k m j x low y : ℕ) → low ≡ lowField x → y ≡ word k low j 0 → (eqb x y && (ltb low m || eqb low noCell)) ≡ cellNamed k m j x
 unfolding cellNamed
@@ -74,35 +65,73 @@ module _ (m a o i x : ℕ) where
   unfolding partFits
   part-next n = rw (partFits, ne-eqb (i % partLength o) 0 n)
 
-  -- the same as the code has it, which asked for the length before
-  module _ (l : ℕ) (e : l ≡ partLength o) where
-    pub cell-part-told : i % l ≡ 0 → cellFits a x ≡ partFits m a o i x
-    cell-part-told z = sym (part-cell (subst (λ (k : ℕ). i % k ≡ 0) e z))
+-- ---- the check goes through the words in order
 
-    pub next-part-told : (i % l ≡ 0 → ⊥) → cellNamed kindNext m (i % l - 1) x ≡ partFits m a o i x
-    next-part-told n =
-        ap (λ (k : ℕ). cellNamed kindNext m (i % k - 1) x) e ∙ sym (part-next (λ z. n (subst (λ (k : ℕ). i % k ≡ 0) (sym e) z)))
+module _ (w : List ℕ) where
+  pub stopped : (p : ℕ) → FitsBelow w p → p < length w → wordFits w p ≡ false → wordsChecked w ≡ Refused 13 p
+  unfolding wordsChecked
+  stopped p h l e =
+      ap (λ (f : Found). atFound f (Refused 13) Fine)
+      (first-is (length w) (λ q. not (wordFits w q)) p l (false-not e) (λ q k. true-not (h .right q k)))
 
--- the loop of the check has passed the words below p
-pub record FitsBelow (w : List ℕ) (p : ℕ) : Type 0 where
-  pub within : p ≤ length w
-  pub right : first p (λ q. not (wordFits w q)) ≡ nothing
+  pub fits-all : FitsBelow w (length w) → wordsChecked w ≡ Fine
+  unfolding wordsChecked
+  fits-all h = ap (λ (f : Found). atFound f (Refused 13) Fine) (first-none (length w) (λ q. not (wordFits w q)) (λ q l. true-not (h .right q l)))
 
-pub fits-none : (w : List ℕ) → FitsBelow w 0
-fits-none w = record { within = omega arith; right = first-zero (λ q. not (wordFits w q)) }
+  -- a head that fits
+  pub fits-head : Shaped w → FitsBelow w 1
+  fits-head s =
+      record {
+        within = omega (arith, s .long);
+        right = λ q l. let z : q ≡ 0 = omega arith in word-head w q z ∙ ap (λ (i : ℕ). headFits (getD w i 0)) z ∙ s .head;
+      }
 
-pub fits-more : (w : List ℕ) (p : ℕ) → FitsBelow w p → p < length w → wordFits w p ≡ true → FitsBelow w (p + 1)
-fits-more w p h l e = record { within = omega arith; right = first-skip p (λ q. not (wordFits w q)) (h .right) (true-not e) }
+  -- r words more
+  pub fits-on : (p r : ℕ) → FitsBelow w p → p + r ≤ length w → ((i : ℕ) → i < r → wordFits w (p + i) ≡ true) → FitsBelow w (p + r)
+  fits-on p r h room more =
+      record {
+        within = room;
+        right = λ q l.
+            ⊎-elim (λ b. h .right q (ltb-true q p b))
+            (λ b.
+            let k : p ≤ q = ltb-false q p b in
+            let e : p + (q - p) ≡ q = omega arith in
+            subst (λ (i : ℕ). wordFits w i ≡ true) e (more (q - p) (omega arith)))
+            (decided (ltb q p));
+      }
 
-pub stopped : (w : List ℕ) (p : ℕ) → FitsBelow w p → p < length w → wordFits w p ≡ false → wordsChecked w ≡ Refused 13 p
-unfolding wordsChecked
-stopped w p h l e = ap (λ (f : Found). atFound f (Refused 13) Fine) (first-stop (length w) (λ q. not (wordFits w q)) p l (h .right) (false-not e))
+  -- the words for the observations, from a place on: all right, or the first wrong one stops the check
+  module _ (k at r : ℕ) (same : (j : ℕ) → j < cardObservations w → wordFits w (at + j) ≡ names w k at j) (room : at + cardObservations w ≤ length w)
+      (below : FitsBelow w at) (found : RightNames w k at r) where
+    fits-found : FitsBelow w (at + r)
+    fits-found = fits-on at r below (omega (arith, found .most)) (λ i l. same i (omega (arith, found .most)) ∙ found .right i l)
 
-pub fits-all : (w : List ℕ) (p : ℕ) → FitsBelow w p → length w ≤ p → wordsChecked w ≡ Fine
-unfolding wordsChecked
-fits-all w p h l =
-    let e : p ≡ length w = omega arith in
-    ap (λ (f : Found). atFound f (Refused 13) Fine) (subst (λ (n : ℕ). first n (λ q. not (wordFits w q)) ≡ nothing) e (h .right))
+    pub names-stop : r < cardObservations w → wordsChecked w ≡ Refused 13 (at + r)
+    names-stop l = stopped (at + r) fits-found (omega arith) (same r l ∙ found .wrong l)
+
+    pub names-fit : cardObservations w ≤ r → FitsBelow w (at + cardObservations w)
+    names-fit l = let e : r ≡ cardObservations w = omega (arith, found .most) in subst (λ (i : ℕ). FitsBelow w (at + i)) e fits-found
+
+-- the loop over these words: those below j are right
+pub record NamesBelow (w : List ℕ) (k at j : ℕ) : Type 0 where
+  pub within : j ≤ cardObservations w
+  pub right : (i : ℕ) → i < j → names w k at i ≡ true
+
+module _ (w : List ℕ) (k at : ℕ) where
+  pub names-none : NamesBelow w k at 0
+  names-none = record { within = omega arith; right = λ i l. absurd (omega arith) }
+
+  pub names-more : (j : ℕ) → NamesBelow w k at j → j < cardObservations w → names w k at j ≡ true → NamesBelow w k at (j + 1)
+  names-more j h l e =
+      record {
+        within = omega arith;
+        right = λ i b.
+            ⊎-elim (λ t. h .right i (ltb-true i j t)) (λ f. let g : j ≡ i = omega (arith, ltb-false i j f) in subst (λ (n : ℕ). names w k at n ≡ true) g e)
+            (decided (ltb i j));
+      }
+
+  pub names-end : (j : ℕ) → NamesBelow w k at j → (j < cardObservations w → names w k at j ≡ false) → RightNames w k at j
+  names-end j h e = record { most = h .within; right = h .right; wrong = e }
 
 -- the head, the length, and then the words
 pub no-word : (w : List ℕ) → length w ≡ 0 → checked w ≡ Refused 13 0
@@ -237,6 +266,53 @@ module _ (m o : ℕ) where
 
   pub first-within : (j : ℕ) → j < o → firstPlace j < cardLength m o
   first-within j l = omega arith
+
+-- ---- the check of the first words and of a cell's part, for words that are as many as the head asks for
+module _ (w : List ℕ) (s : Shaped w) where
+  abbrev seen : ℕ
+  seen = cardObservations w
+
+  pub firsts-in : 1 + seen ≤ length w
+  firsts-in = omega (arith, s .long)
+
+  module _ (r : ℕ) (found : RightNames w kindFirst 1 r) where
+    pub firsts-stop : r < seen → wordsChecked w ≡ Refused 13 (1 + r)
+    firsts-stop = names-stop w kindFirst 1 r (word-begins w) firsts-in (fits-head w s) found
+
+    pub firsts-fit : seen ≤ r → FitsBelow w (frontLength seen)
+    firsts-fit = names-fit w kindFirst 1 r (word-begins w) firsts-in (fits-head w s) found
+
+  -- the part of cell c, at place p
+  module _ (c p : ℕ) (l : c < cardCells w) (g : p ≡ cellPlace seen c) where
+    pub part-in : p + partLength seen ≤ length w
+    part-in = let e : cellPlace seen c + seen < cardLength (cardCells w) seen = part-within (cardCells w) seen c seen l (omega arith) in omega (arith, s .long)
+
+    own-fits : wordFits w p ≡ cellFits (cardActions w) (getD w p 0)
+    own-fits = subst (λ (i : ℕ). wordFits w i ≡ cellFits (cardActions w) (getD w i 0)) (sym g) (word-cell w c)
+
+    next-fits : (j : ℕ) → j < seen → wordFits w (p + 1 + j) ≡ names w kindNext (p + 1) j
+    next-fits j k = subst (λ (i : ℕ). wordFits w (i + 1 + j) ≡ cellNamed kindNext (cardCells w) j (getD w (i + 1 + j) 0)) (sym g) (word-next w c j k)
+
+    module _ (below : FitsBelow w (cellPlace seen c)) where
+      here : FitsBelow w p
+      here = subst (FitsBelow w) (sym g) below
+
+      pub own-stop : cellFits (cardActions w) (getD w p 0) ≡ false → wordsChecked w ≡ Refused 13 p
+      own-stop e = stopped w p here (omega (arith, part-in)) (own-fits ∙ e)
+
+      module _ (own : cellFits (cardActions w) (getD w p 0) ≡ true) (r : ℕ) (found : RightNames w kindNext (p + 1) r) where
+        behind-own : FitsBelow w (p + 1)
+        behind-own =
+            fits-on w p 1 here (omega (arith, part-in))
+            (λ i k. let e : p ≡ p + i = omega arith in subst (λ (q : ℕ). wordFits w q ≡ true) e (own-fits ∙ own))
+
+        pub nexts-stop : r < seen → wordsChecked w ≡ Refused 13 (p + 1 + r)
+        nexts-stop = names-stop w kindNext (p + 1) r next-fits (omega (arith, part-in)) behind-own found
+
+        pub nexts-fit : seen ≤ r → FitsBelow w (cellPlace seen (c + 1))
+        nexts-fit k =
+            let e : p + 1 + seen ≡ cellPlace seen (c + 1) = omega (arith, suc-mul c (partLength seen), ap (λ (n : ℕ). n * partLength seen) (add-one c)) in
+            subst (FitsBelow w) e (names-fit w kindNext (p + 1) r next-fits (omega (arith, part-in)) behind-own found k)
 
 -- what right words say
 pub named : (k m j x : ℕ) → cellNamed k m j x ≡ true → (lowField x < m) ⊎ (lowField x ≡ noCell)

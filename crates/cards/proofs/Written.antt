@@ -2,7 +2,7 @@
 -- Assumes nothing.
 use mathlib.Core.Path.{_≡_, refl, sym, ap, subst, _∙_}
 use mathlib.Core.Logic.{_⊎_, ⊎-elim}
-use mathlib.Core.Bool.{true, not, _||_}
+use mathlib.Core.Bool.{true, _||_}
 use mathlib.Core.List.{List, [], _∷_, _++_}
 use Prim.Native.Nat.{ℕ, zero, suc, _+_, _*_, _-_, _/_, _%_, _≤_, _<_}
 use native.Mathlib.Nat.{div-add-mod', mod-lt, div-lt-iff-lt-mul}
@@ -12,7 +12,7 @@ use lib.ListN.{length, getD, length-append, List·getD-append}
 use lib.Seq.{getD-append-add}
 use borrow.Author.Tests.{eq-eqb, lt-ltb, ltb-true, ltb-false}
 use Rattle.sets.specs.Bounded.{gather}
-use Rattle.sets.proofs.Logic.{decided, and-intro, or-left, or-right, true-not}
+use Rattle.sets.proofs.Logic.{decided, and-intro, or-left, or-right}
 use Rattle.games.specs.Format.{within, maxActions, maxObservations, maxSets, maxCells, lowValues, numberValues, actionValues, kindCard, kindFirst, kindCell, kindNext}
 use Rattle.games.specs.Automaton.{Automaton, noCell}
 use Rattle.games.specs.Fields.{lowField, numberField, actionField, word}
@@ -20,7 +20,6 @@ use Rattle.games.specs.Words.{frontLength, partLength, cardLength, cellWords, c
 use Rattle.games.proofs.Limits.{within-limit}
 use Rattle.games.specs.declared.Checked.the-variants.{Fine}
 use Rattle.cards.specs.Card.{headPlace, firstPlace, cellPlace, nextPlace, cardCells, cardObservations, cardActions, automaton, headFits, cellNamed, cellFits, wordFits, checked, Named, Fitting}
-use Rattle.sets.proofs.Bounded.{first-none}
 use Rattle.sets.proofs.Fills.{gather-length, gather-at, length-values, getD-values}
 use Rattle.cards.proofs.Checked.{word-head, word-begins, word-cell, word-next, only-words, fits-all}
 use Rattle.cards.proofs.Running.{size-of, set-of, action-of, begins-of, next-of}
@@ -207,9 +206,7 @@ module _ (A : Automaton) (a o : ℕ) (F : Fitting A a o) where
   written-checked =
       let w = cardWords A a o in
       only-words w (λ e. omega (arith, card-long A a o)) head-word written-long
-      ∙ fits-all w (length w)
-      (record { within = omega arith; right = first-none (length w) (λ p. not (wordFits w p)) (λ p l. true-not (every-word p l)) })
-      (omega arith)
+      ∙ fits-all w (record { within = omega arith; right = every-word })
 
   -- the card means the automaton that it was written of
   pub written-agrees : Agree (automaton (cardWords A a o)) A o

@@ -1,2 +1,3 @@
 pub mod Card
+pub mod Checking
 pub mod Run

@@ -4,11 +4,13 @@ use games::Cell;
 use games::Checked;
 use games::Observation;
 ghost use mathlib.Core.Path.{_≡_};
-ghost use Prim.Native.Nat.{_<_};
+ghost use Prim.Native.Nat.{_+_, _≤_, _<_};
 ghost use lib.ListN.{length};
 ghost use Rattle.games.specs.Format.{lowValues, numberValues, actionValues, kindValues, kindCell};
 ghost use Rattle.games.specs.Fields.{word};
-ghost use Rattle.cards.specs.Card.{headFits, cellNamed, cellFits, partFits, wordFits, wordsChecked, checked};
+ghost use Rattle.games.specs.Words.{frontLength};
+ghost use Rattle.cards.specs.Card.{headFits, cellNamed, cellFits, wordsChecked, checked};
+ghost use Rattle.cards.specs.Checking.{Shaped, FitsBelow, RightNames};
 ghost use Rattle.cards.specs.Card.{automaton, cardCells, cardObservations, cardActions, cellPlace, Named};
 ghost use Rattle.cards.specs.Run.{enters, begun, followed, opened, stepped, standsAfter, starts, advances};
 
@@ -70,56 +72,56 @@ fn cell_fits(a: u32, x: u32) -> bool
     (x == games::word(games::KIND_CELL, low, 0, action)) & (low < games::MAX_SETS) & (action < a)
 }
 
-// The word number i behind the card's front: each cell has a part, its own word and one for each observation.
-fn part_fits(m: u32, a: u32, o: u32, i: usize, x: u32) -> bool
-    requires { ⌜ o < numberValues ⌝ }
-    ensures { λ r. ⌜ r ≡ partFits m a o i x ⌝ }
+// How many of the first or next words (the kind says which) from a place on are right, before one that is wrong.
+fn right_names(card: &[u32], kind: u32, at: usize) -> u32
+    requires { ⌜ Shaped (now card) × (kind < kindValues) × (at + cardObservations (now card) ≤ length (now card)) ⌝ }
+    ensures { λ r. ⌜ RightNames (now (card .entry)) kind at r ⌝ }
 {
-    let part = i % games::part_length(o);
-    if part == 0 {
-        cell_fits(a, x)
-    } else {
-        cell_named(games::KIND_NEXT, m, (part - 1) as u32, x)
+    let m = games::low_field(card[0]);
+    let o = games::number_field(card[0]);
+    let mut j: u32 = 0;
+    while j < o {
+        if !cell_named(kind, m, j, card[at + j as usize]) {
+            return j;
+        }
+        j += 1;
     }
+    j
 }
 
-// The word at place p is right.
-fn word_fits(card: &[u32], p: usize) -> bool
-    requires { ⌜ p < length (now card) ⌝ }
-    ensures { λ r. ⌜ r ≡ wordFits (now (card .entry)) p ⌝ }
-{
-    let head = card[0];
-    let x = card[p];
-    let o = games::number_field(head);
-    let front = games::front_length(o);
-    if p == 0 {
-        return head_fits(x);
-    }
-    if p < front {
-        cell_named(games::KIND_FIRST, games::low_field(head), (p - 1) as u32, x)
-    } else {
-        part_fits(
-            games::low_field(head),
-            games::action_field(head),
-            o,
-            p - front,
-            x,
-        )
-    }
-}
-
-// The lowest wrong word stops the check.
-fn check_words(card: &[u32]) -> Checked
+// The cells' parts, each its own word and its next words: the lowest wrong word stops the check.
+fn check_parts(card: &[u32]) -> Checked
+    requires { ⌜ Shaped (now card) × FitsBelow (now card) (frontLength (cardObservations (now card))) ⌝ }
     ensures { λ r. ⌜ r ≡ wordsChecked (now (card .entry)) ⌝ }
 {
-    let mut p = 0;
-    while p < card.len() {
-        if !word_fits(card, p) {
-            return Checked::Refused(13, p);
+    let m = games::low_field(card[0]);
+    let o = games::number_field(card[0]);
+    let a = games::action_field(card[0]);
+    let mut c: u32 = 0;
+    while c < m {
+        let at = cell_place(o, Cell(c));
+        if !cell_fits(a, card[at]) {
+            return Checked::Refused(13, at);
         }
-        p += 1;
+        let named = right_names(card, games::KIND_NEXT, at + 1);
+        if named < o {
+            return Checked::Refused(13, at + 1 + named as usize);
+        }
+        c += 1;
     }
     Checked::Fine
+}
+
+// The words behind the head: the first words, then the cells' parts.
+fn check_words(card: &[u32]) -> Checked
+    requires { ⌜ Shaped (now card) ⌝ }
+    ensures { λ r. ⌜ r ≡ wordsChecked (now (card .entry)) ⌝ }
+{
+    let named = right_names(card, games::KIND_FIRST, 1);
+    if named < games::number_field(card[0]) {
+        return Checked::Refused(13, 1 + named as usize);
+    }
+    check_parts(card)
 }
 
 // Refusal 13: the head, the length, the words in order.

@@ -38,7 +38,9 @@ check-spec =
     let told = c .before in
     let else = told .before .before .before in
     sym (wrong-length _ (else .before .before .before .if1 .left) (right else) (λ e. c .if3 .taken (e ∙ sym (asked told)))))
-    (λ c κs. search needs)
+    (λ c κs.
+    let told = c .before in
+    record { head = right (told .before .before .before); long = c .if3 .left ∙ asked told })
     (λ c.
     let told = c .before .before in
     let else = told .before .before .before in

@@ -1,0 +1,29 @@
+-- What the functions of a card's check promise each other.
+-- Assumes nothing.
+use mathlib.Core.Path.{_≡_}
+use mathlib.Core.Bool.{Bool, true, false}
+use mathlib.Core.List.{List}
+use Prim.Native.Nat.{ℕ, _+_, _≤_, _<_}
+use lib.ListN.{length, getD}
+use Rattle.games.specs.Words.{cardLength}
+use Rattle.cards.specs.Card.{headPlace, cardCells, cardObservations, headFits, cellNamed, wordFits}
+
+-- the head is right, and the words are as many as it asks for
+pub record Shaped (w : List ℕ) : Type 0 where
+  pub head : headFits (getD w headPlace 0) ≡ true
+  pub long : length w ≡ cardLength (cardCells w) (cardObservations w)
+
+-- the words below place p are right
+pub record FitsBelow (w : List ℕ) (p : ℕ) : Type 0 where
+  pub within : p ≤ length w
+  pub right : (q : ℕ) → q < p → wordFits w q ≡ true
+
+-- the word at place `at` + j is a first or next word (the kind says which) for observation j
+abbrev pub names : List ℕ → (kind at j : ℕ) → Bool
+names w k at j = cellNamed k (cardCells w) j (getD w (at + j) 0)
+
+-- of the words for the observations from a place on, the first r are such, and the next is not, if there is one
+pub record RightNames (w : List ℕ) (kind at r : ℕ) : Type 0 where
+  pub most : r ≤ cardObservations w
+  pub right : (j : ℕ) → j < r → names w kind at j ≡ true
+  pub wrong : r < cardObservations w → names w kind at r ≡ false
