@@ -12,15 +12,15 @@ use lib.ListN.{length, getD, set, length-set, List·getD-eq-default}
 use lib.Seq.{getD-set-same, getD-set-other}
 use lib.Pow.{pow-pos, high, low}
 use borrow.Author.Tests.{eqb-true, eqb-false, ltb-true, ltb-false, not-true}
-use Rattle.sets.specs.Mask.{member, union, subset}
+use Rattle.sets.specs.Mask.{member, subset}
 use Rattle.sets.specs.Bounded.{any}
 use Rattle.sets.specs.Family.{Family, listed, holds}
 use Rattle.sets.proofs.Logic.{decided, refuted, same-truth, and-left, and-right, and-intro, and-false-left, and-false-right, or-cases, or-left, or-right, false-not}
 use Rattle.sets.proofs.Bounded.{any-found, any-intro, any-refuted, any-ext}
-use Rattle.sets.proofs.Mask.{member-zero, member-or, subset-refl, subset-trans, subset-le, subset-lt, subset-witness, subset-antisym, subset-add, add-subset}
+use Rattle.sets.proofs.Mask.{member-zero, subset-refl, subset-trans, subset-le, subset-lt, subset-witness, subset-antisym, subset-add, add-subset}
 use Rattle.sets.proofs.Family.{DownBelow, listed-mem, mem-listed, holds-found, holds-intro}
 use Rattle.games.specs.Format.{maxStates}
-use Rattle.families.specs.Bits.{laneSets, highStates, has, Bits, Closed, Holding, hasWith, largerHas, lowHas, upHas, aboveHas, laneStates}
+use Rattle.families.specs.Bits.{laneSets, highStates, has, Bits, Closed, Holding, hasWith, largerHas, largerOrOwn, lowHas, upHas, aboveHas, laneStates}
 use Rattle.families.proofs.Lanes.{lane-there, has-at, subset-lane}
 
 -- ---- the subsets within the words
@@ -111,11 +111,10 @@ pub spreading-none : (bits : List ℕ) → Spreading bits bits (length bits)
 spreading-none bits = record { within = omega arith; long = refl; kept = λ m l. refl; done = λ m t l b. up-none bits m t l }
 
 -- one turn
-pub spreading-more : (old bits : List ℕ) (lane larger : ℕ) → length old ≤ 2 ^ highStates → Spreading old bits (lane + 1) → ((t : ℕ) → t < laneSets → member larger t ≡ largerHas bits lane t) →
-    Spreading old (set bits lane (union (getD bits lane 0) larger)) lane
-spreading-more old bits lane larger few c f =
-    let own : ℕ = getD bits lane 0 in
-    let word : ℕ = union own larger in record {
+pub spreading-more : (old bits : List ℕ) (lane word : ℕ) → length old ≤ 2 ^ highStates → Spreading old bits (lane + 1)
+    → ((t : ℕ) → member word t ≡ largerOrOwn bits lane true t) → Spreading old (set bits lane word) lane
+spreading-more old bits lane word few c f =
+    record {
       within = omega (arith, c .within);
       long = length-set bits lane word ∙ c .long;
       kept = λ m l. getD-set-other bits lane m word 0 (λ e. omega arith) ∙ c .kept m (omega arith);
@@ -123,7 +122,7 @@ spreading-more old bits lane larger few c f =
           (λ e. let d : m ≡ lane = eqb-true m lane e in
           subst (λ (x : ℕ). member (getD (set bits lane word) x 0) t ≡ upHas old x t) (sym d)
           (ap (λ (x : ℕ). member x t) (getD-set-same bits lane word 0 (omega (arith, c .within, c .long)))
-          ∙ up-here old bits lane word t few (omega (arith, c .within)) (c .kept lane (omega arith)) (λ k a. c .done k t (omega arith) b) (member-or own larger t ∙ ap (λ (x : Bool). member own t || x) (f t b))))
+          ∙ up-here old bits lane word t few (omega (arith, c .within)) (c .kept lane (omega arith)) (λ k a. c .done k t (omega arith) b) (f t)))
           (λ e. ap (λ (x : ℕ). member x t) (getD-set-other bits lane m word 0 (eqb-false m lane e)) ∙ c .done m t (omega (arith, eqb-false m lane e)) b)
           (decided (eqb m lane));
     }

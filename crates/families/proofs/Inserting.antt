@@ -27,13 +27,15 @@ holding-cleared n list entry bits h e =
     let l : length bits ≡ length entry = cleared-length (length entry) bits e in
     (record { states = h .states; masks = h .masks; size = l ∙ h .size }, e ∙ ap (λ (x : ℕ). replicate x 0) (sym l))
 
--- no set is in it
+-- no lane of it has a set
+pub cleared-at : (n : ℕ) (bits : List ℕ) → bits ≡ replicate n 0 → (m : ℕ) → getD bits m 0 ≡ 0
+cleared-at n bits e m =
+    ⊎-elim (λ b. ap (λ (x : List ℕ). getD x m 0) e ∙ getD-replicate n m 0 0 (ltb-true m n b))
+    (λ b. List·getD-eq-default bits 0 (omega (arith, cleared-length n bits e, ltb-false m n b))) (decided (ltb m n))
+
 pub none-inserted : (list bits : List ℕ) → bits ≡ replicate (length bits) 0 → (s : ℕ) → has bits s ≡ listed (take 0 list) s
 none-inserted list bits e s =
-    ap (λ (x : ℕ). member x (s % laneSets))
-    (⊎-elim (λ b. ap (λ (x : List ℕ). getD x (s / laneSets) 0) e ∙ getD-replicate (length bits) (s / laneSets) 0 0 (ltb-true (s / laneSets) (length bits) b))
-    (λ b. List·getD-eq-default bits 0 (ltb-false (s / laneSets) (length bits) b)) (decided (ltb (s / laneSets) (length bits))))
-    ∙ member-zero (s % laneSets) ∙ sym (listed-none list s)
+    ap (λ (x : ℕ). member x (s % laneSets)) (cleared-at (length bits) bits e (s / laneSets)) ∙ member-zero (s % laneSets) ∙ sym (listed-none list s)
 
 -- the mask at i has a lane
 pub mask-lane : (n : ℕ) (list bits : List ℕ) → Holding n list bits → (i : ℕ) → i < length list → getD list i 0 / laneSets < length bits

@@ -1,8 +1,8 @@
 -- Laws of lanes and their words.
 -- Assumes nothing.
-use mathlib.Core.Path.{_≡_, sym, ap, ap₂, _∙_, subst}
+use mathlib.Core.Path.{_≡_, refl, sym, ap, ap₂, _∙_, subst}
 use mathlib.Core.Logic.{⊎-elim}
-use mathlib.Core.Bool.{Bool, true, false, not, _&&_, _||_, and-comm, and-true}
+use mathlib.Core.Bool.{Bool, true, false, not, cond, _&&_, _||_, and-comm, and-true, or-assoc, or-false}
 use mathlib.Core.List.{List}
 use Prim.Native.Nat.{ℕ, _+_, _-_, _*_, _/_, _%_, _^_, _≤_, _<_}
 use native.Mathlib.Nat.{one-mul, mod-eq-of-lt, add-comm, add-assoc}
@@ -10,14 +10,15 @@ use native.Mathlib.Omega.{arith}
 use lib.ListN.{length, getD, set}
 use lib.Seq.{getD-set-same, getD-set-other}
 use lib.Pow.{pow-pos, pow-lt, pow-mono, pow-add, high, low, split}
-use borrow.Author.Tests.{eq-eqb, ne-eqb, not-true}
+use borrow.Author.Tests.{not-true}
 use Rattle.sets.specs.Mask.{member, common, union, subset}
 use Rattle.sets.specs.Bounded.{all, any}
 use Rattle.games.specs.Format.{maxStates}
-use Rattle.families.specs.Bits.{laneStates, laneSets, highStates, lanes, has, hasWith, largerHas, wordWith, coveredBy}
+use Rattle.families.specs.Bits.{laneStates, laneSets, highStates, lanes, has, hasWith, largerHas, withState, largerOrOwn, wordWith, coveredBy}
 use Rattle.sets.proofs.Logic.{decided, clash, same-truth, and-left, and-right, and-intro, or-cases, or-left, or-right, false-not, and-false-left, true-not}
-use Rattle.sets.proofs.Bounded.{all-more, all-at, all-intro, any-zero, any-more, any-found, any-intro}
-use Rattle.sets.proofs.Mask.{member-zero, member-and, member-or, member-shift, member-low, member-rest, subset-intro, subset-member, add-lt, subset-parts}
+use Rattle.sets.proofs.Bounded.{all-more, all-at, all-intro, any-zero, any-more, any-found, any-intro, any-ext}
+use Rattle.sets.proofs.Mask.{member-zero, member-and, member-or, member-shift, member-low, member-rest, member-sub-same, sub-add, union-add, union-least}
+use Rattle.sets.proofs.Mask.{union-subset-left, union-subset-right, subset-refl, subset-antisym, subset-intro, subset-member, add-lt, subset-parts}
 
 -- a 1 shifted by fewer places than the word has
 pub shift-one : (w i : ℕ) → i < w → 1 * 2 ^ i % 2 ^ w ≡ 2 ^ i
@@ -63,17 +64,71 @@ lacks-end h t l =
     (λ e. all-intro laneStates (λ i. member h i || not (member t i))
     (λ i b. ⊎-elim (λ m. or-left (not (member t i)) (subset-member t h e i m)) (λ m. or-right (member h i) (false-not m)) (decided (member t i))))
 
--- ---- the lane with a state more
+-- ---- this lane and those with a state more
 
-module _ (bits : List ℕ) (lane i t : ℕ) where
-  -- this lane has the state
-  pub with-own : lane / 2 ^ i % 2 ≡ 1 → member 0 t ≡ hasWith bits lane i t
-  with-own e = member-zero t ∙ sym (and-false-left (member (getD bits (lane + 2 ^ i) 0) t) (true-not (eq-eqb (lane / 2 ^ i % 2) 1 e)))
+-- a lane that has the state is itself the lane with it
+union-has : (lane i : ℕ) → member lane i ≡ true → union lane (2 ^ i) ≡ lane
+union-has lane i m =
+    subset-antisym (union lane (2 ^ i)) lane
+    (union-least lane (2 ^ i) lane (subset-refl lane)
+    (subst (λ (x : ℕ). subset (2 ^ i) x ≡ true) (union-add (lane - 2 ^ i) i (member-sub-same lane i m) ∙ sub-add lane i m) (union-subset-right (lane - 2 ^ i) (2 ^ i))))
+    (union-subset-left lane (2 ^ i))
 
-  -- it lacks the state
-  pub with-other : (lane / 2 ^ i % 2 ≡ 1 → ⊥) → (word : ℕ) → word ≡ getD bits (lane + 2 ^ i) 0 → member word t ≡ hasWith bits lane i t
-  with-other q word e =
-      ap (λ (x : ℕ). member x t) e ∙ ap (λ (b : Bool). b && member (getD bits (lane + 2 ^ i) 0) t) (sym (false-not (ne-eqb (lane / 2 ^ i % 2) 1 q)))
+-- what is there already adds nothing
+or-own : (a b c : Bool) → c ≡ false → ((a || b) || a) ≡ (a || (b || c))
+or-own true b c e = refl
+or-own false b c e = or-false b ∙ sym (ap (λ (x : Bool). b || x) e ∙ or-false b)
+
+module _ (bits : List ℕ) (lane t : ℕ) where
+  abbrev more : ℕ → Bool
+  more i = hasWith bits lane i t
+
+  -- what is united before turn i
+  abbrev pub unitedBelow : (i : ℕ) (own : Bool) → Bool
+  unitedBelow i own = (own && member (getD bits lane 0) t) || any i (λ i. hasWith bits lane i t)
+
+  -- before the first turn
+  pub united-none : (own : Bool) → member (cond own (getD bits lane 0) 0) t ≡ unitedBelow 0 own
+  united-none true = sym (ap (λ (b : Bool). member (getD bits lane 0) t || b) (any-zero more) ∙ or-false (member (getD bits lane 0) t))
+  united-none false = member-zero t ∙ sym (any-zero more)
+
+  -- one turn, over what was united so far: the lane with the state is this one, or has a state more
+  with-own : (i : ℕ) (b : Bool) → (member (getD bits lane 0) t || b || member (withState bits lane i true) t) ≡ (member (getD bits lane 0) t || (b || more i))
+  with-own i b =
+      let own : Bool = member (getD bits lane 0) t in
+      ⊎-elim
+      (λ m. ap (λ (x : ℕ). (own || b) || member x t) (ap (λ (k : Bool). cond (k && false) 0 (getD bits (union lane (2 ^ i)) 0)) m ∙ ap (λ (x : ℕ). getD bits x 0) (union-has lane i m))
+      ∙ or-own own b (more i) (and-false-left (member (getD bits (lane + 2 ^ i) 0) t) (true-not m)))
+      (λ m. ap (λ (x : ℕ). (own || b) || member x t) (ap (λ (k : Bool). cond (k && false) 0 (getD bits (union lane (2 ^ i)) 0)) m ∙ ap (λ (x : ℕ). getD bits x 0) (union-add lane i m))
+      ∙ ap (λ (x : Bool). (own || b) || x) (sym (ap (λ (x : Bool). x && member (getD bits (lane + 2 ^ i) 0) t) (false-not m))) ∙ or-assoc own b (more i))
+      (decided (member lane i))
+
+  with-others : (i : ℕ) → member (withState bits lane i false) t ≡ more i
+  with-others i =
+      ⊎-elim
+      (λ m. ap (λ (k : Bool). member (cond (k && true) 0 (getD bits (union lane (2 ^ i)) 0)) t) m ∙ member-zero t ∙ sym (and-false-left (member (getD bits (lane + 2 ^ i) 0) t) (true-not m)))
+      (λ m. ap (λ (k : Bool). member (cond (k && true) 0 (getD bits (union lane (2 ^ i)) 0)) t) m ∙ ap (λ (x : ℕ). member (getD bits x 0) t) (union-add lane i m)
+      ∙ sym (ap (λ (x : Bool). x && member (getD bits (lane + 2 ^ i) 0) t) (false-not m)))
+      (decided (member lane i))
+
+  pub united-more : (own : Bool) (i all : ℕ) → member all t ≡ unitedBelow i own → member (union all (withState bits lane i own)) t ≡ unitedBelow (i + 1) own
+  united-more true i all e =
+      member-or all (withState bits lane i true) t ∙ ap (λ (b : Bool). b || member (withState bits lane i true) t) e
+      ∙ with-own i (any i more) ∙ ap (λ (b : Bool). member (getD bits lane 0) t || b) (sym (any-more i more))
+  united-more false i all e =
+      member-or all (withState bits lane i false) t ∙ ap₂ _||_ e (with-others i) ∙ sym (any-more i more)
+
+-- what the lanes with a state more have goes by the lanes behind this one
+pub larger-same : (a b : List ℕ) (lane t : ℕ) → ((m : ℕ) → lane < m → getD a m 0 ≡ getD b m 0) → largerHas a lane t ≡ largerHas b lane t
+larger-same a b lane t h =
+    any-ext highStates (λ i. hasWith a lane i t) (λ i. hasWith b lane i t)
+    (λ i l. ap (λ (x : ℕ). not (member lane i) && member x t) (h (lane + 2 ^ i) (omega (arith, pow-pos i))))
+
+-- an emptied lane adds nothing
+pub emptied : (bits : List ℕ) (lane t : ℕ) → lane < length bits → largerOrOwn (set bits lane 0) lane true t ≡ largerHas bits lane t
+emptied bits lane t l =
+    ap (λ (b : Bool). b || largerHas (set bits lane 0) lane t) (ap (λ (x : ℕ). member x t) (getD-set-same bits lane 0 0 l) ∙ member-zero t)
+    ∙ larger-same (set bits lane 0) bits lane t (λ m k. getD-set-other bits lane m 0 0 (λ e. omega arith))
 
 -- ---- the word shifted by one state
 

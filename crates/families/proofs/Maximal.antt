@@ -1,24 +1,26 @@
 -- The maximal sets of a family, lane by lane.
 -- Assumes nothing.
-use mathlib.Core.Path.{_≡_, sym, ap, _∙_, subst}
+use mathlib.Core.Path.{_≡_, refl, sym, ap, ap₂, _∙_, subst}
 use mathlib.Core.Logic.{⊎-elim}
 use mathlib.Core.Bool.{Bool, true, false, not, _&&_, _||_}
 use mathlib.Core.List.{List}
 use Prim.Native.Nat.{ℕ, _+_, _-_, _*_, _/_, _%_, _^_, _≤_, _<_}
+use native.Mathlib.Nat.{le-refl}
 use native.Mathlib.Omega.{arith}
 use lib.Dec.{ltb}
-use lib.ListN.{length, getD}
+use lib.ListN.{length, getD, set, length-set}
+use lib.Seq.{getD-set-same, getD-set-other, set-set}
 use lib.Pow.{pow-pos}
 use lib.Bits.{or-lt}
 use borrow.Author.Tests.{ltb-true, ltb-false, not-true}
 use Rattle.sets.specs.Mask.{member, common, union}
 use Rattle.sets.specs.Family.{isMaximal, maximal}
-use Rattle.sets.proofs.Logic.{decided, clash, refuted, same-truth, and-left, and-right, and-intro, or-left, or-right, or-false-left, or-false-right, or-false-intro, false-not}
+use Rattle.sets.proofs.Logic.{decided, clash, refuted, same-truth, and-left, and-right, and-intro, and-false-left, or-left, or-right, or-false-left, or-false-right, or-false-intro, false-not}
 use Rattle.sets.proofs.Bounded.{all-intro, select-ext, select-gap}
 use Rattle.sets.proofs.Mask.{member-zero, member-and, member-or, member-rest, subset-add}
 use Rattle.sets.proofs.Family.{isMaximal-in, isMaximal-only, maximal-by-states}
-use Rattle.families.specs.Bits.{laneStates, laneSets, highStates, has, sets, Closed, largerHas, coveredBy}
-use Rattle.families.proofs.Lanes.{lanes-room, by-lane, has-at, state-low, state-high, larger-found, larger-intro, covered-found, covered-intro}
+use Rattle.families.specs.Bits.{laneStates, laneSets, highStates, has, sets, Closed, largerHas, largerOrOwn, coveredBy, Topped}
+use Rattle.families.proofs.Lanes.{lanes-room, by-lane, has-at, state-low, state-high, larger-found, larger-intro, larger-same, emptied, covered-found, covered-intro}
 
 -- the sets of the word that are in neither of two others
 pub neither : (word a b : ℕ) → a < 2 ^ 64 → b < 2 ^ 64 → (t : ℕ) → t < laneSets → member (common word ((2 ^ 64 - 1) - union a b)) t ≡ (member word t && not (member a t || member b t))
@@ -82,17 +84,46 @@ module _ (n : ℕ) (bits : List ℕ) (c : Closed n bits) (lane t : ℕ) (l : t <
       ∙ and-intro h (all-intro n (λ i. member s i || not (has bits (s + 2 ^ i))) (no-more (or-false-right (largerHas bits lane t) (coveredBy word t) f) (or-false-left (largerHas bits lane t) (coveredBy word t) f))))
       (λ m. and-intro (sym (has-at bits lane t l) ∙ isMaximal-in n (has bits) s m) (false-not (or-false-intro (not-larger m) (not-covered m))))
 
-  -- an empty lane has none
-  pub no-top : getD bits lane 0 ≡ 0 → member 0 t ≡ isMaximal n (has bits) (lane * laneSets + t)
-  no-top e =
-      member-zero t
-      ∙ sym (refuted (isMaximal n (has bits) (lane * laneSets + t)) (λ m. clash (isMaximal-in n (has bits) (lane * laneSets + t) m) (has-at bits lane t l ∙ ap (λ (x : ℕ). member x t) e ∙ member-zero t)))
-
 -- ---- all lanes
 
 -- the word has the maximal sets of the lane
 abbrev pub Tops : ℕ → List ℕ → ℕ → ℕ → Type 0
 Tops n bits lane word = (t : ℕ) → t < laneSets → member word t ≡ isMaximal n (has bits) (lane * laneSets + t)
+
+-- where the lanes from this one up are the family's
+pub tops-of : (n : ℕ) (bits found new : List ℕ) (lane : ℕ) → Closed n bits → ((m : ℕ) → lane ≤ m → getD found m 0 ≡ getD bits m 0) → Topped found lane new → Tops n bits lane (getD new lane 0)
+tops-of n bits found new lane c same p t l =
+    p .tops t l
+    ∙ ap₂ (λ (word : ℕ) (larger : Bool). member word t && not (larger || coveredBy word t)) (same lane (le-refl lane)) (larger-same found bits lane t (λ m k. same m (omega arith)))
+    ∙ top-is n bits c lane t l
+
+-- how a lane is topped: it has no set, or it was emptied, and then has those of its sets that neither word has
+pub topped-none : (bits : List ℕ) (lane : ℕ) → getD bits lane 0 ≡ 0 → Topped bits lane bits
+topped-none bits lane e =
+    record {
+      size = refl;
+      tops = λ t l.
+          let none : member (getD bits lane 0) t ≡ false = ap (λ (x : ℕ). member x t) e ∙ member-zero t in
+          none ∙ sym (and-false-left (not (largerHas bits lane t || coveredBy (getD bits lane 0) t)) none);
+      kept = λ m d. refl;
+    }
+
+pub topped-some : (bits : List ℕ) (lane above covered : ℕ) → lane < length bits → above < 2 ^ 64 → covered < 2 ^ 64
+    → ((t : ℕ) → member above t ≡ largerOrOwn (set bits lane 0) lane true t)
+    → ((t : ℕ) → t < laneSets → member covered t ≡ coveredBy (getD bits lane 0) t)
+    → Topped bits lane (set (set bits lane 0) lane (common (getD bits lane 0) ((2 ^ 64 - 1) - union above covered)))
+topped-some bits lane above covered l a b up in-word =
+    let word = getD bits lane 0 in
+    let r = common word ((2 ^ 64 - 1) - union above covered) in
+    subst (Topped bits lane) (sym (set-set bits lane 0 r))
+    (record {
+      size = length-set bits lane r;
+      tops = λ t k.
+          ap (λ (x : ℕ). member x t) (getD-set-same bits lane r 0 l)
+          ∙ neither word above covered a b t k
+          ∙ ap₂ (λ (x y : Bool). member word t && not (x || y)) (up t ∙ emptied bits lane t l) (in-word t k);
+      kept = λ m d. getD-set-other bits lane m r 0 d;
+    })
 
 module _ (n : ℕ) (bits : List ℕ) (c : Closed n bits) where
   -- a maximal set is one of n states

@@ -1,11 +1,11 @@
 -- A family of sets of states as bits, 64 sets to a machine word.
 -- Assumes nothing.
 use mathlib.Core.Path.{_≡_}
-use mathlib.Core.Bool.{Bool, true, not, _&&_}
+use mathlib.Core.Bool.{Bool, true, not, cond, _&&_, _||_}
 use mathlib.Core.List.{List, [], _∷_, List·Memᴰ}
 use Prim.Native.Nat.{ℕ, _+_, _-_, _*_, _/_, _%_, _^_, _≤_, _<_}
 use lib.ListN.{length, getD}
-use Rattle.sets.specs.Mask.{member, subset}
+use Rattle.sets.specs.Mask.{member, union, subset}
 use Rattle.games.specs.Format.{maxStates}
 use Rattle.sets.specs.Bounded.{any, select}
 use Rattle.sets.specs.Family.{Family, DownClosed}
@@ -68,6 +68,14 @@ hasWith bits lane i t = not (member lane i) && member (getD bits (lane + 2 ^ i) 
 abbrev pub largerHas : List ℕ → ℕ → ℕ → Bool
 largerHas bits lane t = any highStates (λ i. hasWith bits lane i t)
 
+-- the word of the lane with the state i: this lane's where it has the state, and then it counts only with `own`
+abbrev pub withState : List ℕ → (lane i : ℕ) (own : Bool) → ℕ
+withState bits lane i own = cond (member lane i && not own) 0 (getD bits (union lane (2 ^ i)) 0)
+
+-- a lane with one state more has t, or, with `own`, this one
+abbrev pub largerOrOwn : List ℕ → (lane : ℕ) (own : Bool) (t : ℕ) → Bool
+largerOrOwn bits lane own t = (own && member (getD bits lane 0) t) || largerHas bits lane t
+
 -- t lacks the state i, and the word has t with it
 abbrev pub wordWith : ℕ → ℕ → ℕ → Bool
 wordWith word i t = not (member t i) && member word (t + 2 ^ i)
@@ -75,6 +83,12 @@ wordWith word i t = not (member t i) && member word (t + 2 ^ i)
 -- the word has t with one state more
 abbrev pub coveredBy : ℕ → ℕ → Bool
 coveredBy word t = any laneStates (λ i. wordWith word i t)
+
+-- the lane has just those of its sets that are in no lane with one state more, and not in the word with one state more; the others are as before
+pub record Topped (old : List ℕ) (lane : ℕ) (new : List ℕ) : Type 0 where
+  pub size : length new ≡ length old
+  pub tops : (t : ℕ) → t < laneSets → member (getD new lane 0) t ≡ (member (getD old lane 0) t && not (largerHas old lane t || coveredBy (getD old lane 0) t))
+  pub kept : (m : ℕ) → (m ≡ lane → ⊥) → getD new m 0 ≡ getD old m 0
 
 -- the word has a set that holds t
 abbrev pub lowHas : ℕ → ℕ → Bool

@@ -1,15 +1,15 @@
 // Families of sets of states as bits, 64 sets to a machine word (lane).
 ghost use mathlib.Core.Path.{_≡_};
-ghost use mathlib.Core.Bool.{not};
+ghost use mathlib.Core.Bool.{cond, not};
 ghost use mathlib.Core.List.{_++_};
 ghost use Prim.Native.Nat.{ℕ, _+_, _*_, _/_, _^_, _≤_, _<_};
 ghost use lib.ListN.{length, getD, take, drop, replicate};
 ghost use Rattle.sets.specs.Mask.{member, subset};
 ghost use Rattle.sets.specs.Bounded.{count as countOf, select};
-ghost use Rattle.sets.specs.Family.{listed, holds, isMaximal, maximal};
+ghost use Rattle.sets.specs.Family.{listed, holds, maximal};
 ghost use Rattle.games.specs.Format.{maxStates};
 ghost use Rattle.families.specs.Bits.{laneStates, laneSets, highStates, maxLanes, lanes, has as isIn, sets, Bits, Closed, Holding, Lane};
-ghost use Rattle.families.specs.Bits.{hasWith, largerHas, wordWith, coveredBy, lowHas, upHas, aboveHas, ByLane, raised};
+ghost use Rattle.families.specs.Bits.{withState, largerOrOwn, wordWith, coveredBy, Topped, lowHas, upHas, aboveHas, ByLane, raised};
 
 // The states below 6 tell the sets of a lane apart.
 const LANE_STATES: u32 = 6;
@@ -81,30 +81,40 @@ pub fn subsets(h: u32) -> u64
     all
 }
 
-// The lane with the state i of the lanes put in; no set where this lane has it or there is no such lane.
-fn with_state(bits: &[u64], lane: usize, i: u32) -> u64
-    requires { ⌜ Lane (now bits) lane × i < highStates ⌝ }
-    ensures { λ r. ⌜ ((t : ℕ) → member r t ≡ hasWith (now (bits .entry)) lane i t) ⌝ }
+// The lane with the state i of the lanes put in; no set where there is no such lane. A lane that has the state is itself that lane,
+// which counts only with `own`.
+fn with_state(bits: &[u64], lane: usize, i: u32, own: bool) -> u64
+    requires { ⌜ i < highStates ⌝ }
+    ensures { λ r. ⌜ r ≡ withState (now (bits .entry)) lane i own ⌝ }
 {
-    if (lane >> i) % 2 == 1 {
+    let has = (lane >> i) % 2 == 1;
+    if has & !own {
         return 0;
     }
-    let with = lane + (1 << i);
+    let with = lane | (1 << i);
     if with < bits.len() {
         return bits[with];
     }
     0
 }
 
-// What the lanes with one state more have, united.
-pub fn larger(bits: &[u64], lane: usize) -> u64
-    requires { ⌜ Lane (now bits) lane ⌝ }
-    ensures { λ r. ⌜ ((t : ℕ) → t < laneSets → member r t ≡ largerHas (now (bits .entry)) lane t) ⌝ }
+// This lane's sets with `own`, none without.
+fn own_word(bits: &[u64], lane: usize, own: bool) -> u64
+    requires { ⌜ lane < length (now bits) ⌝ }
+    ensures { λ r. ⌜ r ≡ cond own (getD (now (bits .entry)) lane 0) 0 ⌝ }
 {
-    let mut all = 0;
+    if own { bits[lane] } else { 0 }
+}
+
+// What the lanes with one state more have, united; with `own` what this lane has too, and then no lane is tested for a state.
+pub fn larger(bits: &[u64], lane: usize, own: bool) -> u64
+    requires { ⌜ Lane (now bits) lane ⌝ }
+    ensures { λ r. ⌜ ((t : ℕ) → member r t ≡ largerOrOwn (now (bits .entry)) lane own t) ⌝ }
+{
+    let mut all = own_word(bits, lane, own);
     let mut i = 0;
     while i < HIGH_STATES {
-        all = all | with_state(bits, lane, i);
+        all = all | with_state(bits, lane, i, own);
         i += 1;
     }
     all
@@ -132,16 +142,16 @@ fn shifted(word: u64, i: u32) -> u64
     (word >> step) & lacking(i)
 }
 
-// The maximal sets of a lane.
-fn tops(bits: &[u64], n: u32, lane: usize) -> u64
-    requires { ⌜ Closed n (now bits) × lane < length (now bits) ⌝ }
-    ensures { λ r. ⌜ ((t : ℕ) → t < laneSets → member r t ≡ isMaximal n (isIn (now (bits .entry))) (lane * laneSets + t)) ⌝ }
+// The lane's maximal sets in place of its sets, as far as the lanes above it tell.
+fn keep_tops(bits: &mut [u64], lane: usize)
+    requires { ⌜ Lane (now bits) lane ⌝ }
+    ensures { λ _. ⌜ Topped (now (bits .entry)) lane (now (bits .exit)) ⌝ }
 {
     let word = bits[lane];
-    if word == 0 {
-        return 0;
+    if word != 0 {
+        bits[lane] = 0; // so that its own sets don't count
+        bits[lane] = word & !(larger(bits, lane, true) | covered(word));
     }
-    word & !(larger(bits, lane) | covered(word))
 }
 
 // Writes the sets of a word from place k on, each with `base` added; the next place.
@@ -161,15 +171,28 @@ fn unpack(word: u64, base: u32, k: usize, out: &mut [u32]) -> usize
     at
 }
 
-// The maximal sets, as bits in `found`.
+// A family's words, copied.
+pub fn copy(from: &[u64], out: &mut [u64])
+    requires { ⌜ length (now from) ≡ length (now out) ⌝ }
+    ensures { λ _. ⌜ now (out .exit) ≡ now (from .entry) ⌝ }
+{
+    let mut i: usize = 0;
+    while i < from.len() {
+        out[i] = from[i];
+        i += 1;
+    }
+}
+
+// The maximal sets, as bits in `found`. The lanes are done from the lowest: those above a lane are then still the family's.
 pub fn maximal_bits(bits: &[u64], n: u32, found: &mut [u64])
     requires { ⌜ Closed n (now bits) × (length (now found) ≡ length (now bits)) ⌝ }
     ensures { λ _. ⌜ (length (now (found .exit)) ≡ length (now (found .entry)))
         × (sets (now (found .exit)) ≡ maximal n (isIn (now (bits .entry)))) ⌝ }
 {
+    copy(bits, found);
     let mut lane = 0;
-    while lane < bits.len() {
-        found[lane] = tops(bits, n, lane);
+    while lane < found.len() {
+        keep_tops(found, lane);
         lane += 1;
     }
 }
@@ -281,7 +304,7 @@ fn spread(bits: &mut [u64])
     let mut lane = bits.len();
     while 0 < lane {
         lane -= 1;
-        bits[lane] = bits[lane] | larger(bits, lane);
+        bits[lane] = larger(bits, lane, true);
     }
 }
 

@@ -129,7 +129,7 @@ fn pass(table: &[u32], low: &[u32], high: &[u32], family: &[u64], next: &mut [u6
     let mut lane = family.len();
     while 0 < lane {
         lane -= 1;
-        let covered = families::larger(next, lane);
+        let covered = families::larger(next, lane, false);
         next[lane] = pass_lane(table, low, high, family, lane as u32, covered);
     }
 }
@@ -190,17 +190,6 @@ fn same(first: &[u64], second: &[u64]) -> bool
     true
 }
 
-fn copy(from: &[u64], out: &mut [u64])
-    requires { ⌜ length (now from) ≡ length (now out) ⌝ }
-    ensures { λ _. ⌜ now (out .exit) ≡ now (from .entry) ⌝ }
-{
-    let mut i: usize = 0;
-    while i < from.len() {
-        out[i] = from[i];
-        i += 1;
-    }
-}
-
 // How the search ends: the families settled at k with the start sets in them, or a start set is not good for k.
 pub enum Ended {
     Settled(u32),
@@ -223,7 +212,7 @@ fn settle(table: &[u32], low: &[u32], high: &[u32], family: &mut [u64], next: &m
         if same(family, next) {
             return Ended::Settled(k);
         }
-        copy(next, family);
+        families::copy(next, family);
         k = round;
     }
 }

@@ -24,12 +24,12 @@ there c = omega (arith, c .before .loop .inv .within, c .before .loop .inv .long
 
 larger-requires : tie.Need-larger-requires Inv-loop μ-loop
 larger-requires c κs =
-    let at = c .before .before .before in
-    record { here = there (c .before .before); few = omega (arith, at .loop .inv .long, at .before .before .pre) }
+    let at = c .before .before in
+    record { here = there (c .before); few = omega (arith, at .loop .inv .long, at .before .before .pre) }
 
 loop-again : tie.Need-loop-again Inv-loop μ-loop
 loop-again c =
-    let at = c .before .before .before .before in
+    let at = c .before .before .before in
     let start = at .before .before in
     let lane : ℕ = at .loop .lane in
     let e : lane ≡ lane - 1 + 1 = omega arith in
@@ -46,11 +46,9 @@ spread-spec =
     μ-loop
     loop-holds
     (λ c. search needs)
-    (λ c. search needs)
-    (λ c. there (c .before))
     larger-requires
     (λ c. search needs)
-    (λ c. there (c .before .before .before))
+    (λ c. there (c .before .before))
     (λ c. search needs)
     loop-again
     (λ c. omega (arith, c .before .loop .inv .long))

@@ -38,7 +38,7 @@ pass-lane-requires : tie.Need-pass-lane-requires Inv-loop μ-loop
 pass-lane-requires c κs =
     let at = c .before .before .before in
     let start = entry at in
-    (start .pre .0, start .pre .1, omega arith, covered-sound (game (start .args .table .now)) (start .args .family .now) (start .pre .1) (at .loop .next) (at .loop .lane) (at .loop .lane - 1) (omega arith) (at .loop .inv .2) (c .larger .result) (omega arith) (c .larger .ensures))
+    (start .pre .0, start .pre .1, omega arith, covered-sound (game (start .args .table .now)) (start .args .family .now) (start .pre .1) (at .loop .next) (at .loop .lane) (at .loop .lane - 1) (omega arith) (at .loop .inv .2) (c .larger .result) (omega arith) (λ t l. c .larger .ensures t))
 
 slice-write-next : tie.Need-slice-write-next Inv-loop μ-loop
 slice-write-next c = let at = c .before .before .before .before in omega (arith, at .loop .inv .2 .size)

@@ -1,4 +1,4 @@
--- `search::copy` meets its contract. The loop's invariant: the first i words are copied.
+-- `families::copy` meets its contract. The loop's invariant: the first i words are copied.
 -- Assumes nothing.
 use borrow.Author.Needs.{needs}
 use mathlib.Core.Path.{_≡_, refl, sym, _∙_}
@@ -6,9 +6,9 @@ use Prim.Native.Nat.{_-_}
 use native.Mathlib.Omega.{arith}
 use lib.ListN.{length, getD}
 use lib.Seq.{ext-getD}
 use Rattle.families.proofs.Mapping.{Mapping, mapping-none, mapping-more}
-use Rattle.search.proofs.copy.Statement.{statement}
-use Rattle.search.proofs.copy.Tie as tie
+use Rattle.families.proofs.copy.Statement.{statement}
+use Rattle.families.proofs.copy.Tie as tie
 
 abbrev Inv-loop : tie.InvT-loop
 Inv-loop from out₀ i₀ out i = Mapping (λ m x. x ≡ getD from m 0) out₀ out i
