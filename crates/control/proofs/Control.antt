@@ -1,15 +1,16 @@
 -- The card that solve wrote with a yes, held by a runner, is never refused on a play of its table under the actions that it gives.
 -- Assumes nothing.
-use mathlib.Core.Path.{_≡_, refl, _∙_, subst}
-use mathlib.Core.List.{List, [], _∷_}
+use mathlib.Core.Path.{_≡_, subst}
+use mathlib.Core.List.{List}
 use Prim.Native.Nat.{ℕ, suc}
 use native.Mathlib.Omega.{arith}
-use lib.ListN.{length, take, length-append}
+use lib.ListN.{take}
 use Rattle.sets.specs.Bounded.{filledBy}
 use Rattle.games.specs.Answers.{leaves}
 use Rattle.games.specs.Game.{Game}
-use Rattle.games.specs.Play.{Play, begin, more, seen, rounds}
+use Rattle.games.specs.Play.{seen}
 use Rattle.games.specs.Words.{game}
+use Rattle.games.proofs.Plays.{rounds-seen}
 use Rattle.cards.specs.Card.{automaton}
 use Rattle.runner.specs.Runs.{ranInto}
 use Rattle.runner.specs.declared.Ran.the-variants.{Done}
@@ -19,12 +20,6 @@ use Rattle.solver.specs.declared.Answer.{Answer}
 use Rattle.solver.specs.declared.Answer.the-variants.{Yes as SaysYes}
 use Rattle.solver.proofs.Promises.{promised}
 use Rattle.control.specs.Control.{action, Controls}
-
--- a play shows an observation in each round
-rounds-seen : (p : Play) → length (seen p) ≡ rounds p
-unfolding seen rounds
-rounds-seen (begin i o) = refl
-rounds-seen (more p a i o) = length-append (seen p) (o ∷ []) ∙ omega (arith, rounds-seen p)
 
 -- a card that is right and enters a cell on every play under it controls the station, whoever drew it
 pub kept-controls : (g : Game) (k : List ℕ) → Kept g k → Controls g k

@@ -2,7 +2,7 @@
 -- that write accepts are an accepted table with these fields.
 -- Assumes nothing.
 use mathlib.Core.Path.{_≡_, refl, sym, ap, ap₂, _∙_, subst}
-use mathlib.Core.Logic.{_⊎_, inl, inr, ⊎-elim}
+use mathlib.Core.Logic.{⊎-elim}
 use mathlib.Core.Bool.{Bool, true, false}
 use mathlib.Core.List.{List, [], _∷_, _++_}
 use Prim.Native.Nat.{ℕ, zero, suc, _+_, _*_, _/_, _%_, _^_, _≤_, _<_}
@@ -14,7 +14,7 @@ use lib.Pow.{pow-mono}
 use lib.ListN.{length, getD, take, drop, replicate, length-replicate}
 use lib.Seq.{ext-getD, take-at}
 use Rattle.sets.specs.Bounded.{gather, filledBy}
-use Rattle.sets.proofs.Logic.{decided, and-intro, and-left, and-right, or-left, or-right, or-cases}
+use Rattle.sets.proofs.Logic.{lt-or-le, and-intro, and-left, and-right, or-left, or-right, or-cases}
 use Rattle.sets.proofs.Bounded.{all-intro, all-at, first-none}
 use Rattle.sets.proofs.Fills.{length-values, getD-values, getD-filled, getD-rest, length-filled}
 use Rattle.games.specs.Answers.{Leaves, leaves}
@@ -44,17 +44,12 @@ use Rattle.fields.specs.RoundTrip.{WritesBack, ReadsBack}
 use Rattle.fields.specs.declared.ReadFields.{ReadFields}
 use Rattle.fields.proofs.Laws.{slots-passed, slots-limited, fields-passed, mask-low, read-fine, masks-fine, narrow-at, slots-fine, sets-end, write-fine, write-refused, word-head, word-place, written-short, written-full}
 
--- ---- cases
-
-below-or : (m n : ℕ) → (m < n) ⊎ (n ≤ m)
-below-or m n = ⊎-elim (λ e. inl (ltb-true m n e)) (λ e. inr (ltb-false m n e)) (decided (ltb m n))
+-- ---- slots
 
 zeros : (n i : ℕ) → _≡_ {A = ℕ} (getD (replicate n 0) i 0) 0
 zeros zero i = refl
 zeros (suc n) zero = refl
 zeros (suc n) (suc i) = zeros n i
-
--- ---- slots
 
 -- an unused slot is 0
 clean : (used : ℕ) (l : List ℕ) → unusedZero used l ≡ true → (j : ℕ) → j < length l → used ≤ j → getD l j 0 ≡ 0
@@ -72,7 +67,7 @@ unused-filled used size v =
     (λ j k.
     ⊎-elim (λ m. or-left (eqb (getD l j 0) 0) (lt-ltb j used m))
     (λ m. or-right (ltb j used) (eq-eqb (getD l j 0) 0 (getD-rest v used (replicate size 0) j m ∙ zeros size j)))
-    (below-or j used))
+    (lt-or-le j used))
 
 -- slots that hold the values, and 0 where they are unused, are those that the values fill
 slots-back : (used size : ℕ) (v : ℕ → ℕ) (l : List ℕ) → length l ≡ size → used ≤ size → unusedZero used l ≡ true → ((j : ℕ) → j < used → v j ≡ getD l j 0) → l ≡ filledBy used v (replicate size 0)
@@ -83,7 +78,7 @@ slots-back used size v l n u e h =
     (λ j k.
     ⊎-elim (λ m. getD-filled v used (replicate size 0) j m ∙ h j m)
     (λ m. getD-rest v used (replicate size 0) j m ∙ zeros size j ∙ sym (clean used l e j (omega (arith, same)) m))
-    (below-or j used)))
+    (lt-or-le j used)))
 
 -- ---- an accepted table, read and written
 

@@ -6,12 +6,14 @@
 use mathlib.Core.Path.{_≡_, refl, sym, _∙_, subst}
 use mathlib.Core.Bool.{true, false}
 use mathlib.Core.List.{List, [], _∷_, _++_}
-use Prim.Native.Nat.{ℕ, suc, _+_, _-_}
+use Prim.Native.Nat.{ℕ, suc, _+_, _-_, _<_}
+use native.Mathlib.Nat.{not-suc-le-zero}
 use native.Mathlib.Omega.{arith}
+use lib.ListN.{length}
 use Rattle.sets.specs.Mask.{member}
 use Rattle.games.specs.Game.{Game, Shows, enabled}
 use Rattle.games.specs.Play.{Strategy, Play, begin, more, last, seen, rounds, PlayOf, Under, Lasts}
-use Rattle.games.proofs.Plays.{lasts-by-last, seen-some}
+use Rattle.games.proofs.Plays.{some-seen, lasts-by-last}
 
 module _ {M : Type 0} (idle : M) (first : ℕ → M) (next : M → ℕ → M) where
   unfoldable pub from : M → List ℕ → M
@@ -28,11 +30,10 @@ module _ {M : Type 0} (idle : M) (first : ℕ → M) (next : M → ℕ → M) wh
   from-more m [] o = refl
   from-more m (x ∷ h) o = from-more (next m x) h o
 
-  pub memory-more : (p : Play) (o : ℕ) → memory (seen p ++ (o ∷ [])) ≡ next (memory (seen p)) o
+  memory-more : (h : List ℕ) (o : ℕ) → 0 < length h → memory (h ++ (o ∷ [])) ≡ next (memory h) o
   unfolding memory
-  memory-more p o =
-      let w = seen-some p in
-      subst (λ (l : List ℕ). memory (l ++ (o ∷ [])) ≡ next (memory l) o) (sym (w .2)) (from-more (first (w .0)) (w .1) o)
+  memory-more [] o l = absurd (not-suc-le-zero l)
+  memory-more (x ∷ h) o l = from-more (first x) h o
 
   module _ (g : Game) (act : M → ℕ) where
     -- each action of the play is the one that the memory gives there
@@ -50,7 +51,7 @@ module _ {M : Type 0} (idle : M) (first : ℕ → M) (next : M → ℕ → M) wh
       holds-on (begin i o) h u j e = subst (λ (n : ℕ). Inv n (first o) i) (omega arith) (begins i o (h .0) (h .1))
       holds-on (more p a i o) h u j e =
           let inv : Inv (suc j) (memory (seen p)) (last p) = holds-on p (h .0) (u .0) (suc j) (omega arith) in
-          subst (λ (m : M). Inv j m i) (sym (memory-more p o))
+          subst (λ (m : M). Inv j m i) (sym (memory-more (seen p) o (some-seen p)))
           (moves j (memory (seen p)) (last p) i o inv (subst (λ (b : ℕ). member (g .successors b (last p)) i ≡ true) (u .1) (h .2)) (h .3))
 
       -- a strategy that picks, on these plays, what the memory gives lasts k rounds

@@ -1,22 +1,32 @@
--- Laws of plays: each round of a play is the last round of a play.
+-- Laws of plays: each round shows an observation, and is the last round of a play.
 -- Assumes nothing.
 use mathlib.Core.Path.{_≡_, refl, sym, ap, _∙_, subst}
-use mathlib.Core.Logic.{_⊎_, ⊎-elim}
+use mathlib.Core.Logic.{⊎-elim}
 use mathlib.Core.Bool.{true, false}
-use mathlib.Core.List.{List, [], _∷_, _++_}
-use Prim.Native.Nat.{ℕ, suc, _+_, _≤_}
+use Prim.Native.Nat.{ℕ, suc, _≤_, _<_}
 use native.Mathlib.Nat.{le-refl, le-trans}
 use native.Mathlib.Omega.{arith}
 use lib.Dec.{leb}
+use lib.ListN.{length, length-append}
 use borrow.Author.Tests.{lt-leb, leb-true, leb-false}
 use Rattle.sets.proofs.Logic.{decided}
 use Rattle.games.specs.Game.{Game}
-use Rattle.games.specs.Play.{Strategy, Play, begin, more, last, seen, rounds, upTo, PlayOf, Under, Survives, Lasts}
+use Rattle.games.specs.Play.{Strategy, Play, begin, more, seen, rounds, upTo, PlayOf, Under, Survives, Lasts}
 
 pub rounds-from-one : (p : Play) → 1 ≤ rounds p
 unfolding rounds
 rounds-from-one (begin i o) = le-refl 1
 rounds-from-one (more p a i o) = omega arith
+
+-- a play shows an observation in each round
+pub rounds-seen : (p : Play) → length (seen p) ≡ rounds p
+unfolding seen rounds
+rounds-seen (begin i o) = refl
+rounds-seen (more p a i o) = length-append (seen p) _ ∙ omega (arith, rounds-seen p)
+
+-- and so at least one
+pub some-seen : (p : Play) → 0 < length (seen p)
+some-seen p = omega (arith, rounds-seen p, rounds-from-one p)
 
 upTo-early : (i : ℕ) (p : Play) (a j o : ℕ) → leb i (rounds p) ≡ true → upTo i (more p a j o) ≡ upTo i p
 unfolding upTo
@@ -71,9 +81,3 @@ module _ (g : Game) (ρ : Strategy g) where
   pub lasts-fewer : (j k : ℕ) → j ≤ k → Lasts g ρ k → Lasts g ρ j
   unfolding Lasts
   lasts-fewer j k l h p played under i f m r = h p played under i f (le-trans m l) r
-
--- every play shows something: its observations are a first one and others
-pub seen-some : (p : Play) → (o : ℕ) × (h : List ℕ) × (seen p ≡ o ∷ h)
-unfolding seen
-seen-some (begin i o) = (o, [], refl)
-seen-some (more p a i o) = let w = seen-some p in (w .0, w .1 ++ (o ∷ []), ap (λ (l : List ℕ). l ++ (o ∷ [])) (w .2))

@@ -58,26 +58,23 @@ tableG = 0x1001_0104 ∷ 0x2000_0001 ∷ 0x3000_0000 ∷ 0x4000_000f ∷ 0x5000_
 abbrev pub tableH : List ℕ
 tableH = 0x1002_0203 ∷ 0x2000_0003 ∷ 0x3000_0004 ∷ 0x4000_0003 ∷ 0x4001_0006 ∷ moves
 
+-- A's card, and C's
+abbrev pub cardA : List ℕ
+cardA = 0x8021_0002 ∷ 0x9000_0000 ∷ 0xa000_0001 ∷ 0xb000_0001 ∷ 0xa010_0002 ∷ 0xb000_0000 ∷ []
+
+abbrev pub cardC : List ℕ
+cardC = 0x8022_0002 ∷ 0x9000_0000 ∷ 0x9001_0001 ∷ 0xa000_0001 ∷ 0xb000_ffff ∷ 0xb001_0001 ∷ 0xa010_0002 ∷ 0xb000_0000 ∷ 0xb001_ffff ∷ []
+
 unfoldable pub stations : List Row
 stations =
     lists A tableA 0 (7 ∷ [])
     ∷ lists A tableA 1 (3 ∷ [])
     ∷ lists A tableA 2 (1 ∷ 2 ∷ [])
     ∷ answers A tableA (Yes 2 2)
-    ∷ writes A tableA (0x8021_0002 ∷ 0x9000_0000 ∷ 0xa000_0001 ∷ 0xb000_0001 ∷ 0xa010_0002 ∷ 0xb000_0000 ∷ [])
+    ∷ writes A tableA cardA
     ∷ answers B tableB (No 2)
     ∷ answers C tableC (Yes 2 2)
-    ∷ writes C tableC
-    (0x8022_0002
-    ∷ 0x9000_0000
-    ∷ 0x9001_0001
-    ∷ 0xa000_0001
-    ∷ 0xb000_ffff
-    ∷ 0xb001_0001
-    ∷ 0xa010_0002
-    ∷ 0xb000_0000
-    ∷ 0xb001_ffff
-    ∷ [])
+    ∷ writes C tableC cardC
     ∷ answers D tableD (No 1)
     ∷ answers E tableE (No 1)
     ∷ answers F tableF (Yes 0 1)

@@ -7,17 +7,13 @@ use lib.ListN.{set}
 use Rattle.sets.specs.Bounded.{any, first}
 use Rattle.games.specs.Places.{placeAt}
 use Rattle.games.specs.Words.{game}
-use Rattle.games.specs.Stations.{tableA, tableC, tableD}
+use Rattle.games.specs.Stations.{tableA, tableC, tableD, cardA}
 use Rattle.games.specs.declared.Checked.{Checked}
 use Rattle.games.specs.declared.Checked.the-variants.{Fine, Refused}
 use Rattle.tables.specs.Layout.{bareWord}
 use Rattle.tables.specs.Check.{limitsHold, headRight, sizeChecked, placed, faulty, wordsChecked as tableWords, unseen, setsChecked, checked as tableChecked}
 use Rattle.cards.specs.Card.{headFits, cellNamed, cellFits, partFits, wordFits, wordsChecked, checked as cardChecked}
 use Rattle.pairs.specs.Pair.{agree, checked}
-
--- A's card
-abbrev pub cardA : List ℕ
-cardA = 0x8021_0002 ∷ 0x9000_0000 ∷ 0xa000_0001 ∷ 0xb000_0001 ∷ 0xa010_0002 ∷ 0xb000_0000 ∷ []
 
 abbrev pub Row : Type 0
 Row = record { table : List ℕ; card : List ℕ; answer : Checked }

@@ -1,17 +1,14 @@
 -- What is printed for stations A, B and C and for an input that is too long (document 01), computed from the definitions.
 -- Assumes nothing.
 use mathlib.Core.Path.{_≡_, refl}
-use mathlib.Core.List.{List, [], _∷_, _++_}
-use Prim.Native.Nat.{ℕ}
+use mathlib.Core.List.{_++_}
 use Rattle.sets.specs.Bounded.{gather}
+use Rattle.games.specs.Stations.{cardA, cardC}
 use Rattle.cards.specs.Card.{automaton}
 use Rattle.text.specs.Text.{bytes}
 use Rattle.text.specs.Decimal.{lastDigits, decimal}
 use Rattle.printout.specs.Lines.{field, cellText, cellField, yesLine, firstLine, cellLine, nextLine, noLine, refusedLine}
 use Rattle.printout.specs.Lines.{frontText, partText, cardText, yesText}
-
-abbrev cardA : List ℕ
-cardA = 0x8021_0002 ∷ 0x9000_0000 ∷ 0xa000_0001 ∷ 0xb000_0001 ∷ 0xa010_0002 ∷ 0xb000_0000 ∷ []
 
 station-a : yesText 2 cardA
     ≡ bytes "yes 2 2\n" ++ bytes "first 0 0\n"
@@ -23,9 +20,6 @@ station-a = refl
 station-b : noLine 2 ≡ bytes "no 2\n"
 unfolding lastDigits decimal field noLine
 station-b = refl
-
-abbrev cardC : List ℕ
-cardC = 0x8022_0002 ∷ 0x9000_0000 ∷ 0x9001_0001 ∷ 0xa000_0001 ∷ 0xb000_ffff ∷ 0xb001_0001 ∷ 0xa010_0002 ∷ 0xb000_0000 ∷ 0xb001_ffff ∷ []
 
 station-c : yesText 2 cardC
     ≡ bytes "yes 2 2\n" ++ bytes "first 0 0\n" ++ bytes "first 1 1\n"

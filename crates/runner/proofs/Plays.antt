@@ -14,6 +14,7 @@ use Rattle.games.specs.Game.{Game}
 use Rattle.games.specs.Play.{Play, begin, more, PlayOf, seen}
 use Rattle.games.specs.Automaton.{Automaton, cellAfter, actionAfter}
 use Rattle.games.specs.Demands.{UnderCard}
+use Rattle.games.proofs.Plays.{some-seen}
 use Rattle.sets.specs.Bounded.{filledBy}
 use Rattle.sets.proofs.Fills.{filled-ext}
 use Rattle.games.specs.Answers.{leaves}
@@ -90,11 +91,6 @@ module _ (w : List ℕ) (c a : List ℕ → ℕ) where
         (filled-ext (λ i. actionOf (moveAt w h i)) (λ i. a (take (suc i) h)) (length h) d (λ i b. ap actionOf (each (suc i) (omega arith) b)))
 
 -- ---- on the plays under the card
-
-some-seen : (p : Play) → 0 < length (seen p)
-unfolding seen
-some-seen (begin i o) = omega arith
-some-seen (more p b i o) = omega (arith, length-append (seen p) (o ∷ []))
 
 -- words w that, on every play under a card, enter the cell that its automaton is in and give its action (`ran`)
 module _ (g : Game) (A : Automaton) (w : List ℕ) (enters : (p : Play) → PlayOf g p → UnderCard A p → Enters w (cellAfter A) (actionAfter A) (seen p)) where

@@ -6,6 +6,7 @@ use Prim.Native.Nat.{ℕ}
 use lib.ListN.{set}
 use Rattle.sets.specs.Bounded.{first, gather}
 use Rattle.games.specs.Answers.{Leaves, leaves}
+use Rattle.games.specs.Stations.{cardA, cardC}
 use Rattle.cards.specs.Card.{automaton, headFits, cellNamed, cellFits, partFits, wordFits, wordsChecked, checked}
 use Rattle.cards.specs.Run.{entered, enters, begun, followed, opened, stepped, moved, ranFrom, ran, asCell, stands}
 use Rattle.cards.specs.declared.Stood.{Stood}
@@ -14,12 +15,6 @@ use Rattle.cards.specs.declared.Move.the-variants.{Refused}
 use Rattle.runner.specs.declared.Ran.{Ran}
 use Rattle.runner.specs.declared.Ran.the-variants.{Done, Refused as Stopped}
 use Rattle.runner.specs.Runs.{standingFrom, standing, ranUpTo, writes, ranInto}
-
-abbrev cardA : List ℕ
-cardA = 0x8021_0002 ∷ 0x9000_0000 ∷ 0xa000_0001 ∷ 0xb000_0001 ∷ 0xa010_0002 ∷ 0xb000_0000 ∷ []
-
-abbrev cardC : List ℕ
-cardC = 0x8022_0002 ∷ 0x9000_0000 ∷ 0x9001_0001 ∷ 0xa000_0001 ∷ 0xb000_ffff ∷ 0xb001_0001 ∷ 0xa010_0002 ∷ 0xb000_0000 ∷ 0xb001_ffff ∷ []
 
 -- a runner in the cell of a number
 abbrev at : ℕ → Move → Stood

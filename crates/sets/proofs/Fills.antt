@@ -7,8 +7,8 @@ use Prim.Native.Nat.{ℕ, zero, suc, _+_, _-_, _*_, _≤_, _<_}
 use native.Mathlib.Nat.{le-refl, le-step, eq-or-lt-of-le, le-of-suc-le-suc, not-suc-le-zero, zero-mul, suc-mul, mul-le-mul-right}
 use native.Mathlib.Numerals.{add-one}
 use native.Mathlib.Omega.{arith}
-use lib.ListN.{length, getD, set, drop, length-append, length-drop, List·getD-append}
-use lib.Seq.{drop-cons, set-at, getD-append-add, getD-drop}
+use lib.ListN.{length, getD, set, take, drop, length-append, length-drop, List·getD-append}
+use lib.Seq.{drop-cons, take-suc-set, set-at, getD-append-add, getD-drop}
 use Rattle.sets.specs.Bounded.{gather, filledBy}
 
 -- ---- pieces of the same length, one behind the other
@@ -58,6 +58,12 @@ module _ (f : ℕ → ℕ) where
   getD-values k i l =
       ap (λ (p : ℕ). getD (gather k (λ i. f i ∷ [])) p 0) (let e : i ≡ i * 1 + 0 = omega arith in e)
       ∙ gather-at k 1 (λ i. f i ∷ []) (λ j m. refl) i 0 l (omega arith)
+
+  -- the front of a list holds k of them; one store more
+  pub values-more : (k : ℕ) (d : List ℕ) (x : ℕ) → k < length d → take k d ≡ gather k (λ i. f i ∷ []) → x ≡ f k
+      → take (k + 1) (set d k x) ≡ gather (k + 1) (λ i. f i ∷ [])
+  unfolding gather
+  values-more k d x l h e = rw add-one (take-suc-set d k x l ∙ ap₂ (λ (t : List ℕ) (y : ℕ). t ++ (y ∷ [])) h e)
 
   pub filled-none : (d : List ℕ) → d ≡ filledBy 0 f d
   unfolding gather

@@ -1,8 +1,11 @@
--- Tests: what `&&`, `||`, `not` and `Bool·beq` say of their parts.
+-- Tests: what `&&`, `||`, `not` and `Bool·beq` say of their parts; and two numbers compared.
 -- Assumes nothing.
 use mathlib.Core.Path.{_≡_, refl, sym, _∙_}
-use mathlib.Core.Logic.{_⊎_, inl, inr}
+use mathlib.Core.Logic.{_⊎_, inl, inr, ⊎-elim}
 use mathlib.Core.Bool.{Bool, true, false, not, _&&_, _||_, Bool·beq, true≢false, false≢true}
+use Prim.Native.Nat.{ℕ, _≤_, _<_}
+use borrow.Author.Tests.{ltb-true, ltb-false}
+use lib.Dec.{ltb}
 
 -- a test holds or fails
 pub decided : (b : Bool) → (b ≡ true) ⊎ (b ≡ false)
@@ -141,3 +144,9 @@ same-beq {a = false} {b = false} e = refl
 -- the test fails: they differ
 pub beq-differ : (a b : Bool) → Bool·beq a b ≡ false → a ≡ b → ⊥
 beq-differ a b e q = clash (same-beq q) e
+
+-- ---- two numbers
+
+-- the first is below the second, or not
+pub lt-or-le : (a b : ℕ) → (a < b) ⊎ (b ≤ a)
+lt-or-le a b = ⊎-elim (λ e. inl (ltb-true a b e)) (λ e. inr (ltb-false a b e)) (decided (ltb a b))

@@ -7,12 +7,11 @@ use lib.ListN.{set}
 use Rattle.sets.specs.Bounded.{any, first}
 use Rattle.games.specs.Places.{placeAt}
 use Rattle.games.specs.Words.{game}
-use Rattle.games.specs.Stations.{tableA, tableC}
+use Rattle.games.specs.Stations.{tableA, tableC, cardA}
 use Rattle.tables.specs.Layout.{bareWord}
 use Rattle.tables.specs.Check.{limitsHold, headRight, sizeChecked, placed, faulty, wordsChecked as tableWords, unseen, setsChecked, checked as tableChecked}
 use Rattle.cards.specs.Card.{automaton, headFits, cellNamed, cellFits, partFits, wordFits, wordsChecked, checked}
 use Rattle.pairs.specs.Pair.{agree, checked as pairChecked}
-use Rattle.pairs.proofs.Rows.{cardA}
 use Rattle.show.specs.Show.{located, found, handed, partOf}
 use Rattle.show.specs.declared.Shown.{Shown}
 use Rattle.show.specs.declared.Shown.the-variants.{Part, Refused}

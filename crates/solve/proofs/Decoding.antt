@@ -1,14 +1,13 @@
 -- Laws of the bytes read and of the card's parts.
 -- Assumes nothing.
-use mathlib.Core.Path.{_≡_, refl, sym, ap, ap₂, _∙_}
-use mathlib.Core.List.{List, [], _∷_, _++_}
+use mathlib.Core.Path.{_≡_, refl}
+use mathlib.Core.List.{List}
 use Prim.Native.Nat.{ℕ, suc, _+_, _*_, _≤_, _<_}
 use native.Mathlib.Nat.{suc-mul, mul-comm, mul-le-mul-right}
-use native.Mathlib.Numerals.{add-one}
 use native.Mathlib.Omega.{arith}
 use lib.ListN.{length, take, set}
-use lib.Seq.{take-suc-set}
 use Rattle.sets.specs.Bounded.{gather}
+use Rattle.sets.proofs.Fills.{values-more}
 use Rattle.games.specs.Format.{maxObservations, maxSets, lowValues, numberValues}
 use Rattle.games.specs.Words.{partLength, cardLength}
 use Rattle.solve.specs.Bytes.{word, wordsOf}
@@ -18,12 +17,8 @@ unfolding wordsOf gather
 words-none b = refl
 
 pub words-more : (i : ℕ) (b d : List ℕ) (x : ℕ) → i < length d → take i d ≡ wordsOf i b → x ≡ word b (4 * i) → take (i + 1) (set d i x) ≡ wordsOf (i + 1) b
-unfolding wordsOf gather
-words-more i b d x l h e =
-    ap (λ (n : ℕ). take n (set d i x)) (add-one i)
-    ∙ take-suc-set d i x l
-    ∙ ap₂ (λ (k : List ℕ) (y : ℕ). k ++ (y ∷ [])) h e
-    ∙ sym (ap (λ (n : ℕ). gather n (λ j. word b (4 * j) ∷ [])) (add-one i))
+unfolding wordsOf
+words-more i b d x l h e = values-more (λ j. word b (4 * j)) i d x l h e
 
 -- a cell's part lies in the card's room
 pub part-inside : (c m o n : ℕ) → c < m → cardLength m o ≤ n → cardLength c o + partLength o ≤ n

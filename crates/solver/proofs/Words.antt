@@ -1,14 +1,14 @@
 -- Laws of the words written: a part that fills, and the card's front.
 -- Assumes nothing.
 use mathlib.Core.Path.{_≡_, refl, sym, ap, ap₂, _∙_}
-use mathlib.Core.List.{List, [], _∷_, _++_}
+use mathlib.Core.List.{List, [], _∷_}
 use Prim.Native.Nat.{ℕ, _+_, _^_, _≤_, _<_}
 use native.Mathlib.Nat.{le-antisymm}
-use native.Mathlib.Numerals.{add-one}
 use native.Mathlib.Omega.{arith}
 use lib.ListN.{length, take, drop, set, length-set, length-drop}
-use lib.Seq.{drop-set-add, take-suc-set, take-all, set-split}
+use lib.Seq.{drop-set-add, take-all, set-split}
 use Rattle.sets.specs.Bounded.{gather}
+use Rattle.sets.proofs.Fills.{values-more}
 use Rattle.games.specs.Format.{kindCard, kindFirst}
 use Rattle.games.specs.Game.{Game}
 use Rattle.games.specs.Verdict.{startSets, startSet, cells}
@@ -31,16 +31,12 @@ module _ (o : ℕ) (f : ℕ → ℕ) where
   filled-none out h = record { size = h; front = refl }
 
   pub filled-more : (j : ℕ) (out : List ℕ) (x : ℕ) → j < o → x ≡ f j → Filled o f j out → Filled o f (j + 1) (set out (1 + j) x)
-  unfolding gather
   filled-more j out x l e w =
       record {
         size = length-set out (1 + j) x ∙ w .size;
         front =
             ap (λ (d : List ℕ). take (j + 1) d) (drop-set-add 1 out j x)
-            ∙ ap (λ (n : ℕ). take n (set (drop 1 out) j x)) (add-one j)
-            ∙ take-suc-set (drop 1 out) j x (omega (arith, length-drop 1 out, w .size))
-            ∙ ap₂ (λ (k : List ℕ) (y : ℕ). k ++ (y ∷ [])) (w .front) e
-            ∙ sym (ap (λ (n : ℕ). gather n (λ i. f i ∷ [])) (add-one j));
+            ∙ values-more f j (drop 1 out) x (omega (arith, length-drop 1 out, w .size)) (w .front) e;
       }
 
   pub filled-end : (j : ℕ) (out : List ℕ) (x : ℕ) → o ≤ j → j ≤ o → Filled o f j out → set out 0 x ≡ x ∷ gather o (λ i. f i ∷ [])

@@ -1,4 +1,4 @@
--- What stands at each place of a table (document 01, "Words"), and how many words it can have.
+-- The word of each place of a table (document 01, "Words"), and how many words it can have.
 -- Assumes nothing.
 use mathlib.Core.Path.{_≡_}
 use mathlib.Core.List.{List}
@@ -28,7 +28,7 @@ headWord s = kindTable * kindAt + s .observations * headObservationsAt + s .acti
 abbrev pub headTop : ℕ
 headTop = kindTable * kindAt / headSpareAt
 
--- a set's word with no state in its mask: its kind, and the reading, or the state and the action, that it is for
+-- a set's word with no state in its mask: its kind, and the observation, or the state and the action, that it is for
 unfoldable pub bareWord : Place → ℕ
 bareWord Start = word kindStart 0 0 0
 bareWord Bad = word kindBad 0 0 0

@@ -11,12 +11,12 @@ use borrow.Author.Tests.{lt-ltb, le-ltb, ltb-true, ltb-false, eq-eqb, ne-eqb, eq
 use lib.Dec.{eqb, ltb}
 use lib.ListN.{length, getD, drop, drop-of-length-le}
 use lib.Seq.{drop-cons}
-use Rattle.sets.proofs.Logic.{decided, same-truth, or-left, or-right, or-false-left, or-false-right, or-false-intro}
+use Rattle.sets.proofs.Logic.{decided, lt-or-le, same-truth, or-left, or-right, or-false-left, or-false-right, or-false-intro}
 use Rattle.text.specs.Decimal.{digitOf, digitAt}
 use Rattle.text.specs.Read.{matched, skipped, number, noNumber, misplaced, furtherDigits, numberOf, readDecimal}
 use Rattle.text.specs.declared.Cursor.{Cursor}
 use Rattle.text.specs.declared.Cursor.the-variants.{At, Wrong}
-use Rattle.text.proofs.Decimals.{lt-or-le, digit-within}
+use Rattle.text.proofs.Decimals.{digit-within}
 
 -- ---- a literal run of bytes: s from its byte i on, at place `next` of the text l
 
