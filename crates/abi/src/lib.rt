@@ -11,7 +11,7 @@ ghost use Rattle.lists.specs.Plain.{OfEither, OfBoth, MaximalOf};
 ghost use Rattle.cards.specs.Run.{opened, stepped};
 ghost use Rattle.runner.specs.Runs.{standing, ranInto};
 ghost use Rattle.show.specs.Show.{found};
-ghost use Rattle.solver.specs.Solve.{rooms, solved, Promise};
+ghost use Rattle.solver.specs.Solve.{buffers, solved, Promise};
 ghost use Rattle.solver.specs.declared.Answer.{Answer};
 ghost use Rattle.abi.specs.Words.{done, no as noWords, refused as refusedWords};
 ghost use Rattle.abi.specs.Words.{solveWords, judgeWords, writtenWords, moveWords, ranWords, showWords};
@@ -115,7 +115,7 @@ pub extern "C" fn kirdanzug_solve(
     card: &mut [u32],
     answer: &mut [u64; 3],
 )
-    ensures determined { λ _. ⌜ leaves (now (answer .exit)) (rooms (now (work .exit)) (now (card .exit)))
+    ensures determined { λ _. ⌜ leaves (now (answer .exit)) (buffers (now (work .exit)) (now (card .exit)))
         ≡ told solveWords (solved (now (table .entry)) (now (work .entry)) (now (card .entry))) ⌝ }
     ensures promised { λ _. ⌜ ((r : Answer) → now (answer .exit) ≡ solveWords r
         → Promise (now (table .entry)) (now (work .entry)) (now (card .entry)) r (now (card .exit))) ⌝ }

@@ -14,10 +14,10 @@ use borrow.Author.Tests.{eq-eqb, ne-eqb, lt-ltb, le-ltb, eqb-true, ltb-true, ltb
 use Rattle.sets.specs.Bounded.{Found, first, atFound}
 use Rattle.sets.proofs.Logic.{decided, and-left, and-right, or-cases, true-not, false-not}
 use Rattle.sets.proofs.Bounded.{first-is, first-none, first-nothing}
-use Rattle.games.specs.Format.{within, maxActions, maxObservations, maxSets, maxCells, kindCard, kindFirst, kindCell, kindNext}
+use Rattle.games.specs.Format.{within, maxActions, maxObservations, maxSets, maxCells, kindFirst, kindCell, kindNext}
 use Rattle.games.specs.Automaton.{noCell}
 use Rattle.games.specs.Fields.{lowField, numberField, actionField, word}
-use Rattle.games.specs.Words.{frontLength, partLength, cardLength}
+use Rattle.games.specs.Words.{frontLength, partLength, cardLength, cardHead}
 use Rattle.games.specs.declared.Checked.the-variants.{Fine, Refused}
 use Rattle.games.proofs.Answers.{never, cond-passed, found-none}
 use Rattle.games.proofs.Limits.{within-low, within-high}
@@ -50,7 +50,7 @@ unfolding cellFits
 cell-told a x low action y e g f = rw (f, e, g)
 
 pub head-told : (x low number action y : ℕ) (p q r : Bool) → low ≡ lowField x → number ≡ numberField x → action ≡ actionField x
-    → y ≡ word kindCard low number action → p ≡ within low maxCells → q ≡ within number maxObservations → r ≡ within action maxActions
+    → y ≡ cardHead low number action → p ≡ within low maxCells → q ≡ within number maxObservations → r ≡ within action maxActions
     → (eqb x y && p && q && r) ≡ headFits x
 unfolding headFits
 head-told x low number action y p q r e h g f i j k = rw (i, j, k, f, e, h, g)
@@ -100,37 +100,37 @@ module _ (w : List ℕ) where
             (decided (ltb q p));
       }
 
-  -- the words for the observations, from a place on: all right, or the first wrong one stops the check
-  module _ (k at r : ℕ) (same : (j : ℕ) → j < cardObservations w → wordFits w (at + j) ≡ names w k at j) (room : at + cardObservations w ≤ length w)
-      (below : FitsBelow w at) (found : RightNames w k at r) where
+  -- n first or next words, from a place on: all right, or the first wrong one stops the check
+  module _ (k at n r : ℕ) (same : (j : ℕ) → j < n → wordFits w (at + j) ≡ names w k at j) (enough : at + n ≤ length w)
+      (below : FitsBelow w at) (found : RightNames w k at n r) where
     fits-found : FitsBelow w (at + r)
     fits-found = fits-on at r below (omega (arith, found .most)) (λ i l. same i (omega (arith, found .most)) ∙ found .right i l)
 
-    pub names-stop : r < cardObservations w → wordsChecked w ≡ Refused 13 (at + r)
+    pub names-stop : r < n → wordsChecked w ≡ Refused 13 (at + r)
     names-stop l = stopped (at + r) fits-found (omega arith) (same r l ∙ found .wrong l)
 
-    pub names-fit : cardObservations w ≤ r → FitsBelow w (at + cardObservations w)
-    names-fit l = let e : r ≡ cardObservations w = omega (arith, found .most) in subst (λ (i : ℕ). FitsBelow w (at + i)) e fits-found
+    pub names-fit : n ≤ r → FitsBelow w (at + n)
+    names-fit l = let e : r ≡ n = omega (arith, found .most) in subst (λ (i : ℕ). FitsBelow w (at + i)) e fits-found
 
 -- the loop over these words: those below j are right
-pub record NamesBelow (w : List ℕ) (k at j : ℕ) : Type 0 where
-  pub within : j ≤ cardObservations w
+pub record NamesBelow (w : List ℕ) (k at n j : ℕ) : Type 0 where
+  pub within : j ≤ n
   pub right : (i : ℕ) → i < j → names w k at i ≡ true
 
-module _ (w : List ℕ) (k at : ℕ) where
-  pub names-none : NamesBelow w k at 0
+module _ (w : List ℕ) (k at n : ℕ) where
+  pub names-none : NamesBelow w k at n 0
   names-none = record { within = omega arith; right = λ i l. absurd (omega arith) }
 
-  pub names-more : (j : ℕ) → NamesBelow w k at j → j < cardObservations w → names w k at j ≡ true → NamesBelow w k at (j + 1)
+  pub names-more : (j : ℕ) → NamesBelow w k at n j → j < n → names w k at j ≡ true → NamesBelow w k at n (j + 1)
   names-more j h l e =
       record {
         within = omega arith;
         right = λ i b.
-            ⊎-elim (λ t. h .right i (ltb-true i j t)) (λ f. let g : j ≡ i = omega (arith, ltb-false i j f) in subst (λ (n : ℕ). names w k at n ≡ true) g e)
+            ⊎-elim (λ t. h .right i (ltb-true i j t)) (λ f. let g : j ≡ i = omega (arith, ltb-false i j f) in subst (λ (m : ℕ). names w k at m ≡ true) g e)
             (decided (ltb i j));
       }
 
-  pub names-end : (j : ℕ) → NamesBelow w k at j → (j < cardObservations w → names w k at j ≡ false) → RightNames w k at j
+  pub names-end : (j : ℕ) → NamesBelow w k at n j → (j < n → names w k at j ≡ false) → RightNames w k at n j
   names-end j h e = record { most = h .within; right = h .right; wrong = e }
 
 -- the head, the length, and then the words
@@ -179,7 +179,7 @@ sound w e =
 
 -- what a head that fits says
 pub record Headed (x : ℕ) : Type 0 where
-  pub shape : x ≡ word kindCard (lowField x) (numberField x) (actionField x)
+  pub shape : x ≡ cardHead (lowField x) (numberField x) (actionField x)
   pub some-cell : 1 ≤ lowField x
   pub cells : lowField x ≤ maxCells
   pub some-observation : 1 ≤ numberField x
@@ -196,7 +196,7 @@ four-and a b c d e =
 pub headed : (x : ℕ) → headFits x ≡ true → Headed x
 unfolding headFits
 headed x e =
-    let made = word kindCard (lowField x) (numberField x) (actionField x) in
+    let made = cardHead (lowField x) (numberField x) (actionField x) in
     let f = four-and (eqb x made) (within (lowField x) maxCells) (within (numberField x) maxObservations) (within (actionField x) maxActions) e in
     record {
       shape = eqb-true x made (f .0);
@@ -275,12 +275,12 @@ module _ (w : List ℕ) (s : Shaped w) where
   pub firsts-in : 1 + seen ≤ length w
   firsts-in = omega (arith, s .long)
 
-  module _ (r : ℕ) (found : RightNames w kindFirst 1 r) where
+  module _ (r : ℕ) (found : RightNames w kindFirst 1 seen r) where
     pub firsts-stop : r < seen → wordsChecked w ≡ Refused 13 (1 + r)
-    firsts-stop = names-stop w kindFirst 1 r (word-begins w) firsts-in (fits-head w s) found
+    firsts-stop = names-stop w kindFirst 1 seen r (word-begins w) firsts-in (fits-head w s) found
 
     pub firsts-fit : seen ≤ r → FitsBelow w (frontLength seen)
-    firsts-fit = names-fit w kindFirst 1 r (word-begins w) firsts-in (fits-head w s) found
+    firsts-fit = names-fit w kindFirst 1 seen r (word-begins w) firsts-in (fits-head w s) found
 
   -- the part of cell c, at place p
   module _ (c p : ℕ) (l : c < cardCells w) (g : p ≡ cellPlace seen c) where
@@ -300,19 +300,19 @@ module _ (w : List ℕ) (s : Shaped w) where
       pub own-stop : cellFits (cardActions w) (getD w p 0) ≡ false → wordsChecked w ≡ Refused 13 p
       own-stop e = stopped w p here (omega (arith, part-in)) (own-fits ∙ e)
 
-      module _ (own : cellFits (cardActions w) (getD w p 0) ≡ true) (r : ℕ) (found : RightNames w kindNext (p + 1) r) where
+      module _ (own : cellFits (cardActions w) (getD w p 0) ≡ true) (r : ℕ) (found : RightNames w kindNext (p + 1) seen r) where
         behind-own : FitsBelow w (p + 1)
         behind-own =
             fits-on w p 1 here (omega (arith, part-in))
             (λ i k. let e : p ≡ p + i = omega arith in subst (λ (q : ℕ). wordFits w q ≡ true) e (own-fits ∙ own))
 
         pub nexts-stop : r < seen → wordsChecked w ≡ Refused 13 (p + 1 + r)
-        nexts-stop = names-stop w kindNext (p + 1) r next-fits (omega (arith, part-in)) behind-own found
+        nexts-stop = names-stop w kindNext (p + 1) seen r next-fits (omega (arith, part-in)) behind-own found
 
         pub nexts-fit : seen ≤ r → FitsBelow w (cellPlace seen (c + 1))
         nexts-fit k =
             let e : p + 1 + seen ≡ cellPlace seen (c + 1) = omega (arith, suc-mul c (partLength seen), ap (λ (n : ℕ). n * partLength seen) (add-one c)) in
-            subst (FitsBelow w) e (names-fit w kindNext (p + 1) r next-fits (omega (arith, part-in)) behind-own found k)
+            subst (FitsBelow w) e (names-fit w kindNext (p + 1) seen r next-fits (omega (arith, part-in)) behind-own found k)
 
 -- what right words say
 pub named : (k m j x : ℕ) → cellNamed k m j x ≡ true → (lowField x < m) ⊎ (lowField x ≡ noCell)

@@ -16,7 +16,7 @@ use Rattle.sets.proofs.Logic.{decided, and-intro, or-left, or-right}
 use Rattle.games.specs.Format.{within, maxActions, maxObservations, maxSets, maxCells, lowValues, numberValues, actionValues, kindCard, kindFirst, kindCell, kindNext}
 use Rattle.games.specs.Automaton.{Automaton, noCell}
 use Rattle.games.specs.Fields.{lowField, numberField, actionField, word}
-use Rattle.games.specs.Words.{frontLength, partLength, cardLength, cellWords, cardWords}
+use Rattle.games.specs.Words.{frontLength, partLength, cardLength, cellWords, cardWords, cardHead}
 use Rattle.games.proofs.Limits.{within-limit}
 use Rattle.games.specs.declared.Checked.the-variants.{Fine}
 use Rattle.cards.specs.Card.{headPlace, firstPlace, cellPlace, nextPlace, cardCells, cardObservations, cardActions, automaton, headFits, cellNamed, cellFits, wordFits, checked, Named, Fitting}
@@ -35,16 +35,16 @@ pub action-of-word : (k x n y : ℕ) → x < lowValues → n < numberValues → 
 action-of-word k x n y a b c = omega arith
 
 -- the words that are written are right
-pub head-right : (m o a : ℕ) → 1 ≤ m → m ≤ maxCells → 1 ≤ o → o ≤ maxObservations → 1 ≤ a → a ≤ maxActions → headFits (word kindCard m o a) ≡ true
+pub head-right : (m o a : ℕ) → 1 ≤ m → m ≤ maxCells → 1 ≤ o → o ≤ maxObservations → 1 ≤ a → a ≤ maxActions → headFits (cardHead m o a) ≡ true
 unfolding headFits
 head-right m o a p q r s t u =
-    let x = word kindCard m o a in
+    let x = cardHead m o a in
     let e : lowField x ≡ m = low-of kindCard m o a (omega arith) (omega arith) (omega arith) in
     let f : numberField x ≡ o = number-of kindCard m o a (omega arith) (omega arith) (omega arith) in
     let g : actionField x ≡ a = action-of-word kindCard m o a (omega arith) (omega arith) (omega arith) in
     and-intro
     (and-intro
-    (and-intro (eq-eqb x (word kindCard (lowField x) (numberField x) (actionField x)) (omega arith)) (within-limit (lowField x) maxCells (omega arith) (omega arith)))
+    (and-intro (eq-eqb x (cardHead (lowField x) (numberField x) (actionField x)) (omega arith)) (within-limit (lowField x) maxCells (omega arith) (omega arith)))
     (within-limit (numberField x) maxObservations (omega arith) (omega arith)))
     (within-limit (actionField x) maxActions (omega arith) (omega arith))
 
@@ -88,7 +88,7 @@ module _ (A : Automaton) (a o : ℕ) where
   unfolding cardWords
   card-long = omega (arith, length-append firsts cellsOf, firsts-length, cells-length)
 
-  pub head-at : getD (cardWords A a o) headPlace 0 ≡ word kindCard (A .size) o a
+  pub head-at : getD (cardWords A a o) headPlace 0 ≡ cardHead (A .size) o a
   unfolding cardWords
   head-at = refl
 

@@ -4,14 +4,14 @@ use mathlib.Core.Path.{_≡_}
 use mathlib.Core.Logic.{_⊎_}
 use mathlib.Core.Bool.{Bool, cond, not, _&&_, _||_}
 use mathlib.Core.List.{List}
-use Prim.Native.Nat.{ℕ, _+_, _*_, _-_, _%_, _≤_, _<_}
+use Prim.Native.Nat.{ℕ, _+_, _-_, _%_, _≤_, _<_}
 use lib.Dec.{eqb, ltb}
 use lib.ListN.{length, getD}
 use Rattle.sets.specs.Bounded.{first, atFound}
 use Rattle.games.specs.Automaton.{Automaton, noCell}
-use Rattle.games.specs.Format.{within, maxActions, maxObservations, maxSets, maxCells, kindCard, kindFirst, kindCell, kindNext}
+use Rattle.games.specs.Format.{within, maxActions, maxObservations, maxSets, maxCells, kindFirst, kindCell, kindNext}
 use Rattle.games.specs.Fields.{lowField, numberField, actionField, word}
-use Rattle.games.specs.Words.{frontLength, partLength, cardLength}
+use Rattle.games.specs.Words.{frontLength, partLength, cardLength, cardHead}
 use Rattle.games.specs.declared.Checked.{Checked}
 use Rattle.games.specs.declared.Checked.the-variants.{Fine, Refused}
 
@@ -23,7 +23,7 @@ abbrev pub firstPlace : ℕ → ℕ
 firstPlace j = 1 + j
 
 abbrev pub cellPlace : (o c : ℕ) → ℕ
-cellPlace o c = frontLength o + c * partLength o
+cellPlace o c = cardLength c o
 
 abbrev pub nextPlace : (o c j : ℕ) → ℕ
 nextPlace o c j = cellPlace o c + 1 + j
@@ -53,7 +53,7 @@ automaton w =
 -- a head: its kind, spare bits 0, its three numbers within the limits
 unfoldable pub headFits : ℕ → Bool
 headFits x =
-    eqb x (word kindCard (lowField x) (numberField x) (actionField x))
+    eqb x (cardHead (lowField x) (numberField x) (actionField x))
     && within (lowField x) maxCells
     && within (numberField x) maxObservations
     && within (actionField x) maxActions

@@ -22,8 +22,8 @@ pub record FitsBelow (w : List ℕ) (p : ℕ) : Type 0 where
 abbrev pub names : List ℕ → (kind at j : ℕ) → Bool
 names w k at j = cellNamed k (cardCells w) j (getD w (at + j) 0)
 
--- of the words for the observations from a place on, the first r are such, and the next is not, if there is one
-pub record RightNames (w : List ℕ) (kind at r : ℕ) : Type 0 where
-  pub most : r ≤ cardObservations w
+-- of so many words from a place on, the first r are such, and the next is not, if there is one
+pub record RightNames (w : List ℕ) (kind at count r : ℕ) : Type 0 where
+  pub most : r ≤ count
   pub right : (j : ℕ) → j < r → names w kind at j ≡ true
-  pub wrong : r < cardObservations w → names w kind at r ≡ false
+  pub wrong : r < count → names w kind at r ≡ false

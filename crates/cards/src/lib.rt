@@ -8,7 +8,7 @@ ghost use Prim.Native.Nat.{_+_, _≤_, _<_};
 ghost use lib.ListN.{length};
 ghost use Rattle.games.specs.Format.{lowValues, numberValues, actionValues, kindValues, kindCell};
 ghost use Rattle.games.specs.Fields.{word};
-ghost use Rattle.games.specs.Words.{frontLength};
+ghost use Rattle.games.specs.Words.{frontLength, cardHead};
 ghost use Rattle.cards.specs.Card.{headFits, cellNamed, cellFits, wordsChecked, checked};
 ghost use Rattle.cards.specs.Checking.{Shaped, FitsBelow, RightNames};
 ghost use Rattle.cards.specs.Card.{automaton, cardCells, cardObservations, cardActions, cellPlace, Named};
@@ -42,13 +42,21 @@ pub fn picking(set: u32, picked: Action) -> u32
     games::word(games::KIND_CELL, set, 0, picked.0)
 }
 
+// A card's head.
+pub fn heading(cells: u32, o: u32, a: u32) -> u32
+    requires { ⌜ (cells < lowValues) × (o < numberValues) × (a < actionValues) ⌝ }
+    ensures { λ r. ⌜ r ≡ cardHead cells o a ⌝ }
+{
+    games::word(games::KIND_CARD, cells, o, a)
+}
+
 fn head_fits(x: u32) -> bool
     ensures { λ r. ⌜ r ≡ headFits x ⌝ }
 {
     let low = games::low_field(x);
     let number = games::number_field(x);
     let action = games::action_field(x);
-    (x == games::word(games::KIND_CARD, low, number, action))
+    (x == heading(low, number, action))
         & games::within(low, games::MAX_CELLS)
         & games::within(number, games::MAX_OBSERVATIONS)
         & games::within(action, games::MAX_ACTIONS)
@@ -72,15 +80,14 @@ fn cell_fits(a: u32, x: u32) -> bool
     (x == games::word(games::KIND_CELL, low, 0, action)) & (low < games::MAX_SETS) & (action < a)
 }
 
-// How many of the first or next words (the kind says which) from a place on are right, before one that is wrong.
-fn right_names(card: &[u32], kind: u32, at: usize) -> u32
-    requires { ⌜ Shaped (now card) × (kind < kindValues) × (at + cardObservations (now card) ≤ length (now card)) ⌝ }
-    ensures { λ r. ⌜ RightNames (now (card .entry)) kind at r ⌝ }
+// How many of so many first or next words (the kind says which) from a place on are right, before one that is wrong.
+fn right_names(card: &[u32], kind: u32, at: usize, count: u32) -> u32
+    requires { ⌜ Shaped (now card) × (kind < kindValues) × (count ≤ numberValues) × (at + count ≤ length (now card)) ⌝ }
+    ensures { λ r. ⌜ RightNames (now (card .entry)) kind at count r ⌝ }
 {
     let m = games::low_field(card[0]);
-    let o = games::number_field(card[0]);
     let mut j: u32 = 0;
-    while j < o {
+    while j < count {
         if !cell_named(kind, m, j, card[at + j as usize]) {
             return j;
         }
@@ -103,7 +110,7 @@ fn check_parts(card: &[u32]) -> Checked
         if !cell_fits(a, card[at]) {
             return Checked::Refused(13, at);
         }
-        let named = right_names(card, games::KIND_NEXT, at + 1);
+        let named = right_names(card, games::KIND_NEXT, at + 1, o);
         if named < o {
             return Checked::Refused(13, at + 1 + named as usize);
         }
@@ -117,8 +124,9 @@ fn check_words(card: &[u32]) -> Checked
     requires { ⌜ Shaped (now card) ⌝ }
     ensures { λ r. ⌜ r ≡ wordsChecked (now (card .entry)) ⌝ }
 {
-    let named = right_names(card, games::KIND_FIRST, 1);
-    if named < games::number_field(card[0]) {
+    let o = games::number_field(card[0]);
+    let named = right_names(card, games::KIND_FIRST, 1, o);
+    if named < o {
         return Checked::Refused(13, 1 + named as usize);
     }
     check_parts(card)

@@ -15,7 +15,7 @@ use Rattle.cards.specs.Card.{automaton}
 use Rattle.runner.specs.Runs.{ranInto}
 use Rattle.runner.specs.declared.Ran.the-variants.{Done}
 use Rattle.runner.proofs.Plays.{runner-goes, run-goes}
-use Rattle.solver.specs.Solve.{rooms, solved, written, Kept, Promise}
+use Rattle.solver.specs.Solve.{buffers, solved, written, Kept, Promise}
 use Rattle.solver.specs.declared.Answer.{Answer}
 use Rattle.solver.specs.declared.Answer.the-variants.{Yes as SaysYes}
 use Rattle.solver.proofs.Promises.{promised}
@@ -38,5 +38,5 @@ module _ (w work d : List ℕ) (r : Answer) (e : List ℕ) (t m : ℕ) (yes : r 
   promise-controls P = kept-controls (game w) (written w m e) (P .yes-card t m yes)
 
   -- and on what it does
-  pub solved-controls : (left : List ℕ) → leaves r (rooms left e) ≡ solved w work d → Controls (game w) (written w m e)
+  pub solved-controls : (left : List ℕ) → leaves r (buffers left e) ≡ solved w work d → Controls (game w) (written w m e)
   solved-controls left is = promise-controls (promised w work d r e left is)

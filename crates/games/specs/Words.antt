@@ -40,9 +40,13 @@ partLength o = 1 + o
 abbrev pub cardLength : (cells observations : ℕ) → ℕ
 cardLength m o = frontLength o + m * partLength o
 
+-- the head of a card
+abbrev pub cardHead : (cells observations actions : ℕ) → ℕ
+cardHead m o a = word kindCard m o a
+
 -- the words of a card for a actions and o observations: head; first cells; for each cell its set and action, and its next cells
 unfoldable pub cellWords : Automaton → ℕ → ℕ → List ℕ
 cellWords A o c = word kindCell (A .set c) 0 (A .action c) ∷ gather o (λ j. word kindNext (A .next c j) j 0 ∷ [])
 
 unfoldable pub cardWords : Automaton → (actions observations : ℕ) → List ℕ
-cardWords A a o = word kindCard (A .size) o a ∷ gather o (λ j. word kindFirst (A .begins j) j 0 ∷ []) ++ gather (A .size) (cellWords A o)
+cardWords A a o = cardHead (A .size) o a ∷ gather o (λ j. word kindFirst (A .begins j) j 0 ∷ []) ++ gather (A .size) (cellWords A o)

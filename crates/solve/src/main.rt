@@ -115,7 +115,7 @@ fn print_card(card: &[u32], m: u32, o: u32)
     let part = games::part_length(o);
     let mut c: u32 = 0;
     while c < m {
-        let at = games::card_length(c, o);
+        let at = cards::cell_place(o, Cell(c));
         print_part(Cell(c), &card[at..at + part]);
         c += 1;
     }
@@ -155,27 +155,27 @@ fn report(table: &[u32], work: &mut [u32], card: &mut [u32])
 }
 
 // Room for the words of the longest input.
-fn words_room() -> [u32; 1024]
+fn input_words() -> [u32; 1024]
     ensures { λ r. ⌜ 1024 ≡ length r ⌝ }
 {
     [0; 1024]
 }
 
 // Work for the most states; document 01 gives the card as many words.
-const ROOM: usize = 4 * games::MAX_SETS as usize;
+const BUFFER_WORDS: usize = 4 * games::MAX_SETS as usize;
 
-fn room() -> [u32; ROOM]
+fn buffer() -> [u32; BUFFER_WORDS]
     ensures { λ r. ⌜ 4 * maxSets ≡ length r ⌝ }
 {
-    [0; ROOM]
+    [0; BUFFER_WORDS]
 }
 
 fn run(bytes: &[u8])
     requires { ⌜ length (now bytes) ≤ 4096 ⌝ }
 {
-    let mut words = words_room();
-    let mut work = room();
-    let mut card = room();
+    let mut words = input_words();
+    let mut work = buffer();
+    let mut card = buffer();
     let n = bytes.len() / 4;
     let whole = 4 * n;
     decode(&bytes[..whole], &mut words[..n]);

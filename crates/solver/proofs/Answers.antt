@@ -20,7 +20,7 @@ use Rattle.games.specs.declared.Checked.{Checked}
 use Rattle.games.specs.declared.Checked.the-variants.{Fine, Refused as Stopped}
 use Rattle.games.proofs.Decided.{verdict-yes}
 use Rattle.tables.specs.Check.{checked}
-use Rattle.solver.specs.Solve.{workWords, cardOf, byVerdict, Rooms, rooms, searched, solved, WorkRoom}
+use Rattle.solver.specs.Solve.{workWords, cardOf, byVerdict, Buffers, buffers, searched, solved, WorkEnough}
 use Rattle.solver.specs.declared.Answer.{Answer}
 use Rattle.solver.specs.declared.Answer.the-variants.{Yes as SaysYes, No as SaysNo, Refused}
 
@@ -50,7 +50,7 @@ module _ (g : Game) (d : List ℕ) where
   decided-yes k m s h l x e = e ∙ ap (byVerdict g d) (ap₂ Yes (sym s) l ∙ sym (verdict-yes g h))
 
 module _ (w work d : List ℕ) where
-  pub solved-stopped : (n p : ℕ) → checked w ≡ Stopped n p → leaves (Refused n p) (rooms work d) ≡ solved w work d
+  pub solved-stopped : (n p : ℕ) → checked w ≡ Stopped n p → leaves (Refused n p) (buffers work d) ≡ solved w work d
   unfolding solved
   solved-stopped n p e = sym (rw e)
 
@@ -59,18 +59,18 @@ module _ (w work d : List ℕ) where
     unfolding solved
     fine-is = rw fine
 
-    pub solved-short : length work < need → leaves (Refused 8 need) (rooms work d) ≡ solved w work d
+    pub solved-short : length work < need → leaves (Refused 8 need) (buffers work d) ≡ solved w work d
     unfolding searched
     solved-short h =
         let n = workWords (game w .states) in
-        ap (λ (k : ℕ). leaves (Refused 8 k) (rooms work d)) is
+        ap (λ (k : ℕ). leaves (Refused 8 k) (buffers work d)) is
         ∙ sym (fine-is ∙ rw (lt-ltb (length work) n (subst (λ (k : ℕ). length work < k) is h)))
 
-    pub solved-done : need ≤ length work → (r : Answer) (left e : List ℕ) → leaves r e ≡ byVerdict (game w) d (verdict (game w)) → left ≡ fill need 0 work → leaves r (rooms left e) ≡ solved w work d
+    pub solved-done : need ≤ length work → (r : Answer) (left e : List ℕ) → leaves r e ≡ byVerdict (game w) d (verdict (game w)) → left ≡ fill need 0 work → leaves r (buffers left e) ≡ solved w work d
     unfolding searched
     solved-done h r left e by cleared =
         let n = workWords (game w .states) in
-        ap₂ (λ (x : Leaves Answer (List ℕ)) (y : List ℕ). leaves (x .answer) (rooms y (x .left))) by (cleared ∙ ap (λ (k : ℕ). fill k 0 work) is)
+        ap₂ (λ (x : Leaves Answer (List ℕ)) (y : List ℕ). leaves (x .answer) (buffers y (x .left))) by (cleared ∙ ap (λ (k : ℕ). fill k 0 work) is)
         ∙ sym (fine-is ∙ rw (le-ltb (length work) n (subst (λ (k : ℕ). k ≤ length work) is h)))
 
 -- the zeroed front does not depend on what the search left there
@@ -83,12 +83,12 @@ cleared need x work e h b is =
 pub data Ending (w work d : List ℕ) (r : Answer) (e : List ℕ) : Type 0 where
   stopped : {n p : ℕ} → checked w ≡ Stopped n p → r ≡ Refused n p → Ending w work d r e
   no-work : checked w ≡ Fine → length work < workWords (game w .states) → r ≡ Refused 8 (workWords (game w .states)) → Ending w work d r e
-  lost : {k : ℕ} → WorkRoom w work → verdict (game w) ≡ No k → r ≡ SaysNo k → Ending w work d r e
-  no-card : {t m : ℕ} → WorkRoom w work → verdict (game w) ≡ Yes t m → length d < cardLength m (game w .observations) → r ≡ Refused 9 (cardLength m (game w .observations)) → Ending w work d r e
-  granted : {t m : ℕ} → WorkRoom w work → verdict (game w) ≡ Yes t m → cardLength m (game w .observations) ≤ length d → r ≡ SaysYes t m → e ≡ cardOf (game w) ++ drop (cardLength m (game w .observations)) d → Ending w work d r e
+  lost : {k : ℕ} → WorkEnough w work → verdict (game w) ≡ No k → r ≡ SaysNo k → Ending w work d r e
+  no-card : {t m : ℕ} → WorkEnough w work → verdict (game w) ≡ Yes t m → length d < cardLength m (game w .observations) → r ≡ Refused 9 (cardLength m (game w .observations)) → Ending w work d r e
+  granted : {t m : ℕ} → WorkEnough w work → verdict (game w) ≡ Yes t m → cardLength m (game w .observations) ≤ length d → r ≡ SaysYes t m → e ≡ cardOf (game w) ++ drop (cardLength m (game w .observations)) d → Ending w work d r e
 
 module _ (w work d : List ℕ) (r : Answer) (e : List ℕ) where
-  by-verdict : (v : Verdict) → verdict (game w) ≡ v → WorkRoom w work → leaves r e ≡ byVerdict (game w) d v → Ending w work d r e
+  by-verdict : (v : Verdict) → verdict (game w) ≡ v → WorkEnough w work → leaves r e ≡ byVerdict (game w) d v → Ending w work d r e
   unfolding byVerdict
   by-verdict (No k) v room is = lost room v (ap (λ (x : Leaves Answer (List ℕ)). x .answer) is)
   by-verdict (Yes t m) v room is =
@@ -100,21 +100,21 @@ module _ (w work d : List ℕ) (r : Answer) (e : List ℕ) where
       granted room v (ltb-false (length d) need h) (ap (λ (x : Leaves Answer (List ℕ)). x .answer) s) (ap (λ (x : Leaves Answer (List ℕ)). x .left) s))
       (decided (ltb (length d) need))
 
-  after-check : checked w ≡ Fine → (left : List ℕ) → leaves r (rooms left e) ≡ searched (game w) work d → Ending w work d r e
+  after-check : checked w ≡ Fine → (left : List ℕ) → leaves r (buffers left e) ≡ searched (game w) work d → Ending w work d r e
   unfolding searched
   after-check fine left is =
       let need = workWords (game w .states) in
       ⊎-elim
-      (λ h. no-work fine (ltb-true (length work) need h) (ap (λ (x : Leaves Answer Rooms). x .answer) (rw h at is)))
+      (λ h. no-work fine (ltb-true (length work) need h) (ap (λ (x : Leaves Answer Buffers). x .answer) (rw h at is)))
       (λ h.
       by-verdict (verdict (game w)) refl (record { fine = fine; enough = ltb-false (length work) need h })
-      (ap (λ (x : Leaves Answer Rooms). leaves (x .answer) (x .left .card)) (rw h at is)))
+      (ap (λ (x : Leaves Answer Buffers). leaves (x .answer) (x .left .card)) (rw h at is)))
       (decided (ltb (length work) need))
 
-  by-check : (c : Checked) → checked w ≡ c → (left : List ℕ) → leaves r (rooms left e) ≡ unless c (λ n p. leaves (Refused n p) (rooms work d)) (searched (game w) work d) → Ending w work d r e
+  by-check : (c : Checked) → checked w ≡ c → (left : List ℕ) → leaves r (buffers left e) ≡ unless c (λ n p. leaves (Refused n p) (buffers work d)) (searched (game w) work d) → Ending w work d r e
   by-check Fine c left is = after-check c left is
-  by-check (Stopped n p) c left is = stopped c (ap (λ (x : Leaves Answer Rooms). x .answer) is)
+  by-check (Stopped n p) c left is = stopped c (ap (λ (x : Leaves Answer Buffers). x .answer) is)
 
-  pub ends : (left : List ℕ) → leaves r (rooms left e) ≡ solved w work d → Ending w work d r e
+  pub ends : (left : List ℕ) → leaves r (buffers left e) ≡ solved w work d → Ending w work d r e
   unfolding solved
   ends left is = by-check (checked w) refl left is

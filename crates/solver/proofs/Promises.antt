@@ -32,7 +32,7 @@ use Rattle.tables.proofs.Bounds.{few-actions, few-observations, few-sets}
 use Rattle.cards.specs.Card.{automaton, Fitting}
 use Rattle.cards.proofs.Written.{Agree, card-long, written-checked, written-agrees, written-observations}
 use Rattle.cards.proofs.Runs.{never-refused}
-use Rattle.solver.specs.Solve.{cardOf, rooms, solved, WorkRoom, written, Kept, Promise}
+use Rattle.solver.specs.Solve.{cardOf, buffers, solved, WorkEnough, written, Kept, Promise}
 use Rattle.solver.specs.declared.Answer.{Answer}
 use Rattle.solver.specs.declared.Answer.the-variants.{Yes as SaysYes, No as SaysNo, Refused}
 use Rattle.solver.proofs.Index.{cells-few}
@@ -129,7 +129,7 @@ cells-told g t m v = let s : Yes t m ≡ Yes (settling g) (length (cells g)) = s
 
 module _ (w work d : List ℕ) (r : Answer) (e : List ℕ) where
   -- a refusal promises nothing of the card or of a round
-  refused-promise : (n p : ℕ) → r ≡ Refused n p → (WorkRoom w work → ⊥) → Promise w work d r e
+  refused-promise : (n p : ℕ) → r ≡ Refused n p → (WorkEnough w work → ⊥) → Promise w work d r e
   refused-promise n p is no-room =
       record {
         nine-iff = λ room. absurd (no-room room);
@@ -177,7 +177,7 @@ module _ (w work d : List ℕ) (r : Answer) (e : List ℕ) where
       }
 
   -- the outcome that the definition gives keeps the promise
-  pub promised : (left : List ℕ) → leaves r (rooms left e) ≡ solved w work d → Promise w work d r e
+  pub promised : (left : List ℕ) → leaves r (buffers left e) ≡ solved w work d → Promise w work d r e
   promised left is = promise (ends w work d r e left is)
 
   -- a yes comes of an accepted table, and there was room for its card
@@ -190,5 +190,5 @@ module _ (w work d : List ℕ) (r : Answer) (e : List ℕ) where
       let s : SaysYes t m ≡ SaysYes u n = sym y ∙ is in
       (room .fine, subst (λ (k : ℕ). cardLength k (game w .observations) ≤ length d) (cc) fits)
 
-  pub yes-room : (t m : ℕ) (left : List ℕ) → leaves r (rooms left e) ≡ solved w work d → r ≡ SaysYes t m → (checked w ≡ Fine) × (cardLength m (game w .observations) ≤ length d)
-  yes-room t m left is y = yes-ending t m y (ends w work d r e left is)
+  pub yes-fits : (t m : ℕ) (left : List ℕ) → leaves r (buffers left e) ≡ solved w work d → r ≡ SaysYes t m → (checked w ≡ Fine) × (cardLength m (game w .observations) ≤ length d)
+  yes-fits t m left is y = yes-ending t m y (ends w work d r e left is)

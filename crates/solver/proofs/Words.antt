@@ -9,12 +9,12 @@ use lib.ListN.{length, take, drop, set, length-set, length-drop}
 use lib.Seq.{drop-set-add, take-all, set-split}
 use Rattle.sets.specs.Bounded.{gather}
 use Rattle.sets.proofs.Fills.{values-more}
-use Rattle.games.specs.Format.{kindCard, kindFirst}
+use Rattle.games.specs.Format.{kindFirst}
 use Rattle.games.specs.Game.{Game}
 use Rattle.games.specs.Verdict.{startSets, startSet, cells}
 use Rattle.games.specs.Automaton.{holding}
 use Rattle.games.specs.Fields.{word}
-use Rattle.games.specs.Words.{frontLength}
+use Rattle.games.specs.Words.{frontLength, cardHead}
 use Rattle.solver.specs.Writing.{frontWords}
 
 pub size-is : (g : Game) (n size : ℕ) → n ≡ g .states → size ≡ 2 ^ n → size ≡ 2 ^ g .states
@@ -55,8 +55,8 @@ sets-front g = refl
 abbrev pub firstWord : Game → List ℕ → ℕ → ℕ
 firstWord g l j = word kindFirst (holding l (startSet g j)) j 0
 
-pub front-is : (g : Game) (l : List ℕ) → l ≡ cells g → (n x : ℕ) → n ≡ startSets g → x ≡ word kindCard (length l) (g .observations) (g .actions) → x ∷ gather n (λ j. firstWord g l j ∷ []) ≡ frontWords g
+pub front-is : (g : Game) (l : List ℕ) → l ≡ cells g → (n x : ℕ) → n ≡ startSets g → x ≡ cardHead (length l) (g .observations) (g .actions) → x ∷ gather n (λ j. firstWord g l j ∷ []) ≡ frontWords g
 unfolding frontWords
 front-is g l e n x h i =
     ap₂ (λ (m : ℕ) (k : List ℕ). x ∷ gather m (λ j. firstWord g k j ∷ [])) h e
-    ∙ ap (λ (y : ℕ). y ∷ gather (startSets g) (λ j. firstWord g (cells g) j ∷ [])) (i ∙ ap (λ (k : List ℕ). word kindCard (length k) (g .observations) (g .actions)) e)
+    ∙ ap (λ (y : ℕ). y ∷ gather (startSets g) (λ j. firstWord g (cells g) j ∷ [])) (i ∙ ap (λ (k : List ℕ). cardHead (length k) (g .observations) (g .actions)) e)

@@ -38,23 +38,23 @@ byVerdict g d (Yes settled m) =
 byVerdict g d (No k) = leaves (SaysNo k) d
 
 -- the two buffers that are lent: the work and the card room
-pub record Rooms : Type 0 where
+pub record Buffers : Type 0 where
   pub work : List ℕ
   pub card : List ℕ
 
-abbrev pub rooms : (work card : List ℕ) → Rooms
-rooms work d = record { work = work; card = d }
+abbrev pub buffers : (work card : List ℕ) → Buffers
+buffers work d = record { work = work; card = d }
 
 -- for an accepted table: 8, the search, 9; a search leaves the first words of the work at 0
-unfoldable pub searched : Game → (work card : List ℕ) → Leaves Answer Rooms
+unfoldable pub searched : Game → (work card : List ℕ) → Leaves Answer Buffers
 searched g work d =
     let need = workWords (g .states) in
     let done = byVerdict g d (verdict g) in
-    cond (ltb (length work) need) (leaves (Refused 8 need) (rooms work d)) (leaves (done .answer) (rooms (fill need 0 work) (done .left)))
+    cond (ltb (length work) need) (leaves (Refused 8 need) (buffers work d)) (leaves (done .answer) (buffers (fill need 0 work) (done .left)))
 
 -- the table checks come first
-unfoldable pub solved : (table work card : List ℕ) → Leaves Answer Rooms
-solved w work d = unless (checked w) (λ number place. leaves (Refused number place) (rooms work d)) (searched (game w) work d)
+unfoldable pub solved : (table work card : List ℕ) → Leaves Answer Buffers
+solved w work d = unless (checked w) (λ number place. leaves (Refused number place) (buffers work d)) (searched (game w) work d)
 
 -- ---- the demands on the answer
 
@@ -70,12 +70,12 @@ abbrev pub Winnable : Game → Type 0
 Winnable g = (ρ : Strategy g) × Clear g ρ
 
 -- an accepted table, with work enough; and with room for its card
-pub record WorkRoom (w work : List ℕ) : Type 0 where
+pub record WorkEnough (w work : List ℕ) : Type 0 where
   pub fine : checked w ≡ Fine
   pub enough : workWords (game w .states) ≤ length work
 
-abbrev pub CardRoom : (w card : List ℕ) → Type 0
-CardRoom w d = cardLength (length (cells (game w))) (game w .observations) ≤ length d
+abbrev pub CardFits : (w card : List ℕ) → Type 0
+CardFits w d = cardLength (length (cells (game w))) (game w .observations) ≤ length d
 
 -- the card that stands at the front of the card room after a yes with m cells
 abbrev pub written : List ℕ → ℕ → List ℕ → List ℕ
@@ -91,9 +91,9 @@ pub record Kept (g : Game) (words : List ℕ) : Type 0 where
 -- what solve promises of its answer, over every strategy and every play
 pub record Promise (w work card : List ℕ) (r : Answer) (left : List ℕ) : Type 0 where
   -- with work enough the answer is yes, or a refusal by 9, if and only if some strategy keeps every play clear
-  pub nine-iff : WorkRoom w work → (IsYes r ⊎ IsNine r) ↔ Winnable (game w)
+  pub nine-iff : WorkEnough w work → (IsYes r ⊎ IsNine r) ↔ Winnable (game w)
   -- with room for the card it is yes if and only if some strategy does
-  pub yes-iff : WorkRoom w work → CardRoom w card → IsYes r ↔ Winnable (game w)
+  pub yes-iff : WorkEnough w work → CardFits w card → IsYes r ↔ Winnable (game w)
   -- the card written with a yes keeps every play clear
   pub yes-card : (settled m : ℕ) → r ≡ SaysYes settled m → Kept (game w) (written w m left)
   -- the third demand

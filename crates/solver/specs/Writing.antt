@@ -8,13 +8,13 @@ use lib.ListN.{length, getD}
 use Rattle.sets.specs.Bounded.{gather}
 use Rattle.sets.specs.Family.{holds}
 use Rattle.families.specs.Bits.{laneSets, maxLanes, lanes, has}
-use Rattle.games.specs.Format.{maxCells, kindCard, kindFirst, kindCell, kindNext}
+use Rattle.games.specs.Format.{maxCells, kindFirst, kindCell, kindNext}
 use Rattle.games.specs.Game.{Game}
 use Rattle.games.specs.Step.{after}
 use Rattle.games.specs.Verdict.{startSets, startSet, settled, cells}
 use Rattle.games.specs.Automaton.{noCell, holding, chosen}
 use Rattle.games.specs.Fields.{word}
-use Rattle.games.specs.Words.{game}
+use Rattle.games.specs.Words.{game, cardHead}
 use Rattle.tables.specs.Check.{checked}
 use Rattle.games.specs.declared.Checked.the-variants.{Fine}
 use Rattle.solver.specs.declared.Held.{Held}
@@ -61,7 +61,7 @@ pub record SettledSet (g : Game) (s : ℕ) : Type 0 where
 -- the head and the first cells
 unfoldable pub frontWords : Game → List ℕ
 frontWords g =
-    word kindCard (length (cells g)) (g .observations) (g .actions)
+    cardHead (length (cells g)) (g .observations) (g .actions)
     ∷ gather (startSets g) (λ j. word kindFirst (holding (cells g) (startSet g j)) j 0 ∷ [])
 
 -- a cell's set and action, and its next cells

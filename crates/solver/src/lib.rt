@@ -11,7 +11,7 @@ ghost use Rattle.games.specs.declared.Checked.the-variants.{Fine};
 ghost use Rattle.families.specs.Bits.{laneSets, maxLanes, lanes as lanesOf, Bits};
 ghost use Rattle.moves.specs.Halves.{sideWords, Tabled, Ready};
 ghost use Rattle.games.specs.Verdict.{settled as settledFamily, cells as cellsOf, verdict, Yes};
-ghost use Rattle.solver.specs.Solve.{workWords, byVerdict, cardOf, rooms, solved, Promise};
+ghost use Rattle.solver.specs.Solve.{workWords, byVerdict, cardOf, buffers, solved, Promise};
 ghost use Rattle.solver.specs.Writing.{heldBy, named as namedBy, Starts, Index, Listed, SettledSet, frontWords, setWords};
 use families::LANE_SETS;
 use families::MAX_LANES;
@@ -102,8 +102,7 @@ fn write_front(table: &[u32], family: &[u64], starts: &[usize], cells: &[u32], o
         out[1 + j as usize] = cards::naming(games::KIND_FIRST, first, Observation(j));
         j += 1;
     }
-    out[0] = games::word(
-        games::KIND_CARD,
+    out[0] = cards::heading(
         cells.len() as u32,
         tables::observations(table),
         tables::actions(table),
@@ -267,7 +266,7 @@ fn side() -> [u32; moves::SIDE_WORDS]
 }
 
 // Room for a family of sets.
-fn room() -> [u64; MAX_LANES]
+fn empty_family() -> [u64; MAX_LANES]
     ensures { λ r. ⌜ length r ≡ maxLanes ⌝ }
 {
     [0; MAX_LANES]
@@ -283,8 +282,8 @@ fn decide(table: &[u32], work: &mut [u32], card: &mut [u32]) -> Answer
     let mut low = side();
     let mut high = side();
     moves::fill(table, &mut low, &mut high);
-    let mut family = room();
-    let mut next = room();
+    let mut family = empty_family();
+    let mut next = empty_family();
     answer_with(
         table,
         &low,
@@ -298,7 +297,7 @@ fn decide(table: &[u32], work: &mut [u32], card: &mut [u32]) -> Answer
 
 // Solve: the verdict on a table and the card of a yes.
 pub fn solve(table: &[u32], work: &mut [u32], card: &mut [u32]) -> Answer
-    ensures determined { λ r. ⌜ leaves r (rooms (now (work .exit)) (now (card .exit)))
+    ensures determined { λ r. ⌜ leaves r (buffers (now (work .exit)) (now (card .exit)))
         ≡ solved (now (table .entry)) (now (work .entry)) (now (card .entry)) ⌝ }
     ensures promised { λ r. ⌜ Promise (now (table .entry)) (now (work .entry)) (now (card .entry)) r (now (card .exit)) ⌝ }
 {

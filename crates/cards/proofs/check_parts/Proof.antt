@@ -7,9 +7,10 @@ use native.Mathlib.Omega.{arith}
 use borrow.Author.Needs.{needs}
 use borrow.Author.Tests.{not-true, not-false}
 use lib.ListN.{length, getD}
+use Rattle.games.specs.Format.{kindNext}
 use Rattle.games.specs.Words.{partLength}
 use Rattle.cards.specs.Card.{cardCells, cardObservations, cardActions, cellPlace, cellFits}
-use Rattle.cards.specs.Checking.{FitsBelow}
+use Rattle.cards.specs.Checking.{FitsBelow, RightNames}
 use Rattle.cards.proofs.Checked.{fits-all, part-in, own-stop, nexts-stop, nexts-fit}
 use Rattle.cards.proofs.check_parts.Statement.{statement}
 use Rattle.cards.proofs.check_parts.Tie as tie
@@ -51,6 +52,15 @@ own c =
     let at = p .before .before in
     ap (λ (a : ℕ). cellFits a (getD (words at) (p .cell-place .result) 0)) (sym (at .before .action-field .ensures)) ∙ sym (c .cell-fits .ensures)
 
+found : (c : tie.After-right-names Inv-loop μ-loop)
+    → let p = c .before .before .before .before in
+    let w = words (p .before .before) in
+    RightNames w kindNext (p .cell-place .result + 1) (cardObservations w) (c .right-names .result)
+found c =
+    let p = c .before .before .before .before in
+    let at = p .before .before in
+    subst (λ (n : ℕ). RightNames (words at) kindNext (p .cell-place .result + 1) n (c .right-names .result)) (seen at) (c .right-names .ensures)
+
 pub check-parts-spec : {M : Type 1} → statement M
 check-parts-spec =
     tie.close
@@ -76,16 +86,17 @@ check-parts-spec =
     (λ c. omega (arith, inside (c .before .before .before)))
     (λ c κs.
     let p = c .before .before .before in
-    (entry (p .before .before) .pre .0, omega arith, omega (arith, inside p)))
+    let at = p .before .before in
+    (entry at .pre .0, omega arith, omega (arith, seen at), omega (arith, inside p, seen at)))
     (λ c. omega (arith, inside (c .before .before .before .before .before)))
     (λ c. search needs)
-    (λ c. omega (arith, inside (c .before .before .before .before .before), c .before .right-names .ensures .most))
+    (λ c. let named = c .before in omega (arith, inside (named .before .before .before .before), found named .most))
     (λ c.
     let named = c .before in
     let word = named .before .before in
     let p = word .before .before in
     let at = p .before .before in
-    sym (nexts-stop _ (entry at .pre .0) _ _ (there (p .before)) (place p) (at .loop .inv .0) (own word ∙ not-false _ (named .before .if1 .left)) _ (named .right-names .ensures)
+    sym (nexts-stop _ (entry at .pre .0) _ _ (there (p .before)) (place p) (at .loop .inv .0) (own word ∙ not-false _ (named .before .if1 .left)) _ (found named)
     (omega (arith, c .if2 .taken, seen at))))
     (λ c. omega (arith, there (c .before .before .before .before .before .before)))
     (λ c. let turn = c .before .before .before .before .before .before in omega (arith, turn .loop-test .taken))
@@ -94,7 +105,7 @@ check-parts-spec =
     let word = named .before .before in
     let p = word .before .before in
     let at = p .before .before in (
-      nexts-fit _ (entry at .pre .0) _ _ (there (p .before)) (place p) (at .loop .inv .0) (own word ∙ not-false _ (named .before .if1 .left)) _ (named .right-names .ensures)
+      nexts-fit _ (entry at .pre .0) _ _ (there (p .before)) (place p) (at .loop .inv .0) (own word ∙ not-false _ (named .before .if1 .left)) _ (found named)
           (omega (arith, c .if2 .left, seen at)),
       omega (arith, there (p .before)),
     ))

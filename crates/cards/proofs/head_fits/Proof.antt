@@ -21,4 +21,4 @@ head-fits-spec =
     let made = cells .before in
     let number = made .before .before in
     head-told _ _ _ _ _ _ _ _ (number .before .low-field .ensures) (number .number-field .ensures) (made .before .action-field .ensures)
-    (made .word .ensures) (cells .within .ensures) (c .before .within2 .ensures) (c .within3 .ensures)))
+    (made .heading .ensures) (cells .within .ensures) (c .before .within2 .ensures) (c .within3 .ensures)))

@@ -13,27 +13,23 @@ use Rattle.cards.proofs.right_names.Statement.{statement}
 use Rattle.cards.proofs.right_names.Tie as tie
 
 abbrev Inv-loop : tie.InvT-loop
-Inv-loop card kind at m o j₀ j = NamesBelow card kind at j
+Inv-loop card kind at count m j₀ j = NamesBelow card kind at count j
 
 abbrev μ-loop : tie.MeasureT-loop
-μ-loop card kind at m o j₀ j = o - j
+μ-loop card kind at count m j₀ j = count - j
 
 -- the word lies in the card
-inside : (c : tie.In-loop Inv-loop μ-loop)
-    → let start = c .before .before .before .before .before .before .before in
-    start .args .at + c .before .loop .j < length (start .args .card .now)
-inside c =
-    let at = c .before in
-    omega (arith, c .loop-test .taken, at .before .number-field .ensures, at .before .before .before .before .before .before .pre .2)
+inside : (c : tie.In-loop Inv-loop μ-loop) → let x = c .before .before .before .before .before .args in x .at + c .before .loop .j < length (x .card .now)
+inside c = omega (arith, c .loop-test .taken, c .before .before .before .before .before .pre .3)
 
 -- the test is the definition's
 told : (c : tie.After-cell-named Inv-loop μ-loop)
     → let at = c .before .before .before in
-    let x = at .before .before .before .before .before .before .args in
+    let x = at .before .before .before .before .args in
     names (x .card .now) (x .kind) (x .at) (at .loop .j) ≡ c .cell-named .result
 told c =
     let at = c .before .before .before in
-    let low = at .before .before .before in
+    let low = at .before in
     let x = low .before .before .before .args in
     ap (λ (m : ℕ). cellNamed (x .kind) m (at .loop .j) (getD (x .card .now) (x .at + at .loop .j) 0)) (sym (low .low-field .ensures)) ∙ sym (c .cell-named .ensures)
 
@@ -45,23 +41,17 @@ right-names-spec =
     μ-loop
     (λ c. omega (arith, c .before .before .pre .0 .long))
     (λ c κs. search needs)
-    (λ c. let long = c .before .before .before .before .pre .0 .long in omega arith)
-    (λ c κs. search needs)
-    (λ c. names-none _ _ _)
+    (λ c. names-none _ _ _ _)
     (λ c. search needs)
     (λ c. omega (arith, inside c))
     (λ c. omega (arith, inside c))
     (λ c. inside (c .before))
-    (λ c κs.
-    let at = c .before .before in
-    (at .before .before .before .before .before .before .pre .1, omega (arith, c .before .loop-test .taken, at .before .number-field .ensures)))
-    (λ c.
-    let word = c .before in
-    names-end _ _ _ _ (word .before .before .before .loop .inv) (λ l. told word ∙ not-true _ (c .if1 .taken)))
+    (λ c κs. let asked = c .before .before .before .before .before .before .pre in (asked .1, omega (arith, c .before .loop-test .taken, asked .2)))
+    (λ c. let word = c .before in names-end _ _ _ _ _ (word .before .before .before .loop .inv) (λ l. told word ∙ not-true _ (c .if1 .taken)))
     (λ c. let turn = c .before .before .before in omega (arith, turn .loop-test .taken))
     (λ c. let turn = c .before .before .before in omega (arith, turn .loop-test .taken))
     (λ c.
     let word = c .before in
     let turn = word .before .before in
-    names-more _ _ _ _ (turn .before .loop .inv) (omega (arith, turn .loop-test .taken, turn .before .before .number-field .ensures)) (told word ∙ not-false _ (c .if1 .left)))
-    (λ c. names-end _ _ _ _ (c .before .loop .inv) (λ l. absurd (omega (arith, c .loop-test .left, c .before .before .number-field .ensures)))))
+    names-more _ _ _ _ _ (turn .before .loop .inv) (turn .loop-test .taken) (told word ∙ not-false _ (c .if1 .left)))
+    (λ c. names-end _ _ _ _ _ (c .before .loop .inv) (λ l. absurd (omega (arith, c .loop-test .left)))))

@@ -17,18 +17,18 @@ abbrev μ-loop : tie.MeasureT-loop
 μ-loop card m o front part c₀ c = m - c
 
 -- where the parts' length is known, seen from a part's place; and the entry
-abbrev lengths : tie.After-card-length Inv-loop μ-loop → tie.After-part-length Inv-loop μ-loop
+abbrev lengths : tie.After-cell-place Inv-loop μ-loop → tie.After-part-length Inv-loop μ-loop
 lengths p = p .before .before .before
 
-abbrev entry : tie.After-card-length Inv-loop μ-loop → tie.Start Inv-loop μ-loop
+abbrev entry : tie.After-cell-place Inv-loop μ-loop → tie.Start Inv-loop μ-loop
 entry p = lengths p .before .before .before .before .before
 
 -- the part of the cell that the loop is at
-part-fits : (p : tie.After-card-length Inv-loop μ-loop) → p .card-length .result + lengths p .part-length .result ≤ length (entry p .args .card .now)
+part-fits : (p : tie.After-cell-place Inv-loop μ-loop) → p .cell-place .result + lengths p .part-length .result ≤ length (entry p .args .card .now)
 part-fits p =
     let x = entry p .args in
     let at = p .before .before .loop .c in
-    omega (arith, p .card-length .ensures, lengths p .part-length .ensures, part-inside at (x .m) (x .o) (length (x .card .now)) (p .before .loop-test .taken) (entry p .pre .2))
+    omega (arith, p .cell-place .ensures, lengths p .part-length .ensures, part-inside at (x .m) (x .o) (length (x .card .now)) (p .before .loop-test .taken) (entry p .pre .2))
 
 pub print-card-spec : {M : Type 1} → statement M
 print-card-spec =

@@ -9,7 +9,7 @@ use Rattle.games.specs.declared.Checked.the-variants.{Fine}
 use Rattle.tables.specs.Check.{checked}
 use Rattle.tables.proofs.Bounds.{few-observations}
 use Rattle.tables.proofs.Checks.{sized}
-use Rattle.solver.proofs.Promises.{yes-room}
+use Rattle.solver.proofs.Promises.{yes-fits}
 use Rattle.solve.proofs.Decoding.{card-fits}
 use Rattle.solve.proofs.report.Statement.{statement}
 use Rattle.solve.proofs.report.Tie as tie
@@ -30,7 +30,7 @@ yes : (a : tie.After-answer)
 yes a =
     let x = entry a .args in
     let s = solving a .solve in
-    yes-room (x .table .now) (x .work .now) (x .card .now) (s .result) (s .last .1 .1 .0) (a .answer .given .0 .0) (cells a) (s .last .1 .0) (s .ensures .0) (a .answer .given .1)
+    yes-fits (x .table .now) (x .work .now) (x .card .now) (s .result) (s .last .1 .1 .0) (a .answer .given .0 .0) (cells a) (s .last .1 .0) (s .ensures .0) (a .answer .given .1)
 
 observations-requires : tie.Need-observations-requires
 observations-requires c κs = let a = c .before .before .before in sized (entry a .args .table .now) (yes a .0)

@@ -1,4 +1,4 @@
--- `run` is safe: the words are as many as the bytes give, and the rooms as long as `report` asks.
+-- `run` is safe: the words are as many as the bytes give, and the buffers as long as `report` asks.
 -- Assumes nothing.
 use borrow.Author.Needs.{needs}
 use mathlib.Core.Path.{_≡_, sym, ap, _∙_}
@@ -10,30 +10,30 @@ use lib.Seq.{length-take-le}
 use Rattle.solve.proofs.run.Statement.{statement}
 use Rattle.solve.proofs.run.Tie as tie
 
--- ---- where the words have their room
+-- ---- where the words have their buffer
 
-abbrev Roomed : Type 0
-Roomed = tie.After-words-room
+abbrev Buffered : Type 0
+Buffered = tie.After-input-words
 
-abbrev bytes : Roomed → List ℕ
+abbrev bytes : Buffered → List ℕ
 bytes p = p .before .before .args .bytes .now
 
-abbrev count : Roomed → ℕ
+abbrev count : Buffered → ℕ
 count p = length (bytes p) / 4
 
-bytes-front : (p : Roomed) → length (take (4 * count p) (bytes p)) ≡ 4 * count p
+bytes-front : (p : Buffered) → length (take (4 * count p) (bytes p)) ≡ 4 * count p
 bytes-front p = length-take-le (4 * count p) (bytes p) (omega arith)
 
-words-front : (p : Roomed) → length (take (count p) (p .words-room .result)) ≡ count p
-words-front p = length-take-le (count p) (p .words-room .result) (omega (arith, p .before .before .pre, p .words-room .ensures))
+words-front : (p : Buffered) → length (take (count p) (p .input-words .result)) ≡ count p
+words-front p = length-take-le (count p) (p .input-words .result) (omega (arith, p .before .before .pre, p .input-words .ensures))
 
 -- ---- the words decoded in front of it
 
-abbrev roomed : tie.After-decode → Roomed
-roomed d = d .before .before .before .before .before
+abbrev buffered : tie.After-decode → Buffered
+buffered d = d .before .before .before .before .before
 
-decoded : (d : tie.After-decode) → count (roomed d) ≤ length (d .decode .last .1 .0 ++ drop (count (roomed d)) (roomed d .words-room .result))
-decoded d = let p = roomed d in omega (arith, length-append (d .decode .last .1 .0) (drop (count p) (p .words-room .result)), d .decode .kept .1 .0, words-front p)
+decoded : (d : tie.After-decode) → count (buffered d) ≤ length (d .decode .last .1 .0 ++ drop (count (buffered d)) (buffered d .input-words .result))
+decoded d = let p = buffered d in omega (arith, length-append (d .decode .last .1 .0) (drop (count p) (p .input-words .result)), d .decode .kept .1 .0, words-front p)
 
 pub run-spec : {M : Type 1} → statement M
 run-spec =

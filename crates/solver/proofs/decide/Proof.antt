@@ -43,29 +43,29 @@ lane-count-requires c κs =
     let w = start .args .table .now in
     subst (λ (m : ℕ). m ≤ maxStates) (sym (c .states .ensures)) (few-states w (sized w (start .pre .0)))
 
--- the rooms for the two families: where the lanes were counted
-abbrev counted : tie.After-room → tie.After-lane-count
+-- the buffers for the two families: where the lanes were counted
+abbrev counted : tie.After-empty-family → tie.After-lane-count
 counted r = r .before .before .before .before .before .before .before .before
 
 array-borrow-prefix-family : tie.Need-array-borrow-prefix-family
 array-borrow-prefix-family c =
     let r = c .before .before .before in
-    within (counted r) (r .room .result) (r .room .ensures)
+    within (counted r) (r .empty-family .result) (r .empty-family .ensures)
 
 slice-aggregate-answer-with-3 : tie.Need-slice-aggregate-answer-with-3
 slice-aggregate-answer-with-3 c =
     let r = c .before .before .before .before in
-    sym (front (counted r) (r .room .result) (r .room .ensures))
+    sym (front (counted r) (r .empty-family .result) (r .empty-family .ensures))
 
 array-borrow-prefix-next : tie.Need-array-borrow-prefix-next
 array-borrow-prefix-next c =
     let r = c .before .before .before in
-    within (counted (r .before)) (r .room2 .result) (r .room2 .ensures)
+    within (counted (r .before)) (r .empty-family2 .result) (r .empty-family2 .ensures)
 
 slice-aggregate-answer-with-4 : tie.Need-slice-aggregate-answer-with-4
 slice-aggregate-answer-with-4 c =
     let r = c .before .before .before .before in
-    sym (front (counted (r .before)) (r .room2 .result) (r .room2 .ensures))
+    sym (front (counted (r .before)) (r .empty-family2 .result) (r .empty-family2 .ensures))
 
 answer-with-requires : tie.Need-answer-with-requires
 answer-with-requires c κs =
@@ -73,10 +73,10 @@ answer-with-requires c κs =
     let filled = r .before .before .before .before in
     let count = counted (r .before) in
     let start = entry count in
-    let first = front count (r .before .room .result) (r .before .room .ensures) in (
+    let first = front count (r .before .empty-family .result) (r .before .empty-family .ensures) in (
       record { fine = start .pre .0; tabled = filled .fill .ensures },
       first ∙ lanes-are count .0,
-      front count (r .room2 .result) (r .room2 .ensures) ∙ sym first,
+      front count (r .empty-family2 .result) (r .empty-family2 .ensures) ∙ sym first,
       start .pre .1,
     )
 

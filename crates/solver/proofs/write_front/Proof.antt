@@ -92,8 +92,8 @@ loop-again c =
           (c .naming .ensures ∙ ap (λ (n : ℕ). word kindFirst n (at .loop .j) 0) (first-cell (c .before))) (at .loop .inv .2),
     )
 
-cast-word : tie.Need-cast-word Inv-loop μ-loop
-cast-word c = omega (arith, entry (c .before) .pre .0 .index .few)
+cast-heading : tie.Need-cast-heading Inv-loop μ-loop
+cast-heading c = omega (arith, entry (c .before) .pre .0 .index .few)
 
 observations-requires : tie.Need-observations-requires Inv-loop μ-loop
 observations-requires c κs = let start = entry (c .before) in sized (start .args .table .now) (start .pre .0 .fine)
@@ -101,12 +101,11 @@ observations-requires c κs = let start = entry (c .before) in sized (start .arg
 actions-requires : tie.Need-actions-requires Inv-loop μ-loop
 actions-requires c κs = let start = entry (c .before .before) in sized (start .args .table .now) (start .pre .0 .fine)
 
-word-requires : tie.Need-word-requires Inv-loop μ-loop
-word-requires c κs =
+heading-requires : tie.Need-heading-requires Inv-loop μ-loop
+heading-requires c κs =
     let start = entry (c .before .before .before) in
     let w = start .args .table .now in
     let l = start .pre .0 in (
-      search needs,
       omega (arith, l .index .few),
       omega (arith, c .before .observations .ensures, few-observations w (sized w (l .fine))),
       omega (arith, c .actions .ensures, few-actions w (sized w (l .fine))),
@@ -119,7 +118,7 @@ same-length : tie.Need-same-length Inv-loop μ-loop
 same-length c =
     let at = c .before .before .before .before in
     let start = entry at in
-    length-set (at .loop .out) 0 (c .word .result) ∙ at .loop .inv .2 .size ∙ ap (λ (n : ℕ). 1 + n) (at .before .start-sets .ensures) ∙ sets-front (game (start .args .table .now)) ∙ sym (start .pre .1)
+    length-set (at .loop .out) 0 (c .heading .result) ∙ at .loop .inv .2 .size ∙ ap (λ (n : ℕ). 1 + n) (at .before .start-sets .ensures) ∙ sets-front (game (start .args .table .now)) ∙ sym (start .pre .1)
 
 returns : tie.Need-returns Inv-loop μ-loop
 returns c =
@@ -128,8 +127,8 @@ returns c =
     let g = game (start .args .table .now) in
     let l = start .args .cells .now in
     let n = at .before .start-sets .result in
-    filled-end n (firstWord g l) (at .loop .j) (at .loop .out) (c .word .result) (c .before .before .before .loop-test .left) (at .loop .inv .1) (at .loop .inv .2)
-    ∙ front-is g l (start .pre .0 .are) n (c .word .result) (at .before .start-sets .ensures) (c .word .ensures ∙ rw (c .before .before .observations .ensures, c .before .actions .ensures))
+    filled-end n (firstWord g l) (at .loop .j) (at .loop .out) (c .heading .result) (c .before .before .before .loop-test .left) (at .loop .inv .1) (at .loop .inv .2)
+    ∙ front-is g l (start .pre .0 .are) n (c .heading .result) (at .before .start-sets .ensures) (c .heading .ensures ∙ rw (c .before .before .observations .ensures, c .before .actions .ensures))
 
 pub write-front-spec : {M : Type 1} → statement M
 write-front-spec =
@@ -150,10 +149,10 @@ write-front-spec =
     (λ c. search needs)
     (λ c. search needs)
     loop-again
-    cast-word
+    cast-heading
     observations-requires
     actions-requires
-    word-requires
+    heading-requires
     slice-write-out-2
     same-length
     returns)
