@@ -1,7 +1,7 @@
 /* Kirdanzug: safety games of imperfect information, decided, with the controller written down.
  *
- * The functions of the proved archive libabi.a (x86-64). The words of tables and cards, the game and
- * the numbered refusals are those of document 01.
+ * The functions of the proved archive libabi.a (x86-64). docs/FORMAT.md has the game, the words of
+ * tables and cards, and the numbered refusals.
  *
  * Every function fills the three words of `answer`:
  *   0, x, y           done; x and y are said at each function

@@ -28,7 +28,7 @@ fn set_count(n: u32) -> usize
     requires { ⌜ n ≤ maxStates ⌝ }
     ensures { λ r. ⌜ r ≡ 2 ^ n ⌝ }
 {
-    1usize << n
+    sets::single(n) as usize
 }
 
 // For each lane of sets, the first cell that is not below it.

@@ -286,7 +286,7 @@ fn copy_masks(table: &[u32], base: usize, count: usize, out: &mut [u32])
 {
     let mut i: usize = 0;
     while i < count {
-        out[i] = table[base + i] % games::LOW_VALUES;
+        out[i] = games::low_field(table[base + i]);
         i += 1;
     }
 }

@@ -18,18 +18,18 @@ abbrev μ-loop : tie.MeasureT-loop
 μ-loop table base count out₀ i₀ out i = count - i
 
 loop-holds : tie.Need-loop-holds Inv-loop μ-loop
-loop-holds c = let args = c .args in (search needs, search needs, filled-none (masksFrom (args .table .now) (args .base)) (args .out .now))
+loop-holds c = let args = c .before .before .args in (search needs, search needs, filled-none (masksFrom (args .table .now) (args .base)) (args .out .now))
 
 loop-again : tie.Need-loop-again Inv-loop μ-loop
 loop-again c =
-    let at = c .before .before in
-    let args = at .before .args in
-    (search needs, search needs, rw (at .loop .inv .2) (filled-more (masksFrom (args .table .now) (args .base)) (at .loop .i) (args .out .now) (omega arith)))
+    let at = c .before .before .before in
+    let args = at .before .before .before .args in
+    (search needs, search needs, rw (at .loop .inv .2, c .low-field .ensures) (filled-more (masksFrom (args .table .now) (args .base)) (at .loop .i) (args .out .now) (omega arith)))
 
 returns : tie.Need-returns Inv-loop μ-loop
 returns c =
     let at = c .before in
-    let e : at .loop .i ≡ at .before .args .count = omega arith in
+    let e : at .loop .i ≡ at .before .before .before .args .count = omega arith in
     rw (← e) (at .loop .inv .2)
 
 pub copy-masks-spec : {M : Type 1} → statement M
@@ -42,6 +42,7 @@ copy-masks-spec =
     (λ c. search needs)
     (λ c. search needs)
     (λ c. search needs)
+    (λ c κs. search needs)
     (λ c. search needs)
     (λ c. search needs)
     (λ c. search needs)
