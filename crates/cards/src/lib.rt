@@ -5,7 +5,7 @@ use games::Checked;
 use games::Observation;
 ghost use mathlib.Core.Path.{_≡_};
 ghost use Prim.Native.Nat.{_+_, _≤_, _<_};
-ghost use lib.ListN.{length};
+ghost use lib.ListN.{length, getD};
 ghost use Rattle.games.specs.Format.{lowValues, numberValues, actionValues, kindValues, kindCell};
 ghost use Rattle.games.specs.Fields.{word};
 ghost use Rattle.games.specs.Words.{frontLength, cardHead};
@@ -189,7 +189,7 @@ pub fn first_cell(card: &[u32], seen: Observation) -> Cell
     Cell(games::low_field(card[place]))
 }
 
-// where a cell's own word stands, with its set and its action,
+// where a cell's own word stands, and the word, with its set and its action,
 fn own_place(card: &[u32], cell: Cell) -> usize
     requires { ⌜ (checked (now card) ≡ Checked.Fine) × (cell .0 < cardCells (now card)) ⌝ }
     ensures { λ r. ⌜ r ≡ cellPlace (cardObservations (now (card .entry))) (cell .0) ⌝ }
@@ -197,20 +197,26 @@ fn own_place(card: &[u32], cell: Cell) -> usize
     cell_place(observations(card), cell)
 }
 
+fn own_word(card: &[u32], cell: Cell) -> u32
+    requires { ⌜ (checked (now card) ≡ Checked.Fine) × (cell .0 < cardCells (now card)) ⌝ }
+    ensures { λ r. ⌜ r ≡ getD (now (card .entry)) (cellPlace (cardObservations (now (card .entry))) (cell .0)) 0 ⌝ }
+{
+    let place = own_place(card, cell);
+    card[place]
+}
+
 pub fn cell_set(card: &[u32], cell: Cell) -> u32
     requires { ⌜ (checked (now card) ≡ Checked.Fine) × (cell .0 < cardCells (now card)) ⌝ }
     ensures { λ r. ⌜ r ≡ automaton (now (card .entry)) .set (cell .0) ⌝ }
 {
-    let place = own_place(card, cell);
-    games::low_field(card[place])
+    games::low_field(own_word(card, cell))
 }
 
 pub fn cell_action(card: &[u32], cell: Cell) -> Action
     requires { ⌜ (checked (now card) ≡ Checked.Fine) × (cell .0 < cardCells (now card)) ⌝ }
     ensures { λ r. ⌜ r .0 ≡ automaton (now (card .entry)) .action (cell .0) ⌝ }
 {
-    let place = own_place(card, cell);
-    Action(games::action_field(card[place]))
+    Action(games::action_field(own_word(card, cell)))
 }
 
 // and the cell that a later observation leads to.

@@ -1,27 +1,16 @@
--- The cell's own word lies in the card and has its action.
+-- The action of the cell's own word.
 -- Assumes nothing.
 use mathlib.Core.Path.{sym, ap, _∙_}
-use Prim.Native.Nat.{ℕ, _<_}
-use native.Mathlib.Omega.{arith}
 use borrow.Author.Needs.{needs}
-use lib.ListN.{length, getD}
-use denote.Ref.{now}
 use Rattle.games.specs.Fields.{actionField}
-use Rattle.cards.proofs.Running.{own-in, action-of}
+use Rattle.cards.proofs.Running.{action-of}
 use Rattle.cards.proofs.cell_action.Statement.{statement}
 use Rattle.cards.proofs.cell_action.Tie as tie
-
-inside : (c : tie.After-own-place) → c .own-place .result < length (now (c .before .before .args .card))
-inside c = let asked = c .before .before .pre in own-in _ (asked .0) _ _ (asked .1) (c .own-place .ensures)
 
 pub cell-action-spec : {M : Type 1} → statement M
 cell-action-spec =
     tie.close
     (tie.spec
     (λ c κs. search needs)
-    (λ c. omega (arith, inside c))
-    (λ c. inside (c .before))
     (λ c κs. search needs)
-    (λ c.
-    let place = c .before .before in
-    c .action-field .ensures ∙ ap (λ (i : ℕ). actionField (getD (now (place .before .before .args .card)) i 0)) (place .own-place .ensures) ∙ sym (action-of _ _)))
+    (λ c. c .action-field .ensures ∙ ap actionField (c .before .own-word .ensures) ∙ sym (action-of _ _)))
