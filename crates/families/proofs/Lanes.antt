@@ -97,17 +97,17 @@ module _ (bits : List ℕ) (lane t : ℕ) where
   with-own i b =
       let own : Bool = member (getD bits lane 0) t in
       ⊎-elim
-      (λ m. ap (λ (x : ℕ). (own || b) || member x t) (ap (λ (k : Bool). cond (k && false) 0 (getD bits (union lane (2 ^ i)) 0)) m ∙ ap (λ (x : ℕ). getD bits x 0) (union-has lane i m))
+      (λ m. ap (λ (x : ℕ). (own || b) || member x t) (ap (λ (x : ℕ). getD bits x 0) (union-has lane i m))
       ∙ or-own own b (more i) (and-false-left (member (getD bits (lane + 2 ^ i) 0) t) (true-not m)))
-      (λ m. ap (λ (x : ℕ). (own || b) || member x t) (ap (λ (k : Bool). cond (k && false) 0 (getD bits (union lane (2 ^ i)) 0)) m ∙ ap (λ (x : ℕ). getD bits x 0) (union-add lane i m))
+      (λ m. ap (λ (x : ℕ). (own || b) || member x t) (ap (λ (x : ℕ). getD bits x 0) (union-add lane i m))
       ∙ ap (λ (x : Bool). (own || b) || x) (sym (ap (λ (x : Bool). x && member (getD bits (lane + 2 ^ i) 0) t) (false-not m))) ∙ or-assoc own b (more i))
       (decided (member lane i))
 
   with-others : (i : ℕ) → member (withState bits lane i false) t ≡ more i
   with-others i =
       ⊎-elim
-      (λ m. ap (λ (k : Bool). member (cond (k && true) 0 (getD bits (union lane (2 ^ i)) 0)) t) m ∙ member-zero t ∙ sym (and-false-left (member (getD bits (lane + 2 ^ i) 0) t) (true-not m)))
-      (λ m. ap (λ (k : Bool). member (cond (k && true) 0 (getD bits (union lane (2 ^ i)) 0)) t) m ∙ ap (λ (x : ℕ). member (getD bits x 0) t) (union-add lane i m)
+      (λ m. ap (λ (k : Bool). member (cond (not k) (getD bits (union lane (2 ^ i)) 0) 0) t) m ∙ member-zero t ∙ sym (and-false-left (member (getD bits (lane + 2 ^ i) 0) t) (true-not m)))
+      (λ m. ap (λ (k : Bool). member (cond (not k) (getD bits (union lane (2 ^ i)) 0) 0) t) m ∙ ap (λ (x : ℕ). member (getD bits x 0) t) (union-add lane i m)
       ∙ sym (ap (λ (x : Bool). x && member (getD bits (lane + 2 ^ i) 0) t) (false-not m)))
       (decided (member lane i))
 

@@ -70,7 +70,7 @@ largerHas bits lane t = any highStates (λ i. hasWith bits lane i t)
 
 -- the word of the lane with the state i: this lane's where it has the state, and then it counts only with `own`
 abbrev pub withState : List ℕ → (lane i : ℕ) (own : Bool) → ℕ
-withState bits lane i own = cond (member lane i && not own) 0 (getD bits (union lane (2 ^ i)) 0)
+withState bits lane i own = cond (own || not (member lane i)) (getD bits (union lane (2 ^ i)) 0) 0
 
 -- a lane with one state more has t, or, with `own`, this one
 abbrev pub largerOrOwn : List ℕ → (lane : ℕ) (own : Bool) (t : ℕ) → Bool

@@ -4,7 +4,7 @@ ghost use mathlib.Core.Bool.{cond, not};
 ghost use mathlib.Core.List.{_++_};
 ghost use Prim.Native.Nat.{ℕ, _+_, _*_, _/_, _^_, _≤_, _<_};
 ghost use lib.ListN.{length, getD, take, drop, replicate};
-ghost use Rattle.sets.specs.Mask.{member, subset};
+ghost use Rattle.sets.specs.Mask.{member, union, subset};
 ghost use Rattle.sets.specs.Bounded.{count as countOf, select};
 ghost use Rattle.sets.specs.Family.{listed, holds, maximal};
 ghost use Rattle.games.specs.Format.{maxStates};
@@ -81,19 +81,26 @@ pub fn subsets(h: u32) -> u64
     all
 }
 
-// The lane with the state i of the lanes put in; no set where there is no such lane. A lane that has the state is itself that lane,
-// which counts only with `own`.
+// The lane with the state i of the lanes put in, which is this lane where it has it; no set where there is no such lane.
+fn lane_with(bits: &[u64], lane: usize, i: u32) -> u64
+    requires { ⌜ i < highStates ⌝ }
+    ensures { λ r. ⌜ r ≡ getD (now (bits .entry)) (union lane (2 ^ i)) 0 ⌝ }
+{
+    let with = lane | (1 << i);
+    if with < bits.len() {
+        return bits[with];
+    }
+    0
+}
+
+// The same, but a lane that has the state counts only with `own`.
 fn with_state(bits: &[u64], lane: usize, i: u32, own: bool) -> u64
     requires { ⌜ i < highStates ⌝ }
     ensures { λ r. ⌜ r ≡ withState (now (bits .entry)) lane i own ⌝ }
 {
     let has = (lane >> i) % 2 == 1;
-    if has & !own {
-        return 0;
-    }
-    let with = lane | (1 << i);
-    if with < bits.len() {
-        return bits[with];
+    if own | !has {
+        return lane_with(bits, lane, i);
     }
     0
 }
