@@ -1,5 +1,6 @@
 -- `families::keep_tops` meets its contract: a lane without a set stays; another is emptied, and then has what neither word has.
 -- Assumes nothing.
+use mathlib.Core.Path.{_∙_}
 use Prim.Native.Nat.{_-_, _^_}
 use native.Mathlib.Omega.{arith}
 use borrow.Author.Needs.{needs}
@@ -36,6 +37,8 @@ keep-tops-spec =
     (λ c κs. search needs)
     (λ c. search needs)
     (λ c. let start = c .before .before .before .before .before .before in omega (arith, length-set (start .args .bits .now) (start .args .lane) 0, start .pre .here))
-    (λ c. topped c .size)
+    (λ c.
+    let start = c .before .before .before .before .before .before in
+    length-set (set (start .args .bits .now) (start .args .lane) 0) (start .args .lane) _ ∙ length-set (start .args .bits .now) (start .args .lane) 0)
     topped
     (λ c. let start = c .before .before .before in topped-none (start .args .bits .now) (start .args .lane) (c .if1 .left)))
