@@ -1,16 +1,16 @@
--- What the solving program prints (document 01, "Stations to try"): its lines, and the text of a card. Numbers are decimal.
+-- What the solving program prints (document 01, "Stations to try"): its lines, the text of a card, the text of an answer. Numbers are decimal.
 -- Assumes nothing.
 use mathlib.Core.Bool.{cond}
 use mathlib.Core.List.{List, [], _∷_, _++_}
 use Prim.Native.Nat.{ℕ, _+_, _*_}
 use lib.Dec.{eqb}
 use Rattle.sets.specs.Bounded.{gather}
-use Rattle.games.specs.Format.{maxObservations}
 use Rattle.games.specs.Automaton.{noCell}
-use Rattle.games.specs.Words.{partLength}
 use Rattle.cards.specs.Card.{automaton, cardCells, cardObservations}
 use Rattle.text.specs.Text.{bytes}
 use Rattle.text.specs.Decimal.{decimal}
+use Rattle.solver.specs.declared.Answer.{Answer}
+use Rattle.solver.specs.declared.Answer.the-variants.{Yes, No, Refused}
 
 -- ---- lines
 
@@ -71,11 +71,22 @@ partText w c = ownText w c ++ gather (cardObservations w) (nextText w c)
 unfoldable pub cardText : List ℕ → List ℕ
 cardText w = frontText w ++ gather (cardCells w) (partText w)
 
--- what is printed for a yes: the settling count and the cells, then the card
-unfoldable pub yesText : (settled : ℕ) → List ℕ → List ℕ
-yesText t w = yesLine t (cardCells w) ++ cardText w
+-- ---- what is printed for an answer: after a yes its card, which the other answers don't look at
 
--- ---- how long they are at most
+unfoldable pub answerText : Answer → (card : List ℕ) → List ℕ
+answerText (Yes settled cells) w = yesLine settled cells ++ cardText w
+answerText (No round) w = noLine round
+answerText (Refused number place) w = refusedLine number place
+
+-- ---- what is printed where there is no answer: the program could not read, or not write
+
+abbrev pub unreadLine : List ℕ
+unreadLine = bytes "the input can't be read" ++ newline
+
+abbrev pub unwrittenLine : List ℕ
+unwrittenLine = bytes "the answer can't be written" ++ newline
+
+-- ---- how long a line is at most
 
 -- a space and the digits of a 64-bit number
 abbrev pub fieldBytes : ℕ
@@ -84,9 +95,3 @@ fieldBytes = 1 + 20
 -- the longest word of a line, three fields, the end
 abbrev pub lineBytes : ℕ
 lineBytes = 7 + 3 * fieldBytes + 1
-
-abbrev pub frontBytes : ℕ
-frontBytes = maxObservations * lineBytes
-
-abbrev pub partBytes : ℕ
-partBytes = partLength maxObservations * lineBytes

@@ -4,31 +4,19 @@ use games::Cell;
 use games::Checked;
 use games::Observation;
 ghost use mathlib.Core.Path.{_≡_};
-ghost use Prim.Native.Nat.{_+_, _≤_, _<_};
+ghost use Prim.Native.Nat.{_+_, _*_, _≤_, _<_};
 ghost use lib.ListN.{length};
-ghost use Rattle.cards.specs.Card.{cardCells, checked};
+ghost use Rattle.games.specs.Words.{partLength};
+ghost use Rattle.cards.specs.Card.{cardCells, cardObservations, checked};
 ghost use Rattle.text.specs.Text.{room, Wrote};
 ghost use Rattle.printout.specs.Lines.{field, cellField, yesLine, firstLine, cellLine, nextLine, noLine, refusedLine};
-ghost use Rattle.printout.specs.Lines.{frontText, ownText, partText, fieldBytes, lineBytes, frontBytes, partBytes};
+ghost use Rattle.printout.specs.Lines.{frontText, ownText, partText, cardText, unreadLine, unwrittenLine, fieldBytes, lineBytes};
 
 // The most bytes of a field: a space and the digits of a 64-bit number.
 const FIELD_BYTES: usize = 1 + 20;
 
 // The most bytes of a line: the longest word, three fields, the end.
 pub const LINE_BYTES: usize = 7 + 3 * FIELD_BYTES + 1;
-
-// The most bytes of a card's first lines: one for each observation.
-pub const FRONT_BYTES: usize = games::MAX_OBSERVATIONS as usize * LINE_BYTES;
-
-// The most bytes of a cell's part: its own line and one for each observation.
-pub const PART_BYTES: usize = (1 + games::MAX_OBSERVATIONS as usize) * LINE_BYTES;
-
-// A buffer with room for any line, for a card's first lines and for a cell's part.
-pub fn buffer() -> [u8; PART_BYTES]
-    ensures { λ r. ⌜ partBytes ≡ length r ⌝ }
-{
-    [0; PART_BYTES]
-}
 
 // The bytes of a space, of the sign for no cell, and of a line's end.
 const SPACE: u8 = 32;
@@ -127,9 +115,10 @@ fn put_next(out: &mut [u8], at: usize, from: Cell, seen: Observation, to: Cell) 
 }
 
 // The first lines of a card.
-pub fn put_front(out: &mut [u8], at: usize, card: &[u32]) -> usize
-    requires { ⌜ (checked (now card) ≡ Checked.Fine) × (at + frontBytes < room) ⌝ }
-    ensures { λ r. ⌜ Wrote (frontText (now (card .entry))) at (now (out .entry)) r (now (out .exit)) × (r ≤ at + frontBytes) ⌝ }
+fn put_front(out: &mut [u8], at: usize, card: &[u32]) -> usize
+    requires { ⌜ (checked (now card) ≡ Checked.Fine) × (at + cardObservations (now card) * lineBytes < room) ⌝ }
+    ensures { λ r. ⌜ Wrote (frontText (now (card .entry))) at (now (out .entry)) r (now (out .exit))
+        × (r ≤ at + cardObservations (now (card .entry)) * lineBytes) ⌝ }
 {
     let o = cards::observations(card);
     let mut next = at;
@@ -153,9 +142,11 @@ fn put_own(out: &mut [u8], at: usize, card: &[u32], cell: Cell) -> usize
 }
 
 // A cell's part: its own line and its next lines.
-pub fn put_part(out: &mut [u8], at: usize, card: &[u32], cell: Cell) -> usize
-    requires { ⌜ (checked (now card) ≡ Checked.Fine) × (cell .0 < cardCells (now card)) × (at + partBytes < room) ⌝ }
-    ensures { λ r. ⌜ Wrote (partText (now (card .entry)) (cell .0)) at (now (out .entry)) r (now (out .exit)) × (r ≤ at + partBytes) ⌝ }
+fn put_part(out: &mut [u8], at: usize, card: &[u32], cell: Cell) -> usize
+    requires { ⌜ (checked (now card) ≡ Checked.Fine) × (cell .0 < cardCells (now card))
+        × (at + partLength (cardObservations (now card)) * lineBytes < room) ⌝ }
+    ensures { λ r. ⌜ Wrote (partText (now (card .entry)) (cell .0)) at (now (out .entry)) r (now (out .exit))
+        × (r ≤ at + partLength (cardObservations (now (card .entry))) * lineBytes) ⌝ }
 {
     let o = cards::observations(card);
     let mut next = put_own(out, at, card, cell);
@@ -166,4 +157,36 @@ pub fn put_part(out: &mut [u8], at: usize, card: &[u32], cell: Cell) -> usize
         j += 1;
     }
     next
+}
+
+// The lines of a card: its first lines, then its cells' parts. No word of it takes more than a line, and the head none.
+pub fn put_card(out: &mut [u8], at: usize, card: &[u32]) -> usize
+    requires { ⌜ (checked (now card) ≡ Checked.Fine) × (at + length (now card) * lineBytes < room) ⌝ }
+    ensures { λ r. ⌜ Wrote (cardText (now (card .entry))) at (now (out .entry)) r (now (out .exit))
+        × (r + lineBytes ≤ at + length (now (card .entry)) * lineBytes) ⌝ }
+{
+    let m = cards::cells(card);
+    let mut next = put_front(out, at, card);
+    let mut c: u32 = 0;
+    while c < m {
+        next = put_part(out, next, card, Cell(c));
+        c += 1;
+    }
+    next
+}
+
+// The line of an input that can't be read.
+pub fn put_unread(out: &mut [u8], at: usize) -> usize
+    requires { ⌜ at + lineBytes < room ⌝ }
+    ensures { λ r. ⌜ Wrote unreadLine at (now (out .entry)) r (now (out .exit)) × (r ≤ at + lineBytes) ⌝ }
+{
+    text::put_bytes(out, at, b"the input can't be read\n")
+}
+
+// The line of an answer that can't be written out.
+pub fn put_unwritten(out: &mut [u8], at: usize) -> usize
+    requires { ⌜ at + lineBytes < room ⌝ }
+    ensures { λ r. ⌜ Wrote unwrittenLine at (now (out .entry)) r (now (out .exit)) × (r ≤ at + lineBytes) ⌝ }
+{
+    text::put_bytes(out, at, b"the answer can't be written\n")
 }

@@ -1,11 +1,12 @@
-// The solving program: the words of a table on standard input, the verdict and the card on standard output.
+// The solving program: the words of a table on standard input, the verdict and the card on standard output. What it prints is put into a
+// buffer by functions whose contracts say what it is; the program reads, calls them, and writes the buffer out.
 ghost use mathlib.Core.Path.{_≡_};
-ghost use Prim.Native.Nat.{_+_, _*_, _≤_, _<_};
+ghost use Prim.Native.Nat.{_+_, _*_, _/_, _%_, _≤_, _<_};
 ghost use lib.ListN.{length};
-ghost use Rattle.games.specs.Format.{maxSets, lowValues, numberValues};
-ghost use Rattle.games.specs.Words.{cardLength};
+ghost use Rattle.text.specs.Text.{Wrote};
 ghost use Rattle.solve.specs.Bytes.{word, wordsOf};
-use games::Cell;
+ghost use Rattle.solve.specs.Program.{inputBytes, bufferWords, blank, textBytes, tableText, programText, Counts};
+use libc::STDERR_FILENO;
 use libc::STDIN_FILENO;
 use libc::STDOUT_FILENO;
 use solver::Answer;
@@ -38,160 +39,146 @@ fn decode(bytes: &[u8], words: &mut [u32])
     }
 }
 
-fn print_number(n: u64) {
-    io::write_all(STDOUT_FILENO, b" ");
-    io::print_decimal(STDOUT_FILENO, n);
-}
+// The most bytes that are taken for a table.
+const INPUT_BYTES: usize = 4096;
 
-fn print_cell_number(c: Cell) {
-    if c.0 == games::NO_CELL {
-        io::write_all(STDOUT_FILENO, b" -");
-    } else {
-        print_number(c.0 as u64);
-    }
-}
+// Work for the most states; document 01 gives the card as many words.
+const BUFFER_WORDS: usize = 4 * games::MAX_SETS as usize;
 
-fn end_line() {
-    io::write_all(STDOUT_FILENO, b"\n");
-}
+// A text has no more lines than the card room has words.
+const TEXT_BYTES: usize = BUFFER_WORDS * printout::LINE_BYTES;
 
-fn print_refusal(number: u32, place: usize) {
-    io::write_all(STDOUT_FILENO, b"refused");
-    print_number(number as u64);
-    print_number(place as u64);
-    end_line();
-}
-
-fn print_first(w: u32) {
-    io::write_all(STDOUT_FILENO, b"first");
-    print_number(games::number_field(w) as u64);
-    print_cell_number(Cell(games::low_field(w)));
-    end_line();
-}
-
-fn print_next(c: Cell, w: u32) {
-    io::write_all(STDOUT_FILENO, b"next");
-    print_number(c.0 as u64);
-    print_number(games::number_field(w) as u64);
-    print_cell_number(Cell(games::low_field(w)));
-    end_line();
-}
-
-fn print_cell(c: Cell, w: u32) {
-    io::write_all(STDOUT_FILENO, b"cell");
-    print_number(c.0 as u64);
-    print_number(games::low_field(w) as u64);
-    print_number(games::action_field(w) as u64);
-    end_line();
-}
-
-// One cell: its own word and its next words.
-fn print_part(c: Cell, part: &[u32]) {
-    if 0 < part.len() {
-        print_cell(c, part[0]);
-    }
-    let mut j: usize = 1;
-    while j < part.len() {
-        print_next(c, part[j]);
-        j += 1;
-    }
-}
-
-// The first words, behind the head.
-fn print_front(front: &[u32]) {
-    let mut j: usize = 1;
-    while j < front.len() {
-        print_first(front[j]);
-        j += 1;
-    }
-}
-
-// The lines of a card of m cells for o observations: the first cells, then each cell.
-fn print_card(card: &[u32], m: u32, o: u32)
-    requires { ⌜ (m ≤ lowValues) × (o < numberValues) × (cardLength m o ≤ length (now card)) ⌝ }
+// Room for the words of the longest input.
+fn input_words() -> [u32; INPUT_BYTES / 4]
+    ensures { λ r. ⌜ 1024 ≡ length r ⌝ }
 {
-    let front = games::front_length(o);
-    print_front(&card[..front]);
-    let part = games::part_length(o);
-    let mut c: u32 = 0;
-    while c < m {
-        let at = cards::cell_place(o, Cell(c));
-        print_part(Cell(c), &card[at..at + part]);
-        c += 1;
-    }
+    [0; INPUT_BYTES / 4]
 }
 
-fn print_yes(settled: u32, cells: u32) {
-    io::write_all(STDOUT_FILENO, b"yes");
-    print_number(settled as u64);
-    print_number(cells as u64);
-    end_line();
+fn buffer() -> [u32; BUFFER_WORDS]
+    ensures { λ r. ⌜ r ≡ blank ⌝ }
+    ensures { λ r. ⌜ bufferWords ≡ length r ⌝ }
+{
+    [0; BUFFER_WORDS]
 }
 
-fn print_no(round: u32) {
-    io::write_all(STDOUT_FILENO, b"no");
-    print_number(round as u64);
-    end_line();
+fn text_buffer() -> [u8; TEXT_BYTES]
+    ensures { λ r. ⌜ textBytes ≡ length r ⌝ }
+{
+    [0; TEXT_BYTES]
 }
 
 // Takes the verdict apart: a card, a round number or a refusal.
-fn report(table: &[u32], work: &mut [u32], card: &mut [u32])
-    requires { ⌜ length (now card) ≤ 4 * maxSets ⌝ }
+fn report(table: &[u32], work: &mut [u32], card: &mut [u32], out: &mut [u8]) -> usize
+    requires { ⌜ length (now card) ≡ bufferWords ⌝ }
+    ensures { λ r. ⌜ Wrote (tableText (now (table .entry)) (now (work .entry)) (now (card .entry))) 0 (now (out .entry)) r (now (out .exit))
+        × (r ≤ textBytes) ⌝ }
 {
     let answer = solver::solve(table, work, card);
     let Answer::Yes(settled, cells) = answer else {
         let Answer::No(round) = answer else {
             let Answer::Refused(number, place) = answer else {
-                return;
+                return 0;
             };
-            print_refusal(number, place);
-            return;
+            return printout::put_refused(out, 0, number, place);
         };
-        print_no(round);
-        return;
+        return printout::put_no(out, 0, round);
     };
-    print_yes(settled, cells);
-    print_card(card, cells, tables::observations(table));
+    let length = games::card_length(cells, tables::observations(table));
+    let next = printout::put_yes(out, 0, settled, cells);
+    printout::put_card(out, next, &card[..length])
 }
 
-// Room for the words of the longest input.
-fn input_words() -> [u32; 1024]
-    ensures { λ r. ⌜ 1024 ≡ length r ⌝ }
-{
-    [0; 1024]
-}
-
-// Work for the most states; document 01 gives the card as many words.
-const BUFFER_WORDS: usize = 4 * games::MAX_SETS as usize;
-
-fn buffer() -> [u32; BUFFER_WORDS]
-    ensures { λ r. ⌜ 4 * maxSets ≡ length r ⌝ }
-{
-    [0; BUFFER_WORDS]
-}
-
-fn run(bytes: &[u8])
-    requires { ⌜ length (now bytes) ≤ 4096 ⌝ }
+// The text for the bytes of a whole number of words.
+fn answer_words(bytes: &[u8], out: &mut [u8]) -> usize
+    requires { ⌜ (length (now bytes) ≤ inputBytes) × (length (now bytes) % 4 ≡ 0) ⌝ }
+    ensures { λ r. ⌜ Wrote (tableText (wordsOf (length (now (bytes .entry)) / 4) (now (bytes .entry))) blank blank) 0 (now (out .entry)) r (now (out .exit))
+        × (r ≤ textBytes) ⌝ }
 {
     let mut words = input_words();
     let mut work = buffer();
     let mut card = buffer();
     let n = bytes.len() / 4;
-    let whole = 4 * n;
-    decode(&bytes[..whole], &mut words[..n]);
-    report(&words[..n], &mut work, &mut card);
+    decode(bytes, &mut words[..n]);
+    report(&words[..n], &mut work, &mut card, out)
 }
 
+// The text for the bytes of the input.
+fn respond(bytes: &[u8], out: &mut [u8]) -> usize
+    ensures { λ r. ⌜ Wrote (programText (now (bytes .entry))) 0 (now (out .entry)) r (now (out .exit)) × (r ≤ textBytes) ⌝ }
+{
+    if INPUT_BYTES < bytes.len() {
+        return printout::put_refused(out, 0, 3, INPUT_BYTES / 4 + 1);
+    }
+    if bytes.len() % 4 != 0 {
+        return printout::put_refused(out, 0, 3, bytes.len() / 4);
+    }
+    answer_words(bytes, out)
+}
+
+// What was read: so many bytes, up to the end of the input or of the buffer; or a read failed.
+enum Input {
+    Bytes(usize),
+    Failed,
+}
+
+// One read into the buffer.
+fn read_some(bytes: &mut [u8]) -> Input
+    ensures { λ r. ⌜ Counts (length (now (bytes .exit))) r ⌝ }
+{
+    let got = libc::read(STDIN_FILENO, bytes);
+    if got < 0 {
+        return Input::Failed;
+    }
+    Input::Bytes(io::count(got, bytes))
+}
+
+// Reads until the buffer is full, the input ends or a read fails.
+fn read_input(bytes: &mut [u8]) -> Input
+    ensures { λ r. ⌜ Counts (length (now (bytes .exit))) r ⌝ }
+{
+    let mut done: usize = 0;
+    while done < bytes.len() {
+        let Input::Bytes(more) = read_some(&mut bytes[done..]) else {
+            return Input::Failed;
+        };
+        if more == 0 {
+            break;
+        }
+        done += more;
+    }
+    Input::Bytes(done)
+}
+
+// Nothing was read, or not all of it: a line on standard error, and no answer.
+fn tell_unread() {
+    let mut text = [0u8; printout::LINE_BYTES];
+    let length = printout::put_unread(&mut text, 0);
+    io::write_all(STDERR_FILENO, &text[..length]);
+}
+
+// The answer was not written, or not all of it.
+fn tell_unwritten() {
+    let mut text = [0u8; printout::LINE_BYTES];
+    let length = printout::put_unwritten(&mut text, 0);
+    io::write_all(STDERR_FILENO, &text[..length]);
+}
+
+// Writes out the text for the bytes of the input.
+fn answer(bytes: &[u8]) {
+    let mut text = text_buffer();
+    let length = respond(bytes, &mut text);
+    let written = io::write_all(STDOUT_FILENO, &text[..length]);
+    if !written {
+        tell_unwritten();
+    }
+}
+
+// One byte more than a table may have, so that a longer input is seen.
 fn main() {
-    let mut bytes = [0u8; 4097];
-    let got = io::read_full(STDIN_FILENO, &mut bytes);
-    if 4096 < got {
-        print_refusal(3, 1025);
-        return;
+    let mut bytes = [0u8; INPUT_BYTES + 1];
+    match read_input(&mut bytes) {
+        Input::Failed => tell_unread(),
+        Input::Bytes(n) => answer(&bytes[..n]),
     }
-    if got % 4 != 0 {
-        print_refusal(3, got / 4);
-        return;
-    }
-    run(&bytes[..got]);
 }

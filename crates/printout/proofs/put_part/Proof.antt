@@ -5,13 +5,13 @@ use Prim.Native.Nat.{_-_}
 use native.Mathlib.Omega.{arith}
 use borrow.Author.Needs.{needs}
 use Rattle.text.proofs.Writing.{wrote-then, wrote-length}
-use Rattle.printout.specs.Lines.{nextLine, nextText, partText}
+use Rattle.printout.specs.Lines.{lineBytes, nextLine, nextText, partText}
 use Rattle.printout.proofs.Texts.{Below, below-none, below-more, below-fits, below-all}
 use Rattle.printout.proofs.put_part.Statement.{statement}
 use Rattle.printout.proofs.put_part.Tie as tie
 
 abbrev Inv-loop : tie.InvT-loop
-Inv-loop out₀ at card cell o next₀ j₀ out next j = Below (nextText card (cell .0)) o j next₀ out₀ next out
+Inv-loop out₀ at card cell o next₀ j₀ out next j = Below (nextText card (cell .0)) lineBytes o j next₀ out₀ next out
 
 abbrev μ-loop : tie.MeasureT-loop
 μ-loop out₀ at card cell o next₀ j₀ out next j = o - j
@@ -25,25 +25,30 @@ put-part-spec =
     μ-loop
     (λ c κs. search needs)
     (λ c κs. search needs)
-    (λ c. below-none _ _)
+    (λ c. below-none _ _ _)
     (λ c κs. search needs)
     (λ c κs.
     let turn = c .before .before in
     let own = turn .before .before .before .before in
     let number = own .before .before in
     let asked = number .before .before .before .pre in
-    omega (arith, own .put-own .ensures .1, below-fits _ _ _ (asked .0) (number .observations .ensures) _ (turn .loop-test .taken) (turn .before .loop .inv)))
+    omega (
+      arith,
+      number .observations .ensures,
+      asked .2,
+      own .put-own .ensures .1,
+      below-fits _ _ _ _ (turn .before .loop .inv) (turn .loop-test .taken),
+    ))
     (λ c. search needs)
     (λ c. search needs)
     (λ c.
     let line = c .before .before in
     let next = line .before in
     let turn = next .before .before in
-    below-more _ _ _ (ap (nextLine _ _) (next .next-cell .ensures)) (turn .loop-test .taken) (turn .before .loop .inv) (line .put-next .ensures))
+    below-more _ _ _ _ (turn .before .loop .inv) (ap (nextLine _ _) (next .next-cell .ensures)) (turn .loop-test .taken) (line .put-next .ensures))
     (λ c. wrote-length (c .before .loop .inv .wrote) ∙ wrote-length (c .before .before .before .before .put-own .ensures .0))
     (λ c.
     let own = c .before .before .before .before in
     let number = own .before .before in
-    let asked = number .before .before .before .pre in
-    let nexts = below-all _ _ _ (asked .0) (number .observations .ensures) _ (c .loop-test .left) (c .before .loop .inv) in
+    let nexts = below-all _ _ _ _ (c .before .loop .inv) _ (number .observations .ensures) (c .loop-test .left) in
     (wrote-then (own .put-own .ensures .0) (nexts .0), omega (arith, nexts .1, own .put-own .ensures .1))))
