@@ -9,20 +9,36 @@ use Rattle.games.specs.declared.Checked.{Checked}
 use Rattle.games.specs.declared.Checked.the-variants.{Fine, Refused as Stopped}
 use Rattle.games.specs.declared.Written.{Written}
 use Rattle.games.specs.declared.Written.the-variants.{Words, Refused}
+use Rattle.tables.specs.declared.Fields.{Fields}
+use Rattle.cards.specs.Card.{cardCells, cardObservations, checked as cardChecked}
 use Rattle.lists.specs.Plain.{MaximalOf}
 use Rattle.fields.specs.Read.{readOf}
 use Rattle.fields.specs.Write.{writeOf}
+use Rattle.fields.specs.RoundTrip.{ReadsBack}
 use Rattle.fields.specs.declared.ReadFields.{ReadFields}
 use Rattle.fields.proofs.RoundTrip.{read-then-write}
 use Rattle.solver.specs.Solve.{Promise}
 use Rattle.solver.specs.declared.Answer.{Answer}
 use Rattle.solver.specs.declared.Answer.the-variants as answer
-use Rattle.abi.specs.Words.{done, solveWords, writtenWords}
-use Rattle.abi.specs.Calls.{told, rewritten, ComesBack}
+use Rattle.abi.specs.Words.{done, checkWords, solveWords, writtenWords}
+use Rattle.abi.specs.Calls.{told, rewritten, ComesBack, cardTold, ReadsAs}
 
 -- the words of an answer, with what it left, tell the outcome
 pub tells : {A L : Type 0} (words : A → List ℕ) (a : List ℕ) (r : A) (left : L) (o : Leaves A L) → a ≡ words r → leaves r left ≡ o → leaves a left ≡ told words o
 tells words a r left o e f = ap (λ (x : List ℕ). leaves x left) e ∙ ap (told words) f
+
+-- ---- check_card
+
+module _ (w : List ℕ) (r : Checked) (e : r ≡ cardChecked w) where
+  -- the numbers of the head
+  pub card-fine : (cells observations : ℕ) → cells ≡ cardCells w → observations ≡ cardObservations w → r ≡ Fine → done cells observations ≡ cardTold w
+  unfolding cardTold
+  card-fine cells observations f g h = rw (f, g, sym e, h)
+
+  -- or the refusal
+  pub card-refused : (number place : ℕ) → r ≡ Stopped number place → checkWords r ≡ cardTold w
+  unfolding cardTold
+  card-refused number place f = rw (sym e, f)
 
 -- ---- solve
 
@@ -41,14 +57,18 @@ same-answer (answer.Refused n p) (answer.Refused m q) e = cc
 pub solve-promised : (a : List ℕ) (r : Answer) → a ≡ solveWords r → (w work card left : List ℕ) → Promise w work card r left → (s : Answer) → a ≡ solveWords s → Promise w work card s left
 solve-promised a r e w work card left p s f = subst (λ (x : Answer). Promise w work card x left) (same-answer r s (sym e ∙ f)) p
 
--- ---- join and meet
+-- ---- join, meet and write
 
-list-length : (r : Written) (n : ℕ) → writtenWords r ≡ done n 0 → r ≡ Words n
-list-length (Words m) n e = cc
-list-length (Refused m p) n e = cc
+-- the words of so many words written are those of no other answer
+words-length : (r : Written) (n : ℕ) → writtenWords r ≡ done n 0 → r ≡ Words n
+words-length (Words m) n e = cc
+words-length (Refused m p) n e = cc
 
 pub list-plain : (a : List ℕ) (r : Written) → a ≡ writtenWords r → (F : ℕ → Type 0) (out : List ℕ) → ((n : ℕ) → r ≡ Words n → MaximalOf F (take n out)) → (n : ℕ) → a ≡ done n 0 → MaximalOf F (take n out)
-list-plain a r e F out p n f = p n (list-length r n (sym e ∙ f))
+list-plain a r e F out p n f = p n (words-length r n (sym e ∙ f))
+
+pub write-read-back : (a : List ℕ) (r : Written) → a ≡ writtenWords r → (f : Fields) (out : List ℕ) → ReadsBack f r out → ReadsAs f a out
+write-read-back a r e f out p n g = p n (words-length r n (sym e ∙ g))
 
 -- ---- rewrite
 

@@ -2,6 +2,8 @@
 -- Assumes nothing.
 use mathlib.Core.List.{List, [], _∷_}
 use Prim.Native.Nat.{ℕ}
+use Rattle.games.specs.declared.Checked.{Checked}
+use Rattle.games.specs.declared.Checked.the-variants as checked
 use Rattle.games.specs.declared.Written.{Written}
 use Rattle.games.specs.declared.Written.the-variants as written
 use Rattle.judge.specs.declared.Judged.{Judged}
@@ -27,6 +29,11 @@ no k = 1 ∷ k ∷ 0 ∷ []
 abbrev pub refused : (number place : ℕ) → List ℕ
 refused number place = 2 ∷ number ∷ place ∷ []
 
+-- a table's check: no value beside fine
+abbrev pub checkWords : Checked → List ℕ
+checkWords checked.Fine = done 0 0
+checkWords (checked.Refused number place) = refused number place
+
 -- solve: the settling count and the number of cells
 abbrev pub solveWords : Answer → List ℕ
 solveWords (answer.Yes settled cells) = done settled cells
@@ -39,7 +46,7 @@ judgeWords judged.Good = done 1 0
 judgeWords judged.NotGood = done 0 0
 judgeWords (judged.Refused number place) = refused number place
 
--- join, meet and rewrite: the number of words in front of `out`
+-- join, meet, write and rewrite: the number of words in front of `out`
 abbrev pub writtenWords : Written → List ℕ
 writtenWords (written.Words length) = done length 0
 writtenWords (written.Refused number place) = refused number place

@@ -5,6 +5,8 @@ ghost use mathlib.Core.List.{[], _∷_};
 ghost use Prim.Native.Nat.{ℕ};
 ghost use lib.ListN.{take};
 ghost use Rattle.games.specs.Answers.{leaves};
+ghost use Rattle.tables.specs.Check.{checked};
+ghost use Rattle.fields.specs.Write.{writeOf};
 ghost use Rattle.judge.specs.Judge.{judged};
 ghost use Rattle.lists.specs.Lists.{joined, met};
 ghost use Rattle.lists.specs.Plain.{OfEither, OfBoth, MaximalOf};
@@ -14,8 +16,8 @@ ghost use Rattle.show.specs.Show.{found};
 ghost use Rattle.solver.specs.Solve.{buffers, solved, Promise};
 ghost use Rattle.solver.specs.declared.Answer.{Answer};
 ghost use Rattle.abi.specs.Words.{done, no as noWords, refused as refusedWords};
-ghost use Rattle.abi.specs.Words.{solveWords, judgeWords, writtenWords, moveWords, ranWords, showWords};
-ghost use Rattle.abi.specs.Calls.{told, rewritten, ComesBack};
+ghost use Rattle.abi.specs.Words.{checkWords, solveWords, judgeWords, writtenWords, moveWords, ranWords, showWords};
+ghost use Rattle.abi.specs.Calls.{told, rewritten, ComesBack, cardTold, given, ReadsAs};
 use cards::Move;
 use games::Cell;
 use games::Checked;
@@ -24,6 +26,7 @@ use games::Written;
 use judge::Judged;
 use runner::Ran;
 use show::Shown;
+use tables::Fields;
 
 // Done, with two numbers.
 fn pair(x: u32, y: u32) -> [u64; 3]
@@ -49,6 +52,15 @@ fn refused(number: u32, place: usize) -> [u64; 3]
     ensures { λ r. ⌜ r ≡ refusedWords number place ⌝ }
 {
     [2, number as u64, place as u64]
+}
+
+fn check_words(a: Checked) -> [u64; 3]
+    ensures { λ r. ⌜ r ≡ checkWords a ⌝ }
+{
+    match a {
+        Checked::Fine => pair(0, 0),
+        Checked::Refused(number, place) => refused(number, place),
+    }
 }
 
 fn solve_words(a: solver::Answer) -> [u64; 3]
@@ -107,6 +119,37 @@ fn show_words(a: Shown) -> [u64; 3]
     }
 }
 
+// 0, 0, 0: the words are a table.
+#[no_mangle]
+pub extern "C" fn kirdanzug_check_table(table: &[u32], answer: &mut [u64; 3])
+    ensures { λ _. ⌜ now (answer .exit) ≡ checkWords (checked (now (table .entry))) ⌝ }
+{
+    *answer = check_words(tables::check(table));
+}
+
+// The numbers are read only of words that are a card.
+fn card_words(card: &[u32]) -> [u64; 3]
+    ensures { λ r. ⌜ r ≡ cardTold (now (card .entry)) ⌝ }
+{
+    let found = cards::check(card);
+    match found {
+        Checked::Fine => {
+            let cells = cards::cells(card);
+            let observations = cards::observations(card);
+            pair(cells, observations)
+        }
+        Checked::Refused(_, _) => check_words(found),
+    }
+}
+
+// 0, cells, observations: the words are a card.
+#[no_mangle]
+pub extern "C" fn kirdanzug_check_card(card: &[u32], answer: &mut [u64; 3])
+    ensures { λ _. ⌜ now (answer .exit) ≡ cardTold (now (card .entry)) ⌝ }
+{
+    *answer = card_words(card);
+}
+
 // Yes: 0, settling count, cells, and the card in front of its room. No: 1, round number, 0.
 #[no_mangle]
 pub extern "C" fn kirdanzug_solve(
@@ -163,6 +206,36 @@ pub extern "C" fn kirdanzug_meet(
         → MaximalOf (OfBoth (now (first .entry)) (now (second .entry))) (take w (now (out .exit)))) ⌝ }
 {
     *answer = written_words(lists::meet(n, first, second, out));
+}
+
+// 0, length, 0: the fields written as a table's words, which read back as these fields.
+#[no_mangle]
+pub extern "C" fn kirdanzug_write(
+    n: u32,
+    a: u32,
+    o: u32,
+    start: u32,
+    bad: u32,
+    shown: &[u32; tables::SHOWN_SLOTS],
+    moves: &[u32; tables::MOVE_SLOTS],
+    out: &mut [u32],
+    answer: &mut [u64; 3],
+)
+    ensures { λ _. ⌜ leaves (now (answer .exit)) (now (out .exit))
+        ≡ told writtenWords (writeOf (given n a o start bad (now (shown .entry)) (now (moves .entry))) (now (out .entry))) ⌝ }
+    ensures read_back { λ _. ⌜ ReadsAs (given n a o start bad (now (shown .entry)) (now (moves .entry)))
+        (now (answer .exit)) (now (out .exit)) ⌝ }
+{
+    let f = Fields {
+        states: n,
+        actions: a,
+        observations: o,
+        start,
+        bad,
+        shown: *shown,
+        moves: *moves,
+    };
+    *answer = written_words(fields::write(f, out));
 }
 
 // Reads the table into fields, and writes these.
