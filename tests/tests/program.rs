@@ -5,9 +5,12 @@ use kirdanzug_tests::gen::{self, Rng, SHAPES};
 use kirdanzug_tests::oracle;
 use kirdanzug_tests::run::{count, report, seed, spread};
 use kirdanzug_tests::stations;
+use std::fs::File;
 use std::io::Write;
+use std::os::fd::OwnedFd;
+use std::os::unix::net::UnixStream;
 use std::path::PathBuf;
-use std::process::{Command, Stdio};
+use std::process::{Command, Output, Stdio};
 
 /// The program, or nothing where it has not been built.
 fn program() -> Option<PathBuf> {
@@ -50,6 +53,69 @@ fn program_prints_the_stations() {
     for (input, text) in stations::printed() {
         assert_eq!(printed(&program, &input), text, "{input:?}");
     }
+}
+
+/// What the program does with this standard input and output.
+fn run(program: &PathBuf, stdin: Stdio, stdout: Stdio) -> Output {
+    let child = Command::new(program).stdin(stdin).stdout(stdout).stderr(Stdio::piped()).spawn();
+    child.expect("the program starts").wait_with_output().expect("the program ends")
+}
+
+/// Nothing on standard output, one line on standard error, and the exit status of every run.
+fn tells(output: &Output, line: &str) {
+    assert_eq!(String::from_utf8_lossy(&output.stdout), "");
+    assert_eq!(String::from_utf8_lossy(&output.stderr), line);
+    assert!(output.status.success(), "a program of the kit ends with 0");
+}
+
+const UNREAD: &str = "the input can't be read\n";
+const UNWRITTEN: &str = "the answer can't be written\n";
+
+/// Reading a folder fails at once: that is no empty table.
+#[test]
+fn program_tells_an_input_that_cannot_be_read() {
+    let Some(program) = program() else { return };
+    let folder = File::open(env!("CARGO_MANIFEST_DIR")).expect("the folder can be opened");
+    tells(&run(&program, folder.into(), Stdio::piped()), UNREAD);
+}
+
+/// A whole table comes, and the next read fails (nothing more is there, and the other end is open): that is
+/// no end of the input.
+#[test]
+fn program_tells_an_input_that_breaks_off() {
+    let Some(program) = program() else { return };
+    let (mut sender, receiver) = UnixStream::pair().expect("a pair of sockets");
+    sender.write_all(&stations::bytes(&stations::A)).expect("the table is sent");
+    receiver.set_nonblocking(true).expect("the socket can be set");
+    tells(&run(&program, OwnedFd::from(receiver).into(), Stdio::piped()), UNREAD);
+    drop(sender);
+}
+
+/// A table that comes in pieces is one table.
+#[test]
+fn program_reads_on_after_a_short_read() {
+    let Some(program) = program() else { return };
+    let (mut sender, receiver) = UnixStream::pair().expect("a pair of sockets");
+    let table = stations::bytes(&stations::B);
+    let child = Command::new(&program).stdin(OwnedFd::from(receiver)).stdout(Stdio::piped()).spawn();
+    let child = child.expect("the program starts");
+    for part in table.chunks(7) {
+        sender.write_all(part).expect("the part is sent");
+        std::thread::sleep(std::time::Duration::from_millis(2));
+    }
+    drop(sender);
+    let output = child.wait_with_output().expect("the program ends");
+    assert_eq!(String::from_utf8_lossy(&output.stdout), "no 2\n");
+}
+
+/// A full disk takes nothing.
+#[test]
+fn program_tells_an_answer_that_cannot_be_written() {
+    let Some(program) = program() else { return };
+    let table = PathBuf::from(env!("CARGO_MANIFEST_DIR")).join("../tables/A");
+    let table = File::open(table).expect("tables/A is there");
+    let full = File::options().write(true).open("/dev/full").expect("/dev/full is there");
+    tells(&run(&program, table.into(), full.into()), UNWRITTEN);
 }
 
 #[test]

@@ -1,0 +1,76 @@
+//! The README's first hour, as it stands on the page: its table file is made, looked at and solved by its own lines.
+
+use std::fs;
+use std::path::{Path, PathBuf};
+use std::process::Command;
+
+fn root() -> PathBuf {
+    PathBuf::from(env!("CARGO_MANIFEST_DIR")).join("..")
+}
+
+/// The fenced blocks of the page: what stands behind the fence, and the lines.
+fn blocks(page: &str) -> Vec<(String, String)> {
+    let mut blocks = Vec::new();
+    let mut open: Option<(String, String)> = None;
+    for line in page.lines() {
+        match (open.take(), line.strip_prefix("```")) {
+            (None, Some(kind)) => open = Some((kind.to_string(), String::new())),
+            (Some(block), Some(_)) => blocks.push(block),
+            (Some((kind, text)), None) => open = Some((kind, text + line + "\n")),
+            (None, None) => (),
+        }
+    }
+    assert!(open.is_none(), "a block of the page has no end");
+    blocks
+}
+
+/// The one block whose first line starts so.
+fn block<'a>(blocks: &'a [(String, String)], kind: &str, start: &str) -> &'a str {
+    let found: Vec<_> = blocks.iter().filter(|(k, text)| k == kind && text.starts_with(start)).collect();
+    assert_eq!(found.len(), 1, "blocks of kind '{kind}' that start with '{start}'");
+    &found[0].1
+}
+
+/// Runs the lines in the folder, and gives what they print.
+fn shell(folder: &Path, lines: &str) -> String {
+    let output = Command::new("sh").args(["-e", "-c", lines]).current_dir(folder).output().expect("sh starts");
+    assert!(output.status.success(), "{lines}\n{}", String::from_utf8_lossy(&output.stderr));
+    assert!(output.stderr.is_empty(), "{}", String::from_utf8_lossy(&output.stderr));
+    String::from_utf8(output.stdout).expect("text is printed")
+}
+
+/// A folder that has what the page's lines name: the solving program and the tables.
+fn folder() -> Option<PathBuf> {
+    let program = std::env::var_os("KIRDANZUG_SOLVE").map(PathBuf::from).unwrap_or(root().join("target/bin/solve"));
+    if !program.exists() {
+        assert!(std::env::var_os("KIRDANZUG_SOLVE").is_none(), "KIRDANZUG_SOLVE names {}, which is missing", program.display());
+        eprintln!("skipped: {} does not exist", program.display());
+        return None;
+    }
+    let folder = std::env::temp_dir().join(format!("kirdanzug-readme-{}", std::process::id()));
+    fs::create_dir_all(folder.join("target/bin")).expect("a folder for the test");
+    fs::copy(program, folder.join("target/bin/solve")).expect("the program is copied");
+    fs::create_dir_all(folder.join("tables")).expect("a folder for the tables");
+    fs::copy(root().join("tables/A"), folder.join("tables/A")).expect("tables/A is copied");
+    Some(folder)
+}
+
+#[test]
+fn readme_first_hour_works() {
+    let Some(folder) = folder() else { return };
+    let page = fs::read_to_string(root().join("README.md")).expect("README.md is there");
+    let blocks = blocks(&page);
+
+    let first = block(&blocks, "sh", "rt check solve");
+    let solve = first.split("&& ").nth(1).expect("the first command solves a station");
+    let answers: Vec<_> = blocks.iter().filter(|(_, text)| text.starts_with("yes ")).map(|(_, text)| text).collect();
+    assert_eq!(answers.len(), 2, "the page has two answers");
+    assert_eq!(&shell(&folder, solve), answers[0]);
+
+    let words = block(&blocks, "", "10020203");
+    fs::write(folder.join("tank.txt"), words).expect("tank.txt is written");
+    let seen: String = words.lines().map(|line| format!(" {}\n", &line[..8])).collect();
+    let lines = block(&blocks, "sh", "perl");
+    assert_eq!(shell(&folder, lines), format!("{}{seen}", answers[1]));
+    fs::remove_dir_all(folder).expect("the folder is removed");
+}
