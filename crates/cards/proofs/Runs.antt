@@ -9,15 +9,16 @@ use native.Mathlib.Numerals.{add-one}
 use native.Mathlib.Omega.{arith}
 use lib.ListN.{length, getD, take, length-append}
 use lib.Seq.{take-suc, length-take-le}
-use Rattle.games.specs.Game.{Game}
+use Rattle.games.specs.Game.{Game, Accepted}
 use Rattle.games.specs.Play.{Play, begin, more as longer, PlayOf, seen}
 use Rattle.games.specs.Automaton.{Automaton, noCell, nextCell, cellFrom, cellAfter, actionAfter}
 use Rattle.games.specs.Demands.{UnderCard, Second}
-use Rattle.games.proofs.Winning.{next-cell}
+use Rattle.games.proofs.Winning.{next-cell, Covers, covering-wins}
 use Rattle.games.specs.declared.Checked.the-variants.{Fine}
 use Rattle.cards.specs.declared.Move.{Move}
 use Rattle.cards.specs.declared.Move.the-variants.{Refused}
 use Rattle.cards.specs.Card.{cardObservations, automaton, checked, Fitting, Named}
+use Rattle.cards.specs.Kept.{Kept}
 use Rattle.cards.specs.Run.{entered, enters, opened, stepped, moved, ranFrom, ran}
 use Rattle.cards.proofs.Checked.{fitting}
 use Rattle.cards.proofs.Running.{named-cell, enters-cell, begun-enters, followed-outside, followed-enters, opened-fine, stepped-fine}
@@ -149,3 +150,9 @@ no-cell-refused w j e =
 pub ran-none : (w : List ℕ) → checked w ≡ Fine → ran w [] ≡ Refused 12 noCell
 unfolding ran
 ran-none w e = no-cell-refused w 0 e
+
+-- a card whose cells cover the plays keeps every play clear and is never refused on one, whoever drew it
+pub covering-kept : (g : Game) → Accepted g → (w : List ℕ) → checked w ≡ Fine → cardObservations w ≡ g .observations → Covers g (automaton w) → Kept g w
+covering-kept g A w right observations C =
+    let S = covering-wins g A (automaton w) C in
+    record { right = right; second = S; runs = never-refused g w right observations S }

@@ -1,3 +1,4 @@
 pub mod Card
 pub mod Checking
 pub mod Run
+pub mod Kept

@@ -17,22 +17,23 @@ use Rattle.games.specs.Step.{after, settling}
 use Rattle.games.specs.Verdict.{Yes, startSet, startsIn, settled, cells, verdict}
 use Rattle.games.specs.Automaton.{Automaton, chosen, card}
 use Rattle.games.specs.Words.{game, cardLength}
-use Rattle.games.specs.Demands.{Second, Third}
+use Rattle.games.specs.Demands.{Third}
 use Rattle.games.specs.declared.Checked.{Checked}
 use Rattle.games.specs.declared.Checked.the-variants.{Fine, Refused as Stopped}
 use Rattle.games.proofs.Steps.{good-empty}
 use Rattle.games.proofs.Lasting.{lowest-below}
 use Rattle.games.proofs.Settling.{cells-hold}
 use Rattle.games.proofs.Holding.{holding-named}
-use Rattle.games.proofs.Winning.{Covers, covering-wins, card-covers, cell-settled}
+use Rattle.games.proofs.Winning.{Covers, card-covers, cell-settled}
 use Rattle.games.proofs.Decided.{verdict-yes, yes-starts, decides}
 use Rattle.tables.specs.Check.{checked}
 use Rattle.tables.proofs.Checks.{sized, accepted}
 use Rattle.tables.proofs.Bounds.{few-actions, few-observations, few-sets}
 use Rattle.cards.specs.Card.{automaton, Fitting}
 use Rattle.cards.proofs.Written.{Agree, card-long, written-checked, written-agrees, written-observations}
-use Rattle.cards.proofs.Runs.{never-refused}
-use Rattle.solver.specs.Solve.{cardOf, buffers, solved, WorkEnough, written, Kept, Promise}
+use Rattle.cards.specs.Kept.{Kept}
+use Rattle.cards.proofs.Runs.{covering-kept}
+use Rattle.solver.specs.Solve.{cardOf, buffers, solved, WorkEnough, written, Promise}
 use Rattle.solver.specs.declared.Answer.{Answer}
 use Rattle.solver.specs.declared.Answer.the-variants.{Yes as SaysYes, No as SaysNo, Refused}
 use Rattle.solver.proofs.Index.{cells-few}
@@ -100,10 +101,8 @@ module _ (w : List ℕ) (fine : checked w ≡ Fine) where
       let o = g .observations in
       let words = cardOf g in
       let A = accepted w fine in
-      let wins : Second g (automaton words) =
-      covering-wins g A (automaton words) (covers-agree g (card g) (automaton words) (written-agrees (card g) a o card-fits) (card-covers g A won)) in
-      let ok = written-checked (card g) a o card-fits in
-      record { right = ok; second = wins; runs = never-refused g words ok (written-observations (card g) a o card-fits) wins }
+      covering-kept g A words (written-checked (card g) a o card-fits) (written-observations (card g) a o card-fits)
+      (covers-agree g (card g) (automaton words) (written-agrees (card g) a o card-fits) (card-covers g A won))
 
 card-size : (w : List ℕ) (m : ℕ) → m ≡ length (cells (game w)) → length (cardOf (game w)) ≡ cardLength m (game w .observations)
 unfolding card

@@ -10,15 +10,14 @@ use lib.ListN.{length, take, drop}
 use Rattle.sets.specs.Bounded.{fill}
 use Rattle.games.specs.Answers.{unless, Leaves, leaves}
 use Rattle.games.specs.Game.{Game}
-use Rattle.games.specs.Play.{Strategy, Play, PlayOf, Clear, seen}
+use Rattle.games.specs.Play.{Strategy, Clear}
 use Rattle.games.specs.Verdict.{Verdict, Yes, No, verdict, cells}
-use Rattle.games.specs.Automaton.{card, cellAfter, actionAfter}
+use Rattle.games.specs.Automaton.{card}
 use Rattle.games.specs.Words.{game, cardLength, cardWords}
-use Rattle.games.specs.Demands.{UnderCard, Second, Third}
+use Rattle.games.specs.Demands.{Third}
 use Rattle.games.specs.declared.Checked.the-variants.{Fine}
 use Rattle.tables.specs.Check.{checked}
-use Rattle.cards.specs.Card.{automaton, checked as cardChecked}
-use Rattle.cards.specs.Run.{ran, entered}
+use Rattle.cards.specs.Kept.{Kept}
 use Rattle.solver.specs.declared.Answer.{Answer}
 use Rattle.solver.specs.declared.Answer.the-variants.{Yes as SaysYes, No as SaysNo, Refused}
 
@@ -80,13 +79,6 @@ CardFits w d = cardLength (length (cells (game w))) (game w .observations) ≤ l
 -- the card that stands at the front of the card room after a yes with m cells
 abbrev pub written : List ℕ → ℕ → List ℕ → List ℕ
 written w m d = take (cardLength m (game w .observations)) d
-
--- the words are a card (13), it keeps every play clear, and on every play under the actions it gives it never meets 12, 13 or 14
-pub record Kept (g : Game) (words : List ℕ) : Type 0 where
-  pub right : cardChecked words ≡ Fine
-  pub second : Second g (automaton words)
-  pub runs : (p : Play) → PlayOf g p → UnderCard (automaton words) p →
-      ran words (seen p) ≡ entered (cellAfter (automaton words) (seen p)) (actionAfter (automaton words) (seen p))
 
 -- what solve promises of its answer, over every strategy and every play
 pub record Promise (w work card : List ℕ) (r : Answer) (left : List ℕ) : Type 0 where
