@@ -1,7 +1,7 @@
 /* Kirdanzug: safety games of imperfect information, decided, with the controller written down.
  *
- * The functions of the proved archive libabi.a (x86-64). docs/FORMAT.md has the game and the words of
- * tables and cards, docs/LIBRARY.md whole callers.
+ * The functions of the proved archive libabi.a (x86-64, System V calls). docs/FORMAT.md has the game
+ * and the words of tables and cards, docs/LIBRARY.md whole callers.
  *
  * Every function fills the three words of `answer`:
  *   0, x, y           done; x and y are said at each function
@@ -12,8 +12,8 @@
  * length 0; buffers must be aligned, and none that is written may overlap another. Apart from that
  * nothing is asked of the caller: any words, lengths and numbers have a defined answer. A refused call
  * changes no word but `answer` (solve's refusal 9 alone also zeroes the work words). No function
- * keeps anything between calls or allocates memory, so calls with different buffers may run at the
- * same time.
+ * keeps anything between calls or allocates memory, so calls that write different buffers may run at
+ * the same time.
  *
  * The archive needs two functions from outside, memcpy and memset of the C library.
  */
@@ -210,8 +210,8 @@ void kirdanzug_show(const uint32_t *table, size_t table_length,
 
 /* ---- Typed calls ----------------------------------------------------------------------------- */
 
-/* The same four with a type for each kind of number: a call with an observation where the cell
- * belongs does not compile. */
+/* The four functions that run a card, with a type for each kind of number: a call with an observation
+ * where the cell belongs does not compile. */
 typedef struct { uint32_t number; } kirdanzug_cell;
 typedef struct { uint32_t number; } kirdanzug_observation;
 typedef struct { uint32_t number; } kirdanzug_action;

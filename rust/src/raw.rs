@@ -9,75 +9,69 @@ use crate::{MOVE_SLOTS, SHOWN_SLOTS};
 /// place (refused).
 pub type Answer = [u64; 3];
 
-/// What include/kirdanzug.h declares. A pointer stands with the length of its buffer in words.
-mod declared {
-    use super::{Answer, MOVE_SLOTS, SHOWN_SLOTS};
-
-    extern "C" {
-        /// Decides a table.
-        pub fn kirdanzug_solve(
-            table: *const u32, table_length: usize,
-            work: *mut u32, work_length: usize,
-            card: *mut u32, card_length: usize,
-            answer: *mut Answer,
-        );
-        /// Whether a set is good for k rounds.
-        pub fn kirdanzug_judge(table: *const u32, table_length: usize, mask: u32, k: u32, answer: *mut Answer);
-        /// The maximal sets of both lists.
-        pub fn kirdanzug_join(
-            n: u32,
-            first: *const u32, first_length: usize,
-            second: *const u32, second_length: usize,
-            out: *mut u32, out_length: usize,
-            answer: *mut Answer,
-        );
-        /// The maximal intersections of one set from each list.
-        pub fn kirdanzug_meet(
-            n: u32,
-            first: *const u32, first_length: usize,
-            second: *const u32, second_length: usize,
-            out: *mut u32, out_length: usize,
-            answer: *mut Answer,
-        );
-        /// Reads a table into fields and writes these again.
-        pub fn kirdanzug_rewrite(
-            table: *const u32, table_length: usize,
-            out: *mut u32, out_length: usize,
-            answer: *mut Answer,
-        );
-        /// The table's checks.
-        pub fn kirdanzug_check_table(table: *const u32, table_length: usize, answer: *mut Answer);
-        /// The card's check.
-        pub fn kirdanzug_check_card(card: *const u32, card_length: usize, answer: *mut Answer);
-        /// Writes fields as a table's words.
-        pub fn kirdanzug_write(
-            n: u32, a: u32, o: u32,
-            start: u32, bad: u32,
-            shown: *const [u32; SHOWN_SLOTS], moves: *const [u32; MOVE_SLOTS],
-            out: *mut u32, out_length: usize,
-            answer: *mut Answer,
-        );
-        /// Opens a run of a card.
-        pub fn kirdanzug_open(card: *const u32, card_length: usize, observation: u32, answer: *mut Answer);
-        /// One step of a run.
-        pub fn kirdanzug_step(card: *const u32, card_length: usize, cell: u32, observation: u32, answer: *mut Answer);
-        /// Runs a card over observations.
-        pub fn kirdanzug_run(
-            card: *const u32, card_length: usize,
-            observations: *const u32, observations_length: usize,
-            out: *mut u32, out_length: usize,
-            answer: *mut Answer,
-        );
-        /// The move words of a cell's action.
-        pub fn kirdanzug_show(
-            table: *const u32, table_length: usize,
-            card: *const u32, card_length: usize,
-            cell: u32, answer: *mut Answer,
-        );
-    }
+// What include/kirdanzug.h declares. A pointer stands with the length of its buffer in words.
+extern "C" {
+    /// Decides a table.
+    pub fn kirdanzug_solve(
+        table: *const u32, table_length: usize,
+        work: *mut u32, work_length: usize,
+        card: *mut u32, card_length: usize,
+        answer: *mut Answer,
+    );
+    /// Whether a set is good for k rounds.
+    pub fn kirdanzug_judge(table: *const u32, table_length: usize, mask: u32, k: u32, answer: *mut Answer);
+    /// The maximal sets of both lists.
+    pub fn kirdanzug_join(
+        n: u32,
+        first: *const u32, first_length: usize,
+        second: *const u32, second_length: usize,
+        out: *mut u32, out_length: usize,
+        answer: *mut Answer,
+    );
+    /// The maximal intersections of one set from each list.
+    pub fn kirdanzug_meet(
+        n: u32,
+        first: *const u32, first_length: usize,
+        second: *const u32, second_length: usize,
+        out: *mut u32, out_length: usize,
+        answer: *mut Answer,
+    );
+    /// Reads a table into fields and writes these again.
+    pub fn kirdanzug_rewrite(
+        table: *const u32, table_length: usize,
+        out: *mut u32, out_length: usize,
+        answer: *mut Answer,
+    );
+    /// The table's checks.
+    pub fn kirdanzug_check_table(table: *const u32, table_length: usize, answer: *mut Answer);
+    /// The card's check.
+    pub fn kirdanzug_check_card(card: *const u32, card_length: usize, answer: *mut Answer);
+    /// Writes fields as a table's words.
+    pub fn kirdanzug_write(
+        n: u32, a: u32, o: u32,
+        start: u32, bad: u32,
+        shown: *const [u32; SHOWN_SLOTS], moves: *const [u32; MOVE_SLOTS],
+        out: *mut u32, out_length: usize,
+        answer: *mut Answer,
+    );
+    /// Opens a run of a card.
+    pub fn kirdanzug_open(card: *const u32, card_length: usize, observation: u32, answer: *mut Answer);
+    /// One step of a run.
+    pub fn kirdanzug_step(card: *const u32, card_length: usize, cell: u32, observation: u32, answer: *mut Answer);
+    /// Runs a card over observations.
+    pub fn kirdanzug_run(
+        card: *const u32, card_length: usize,
+        observations: *const u32, observations_length: usize,
+        out: *mut u32, out_length: usize,
+        answer: *mut Answer,
+    );
+    /// The move words of a cell's action.
+    pub fn kirdanzug_show(
+        table: *const u32, table_length: usize,
+        card: *const u32, card_length: usize,
+        cell: u32, answer: *mut Answer,
+    );
 }
-
-pub use declared::*;
 
 // Each call below is sound because the slices are valid for their lengths and, being Rust
 // references, do not overlap where one of them is written. All are inlined: a call costs what the

@@ -28,7 +28,7 @@ pub mod archive {
 
     extern "C" {
         // For comparisons and the benchmark alone; not in the header.
-        pub fn kirdanzug_drive(
+        fn kirdanzug_drive(
             card: *const u32, card_length: usize,
             first: u32, second: u32, third: u32,
             answer: *mut Answer,
