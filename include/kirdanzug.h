@@ -1,7 +1,7 @@
 /* Kirdanzug: safety games of imperfect information, decided, with the controller written down.
  *
- * The functions of the proved archive libabi.a (x86-64). docs/FORMAT.md has the game, the words of
- * tables and cards, and the numbered refusals.
+ * The functions of the proved archive libabi.a (x86-64, System V calls). docs/FORMAT.md has the game
+ * and the words of tables and cards, docs/LIBRARY.md whole callers.
  *
  * Every function fills the three words of `answer`:
  *   0, x, y           done; x and y are said at each function
@@ -12,7 +12,10 @@
  * length 0; buffers must be aligned, and none that is written may overlap another. Apart from that
  * nothing is asked of the caller: any words, lengths and numbers have a defined answer. A refused call
  * changes no word but `answer` (solve's refusal 9 alone also zeroes the work words). No function
- * keeps anything between calls or allocates memory.
+ * keeps anything between calls or allocates memory, so calls that write different buffers may run at
+ * the same time.
+ *
+ * The archive needs two functions from outside, memcpy and memset of the C library.
  */
 #ifndef KIRDANZUG_H
 #define KIRDANZUG_H
@@ -24,21 +27,128 @@
 extern "C" {
 #endif
 
-/* The first word of an answer. */
-enum { KIRDANZUG_DONE = 0, KIRDANZUG_NO = 1, KIRDANZUG_REFUSED = 2 };
+/* The version of this header and of the archive that it is for. */
+#define KIRDANZUG_VERSION_MAJOR 0
+#define KIRDANZUG_VERSION_MINOR 11
+#define KIRDANZUG_VERSION_PATCH 0
+#define KIRDANZUG_VERSION "0.11.0"
+
+/* The stack that is enough for a call of any function, in bytes. Measured: 6,512 (solve); 9,576 where
+ * memcpy and memset are bound at their first call, by the dynamic linker. The rest is margin. */
+#define KIRDANZUG_STACK_BYTES 12288
+
+/* The same for what runs a card: check_card, open, step, run and show. Measured: 240. */
+#define KIRDANZUG_RUN_STACK_BYTES 384
+
+/* ---- Limits ---------------------------------------------------------------------------------- */
+
+enum {
+    KIRDANZUG_MAX_STATES = 12,
+    KIRDANZUG_MAX_ACTIONS = 8,
+    KIRDANZUG_MAX_OBSERVATIONS = 8,
+    KIRDANZUG_MAX_CELLS = 4096,
+    KIRDANZUG_MAX_ROUNDS = 4, /* the judge's */
+
+    /* The slots of the fields that kirdanzug_write takes. */
+    KIRDANZUG_SHOWN_SLOTS = KIRDANZUG_MAX_OBSERVATIONS,
+    KIRDANZUG_MOVE_SLOTS = KIRDANZUG_MAX_ACTIONS * KIRDANZUG_MAX_STATES
+};
 
 /* The cell number that means "cannot occur". */
 #define KIRDANZUG_NO_CELL 65535u
 
 /* The words of work that solve needs for n states (n from 1 to 12). */
 #define KIRDANZUG_WORK_WORDS(n) ((size_t)4 << (n))
+#define KIRDANZUG_WORK_WORDS_MAX KIRDANZUG_WORK_WORDS(KIRDANZUG_MAX_STATES)
+
+/* The words of a table with this many states, actions and observations. */
+#define KIRDANZUG_TABLE_WORDS(n, a, o) ((size_t)3 + (o) + (size_t)(a) * (n))
+#define KIRDANZUG_TABLE_WORDS_MAX \
+    KIRDANZUG_TABLE_WORDS(KIRDANZUG_MAX_STATES, KIRDANZUG_MAX_ACTIONS, KIRDANZUG_MAX_OBSERVATIONS)
 
 /* The words of a card with this many cells and observations. */
 #define KIRDANZUG_CARD_WORDS(cells, observations) \
     ((size_t)1 + (observations) + (size_t)(cells) * ((size_t)1 + (observations)))
 
 /* Card words that are enough for every table: 924 cells and 8 observations. */
-#define KIRDANZUG_CARD_WORDS_MAX KIRDANZUG_CARD_WORDS(924, 8)
+#define KIRDANZUG_CARD_WORDS_MAX KIRDANZUG_CARD_WORDS(924, KIRDANZUG_MAX_OBSERVATIONS)
+
+/* ---- Kinds of words -------------------------------------------------------------------------- */
+
+/* A word's kind: its bits 28 to 31. */
+#define KIRDANZUG_KIND(word) ((uint32_t)(word) >> 28)
+
+enum {
+    /* of a table */
+    KIRDANZUG_KIND_HEAD = 1,
+    KIRDANZUG_KIND_START = 2,
+    KIRDANZUG_KIND_BAD = 3,
+    KIRDANZUG_KIND_SHOWN = 4, /* the states that show an observation */
+    KIRDANZUG_KIND_MOVE = 5,  /* the successors of a state under an action */
+
+    /* of a card */
+    KIRDANZUG_KIND_CARD_HEAD = 8,
+    KIRDANZUG_KIND_FIRST = 9, /* the cell to begin in on an observation */
+    KIRDANZUG_KIND_CELL = 10, /* a cell's set and its action */
+    KIRDANZUG_KIND_NEXT = 11  /* the cell to go to on an observation */
+};
+
+/* ---- Answers --------------------------------------------------------------------------------- */
+
+/* The first word of an answer. */
+enum { KIRDANZUG_DONE = 0, KIRDANZUG_NO = 1, KIRDANZUG_REFUSED = 2 };
+
+/* The numbers of refusals: when each comes; what its place is. docs/FORMAT.md says what to do about it.
+ * The place of 5 is the word of the table; of the judge's mask the number of table words; of a list's
+ * mask its index, the second list counted on after the first. */
+enum {
+    KIRDANZUG_REFUSED_NO_WORDS = 1,      /* the table has no word; 0 */
+    KIRDANZUG_REFUSED_HEAD = 2,          /* the table's head, the fields' numbers or the lists' width is wrong; 0 */
+    KIRDANZUG_REFUSED_LENGTH = 3,        /* the table's length is wrong; the words given */
+    KIRDANZUG_REFUSED_WORD = 4,          /* a word's kind, index or spare bit is not that of its place; the word */
+    KIRDANZUG_REFUSED_MASK = 5,          /* a mask names a state from n up; the word */
+    KIRDANZUG_REFUSED_NO_START = 6,      /* there is no start state; 1 */
+    KIRDANZUG_REFUSED_UNSHOWN = 7,       /* a state shows no observation; the lowest such state */
+    KIRDANZUG_REFUSED_WORK_ROOM = 8,     /* the work room is too short; the words needed */
+    KIRDANZUG_REFUSED_CARD_ROOM = 9,     /* yes, but the card room is too short; the words needed */
+    KIRDANZUG_REFUSED_TABLE_ROOM = 10,   /* the room for a written table is too short; the words needed */
+    KIRDANZUG_REFUSED_UNUSED_SLOT = 11,  /* an unused slot of the fields is not 0; 0 */
+    KIRDANZUG_REFUSED_NUMBER = 12,       /* the card has no such cell, or else no such observation; that number */
+    KIRDANZUG_REFUSED_CARD = 13,         /* the words are no card; the word (for the length, the words given) */
+    KIRDANZUG_REFUSED_CANNOT_OCCUR = 14, /* by the card the observation cannot occur here: stop; the observation */
+    KIRDANZUG_REFUSED_LIST_ROOM = 15,    /* the room for a list or for actions is too short; the words needed */
+    KIRDANZUG_REFUSED_OTHER_TABLE = 16,  /* the card's actions or observations are not the table's; 0 */
+    KIRDANZUG_REFUSED_ROUNDS = 17        /* the judge was asked for more than 4 rounds; k */
+};
+
+/* ---- Tables and cards ------------------------------------------------------------------------ */
+
+/* Whether the words are a table: 0, 0, 0. Refused: 1, 2, 3, then 4 and 5 word by word, 6, 7. These are
+ * "the table's checks" below. */
+void kirdanzug_check_table(const uint32_t *table, size_t table_length,
+                           uint64_t answer[3]);
+
+/* Whether the words are a card: 0, number of cells, number of observations. Refused: 13. */
+void kirdanzug_check_card(const uint32_t *card, size_t card_length,
+                          uint64_t answer[3]);
+
+/* Writes a table of n states, a actions and o observations to the front of `out`: 0, length, 0.
+ * `shown` has for each observation the states that show it, `moves` at a * n + i the successors of
+ * state i under action a; slots that are not used are 0. Refused: 2, 11, 5, 6, 7, 10. */
+void kirdanzug_write(uint32_t n, uint32_t a, uint32_t o,
+                     uint32_t start, uint32_t bad,
+                     const uint32_t shown[KIRDANZUG_SHOWN_SLOTS],
+                     const uint32_t moves[KIRDANZUG_MOVE_SLOTS],
+                     uint32_t *out, size_t out_length,
+                     uint64_t answer[3]);
+
+/* Reads the table into fields and writes these again to the front of `out`: 0, length, 0.
+ * Refused: the table's checks, 10. */
+void kirdanzug_rewrite(const uint32_t *table, size_t table_length,
+                       uint32_t *out, size_t out_length,
+                       uint64_t answer[3]);
+
+/* ---- Deciding -------------------------------------------------------------------------------- */
 
 /* Decides the table. Yes: 0, settling count, number of cells; the card fills the front of `card`.
  * No: 1, round number, 0. Refused: the table's checks, 8, 9. After yes, no and 9 the first
@@ -69,11 +179,7 @@ void kirdanzug_meet(uint32_t n,
                     uint32_t *out, size_t out_length,
                     uint64_t answer[3]);
 
-/* Reads the table into fields and writes these again to the front of `out`: 0, length, 0.
- * Refused: the table's checks, 10. */
-void kirdanzug_rewrite(const uint32_t *table, size_t table_length,
-                       uint32_t *out, size_t out_length,
-                       uint64_t answer[3]);
+/* ---- Running a card -------------------------------------------------------------------------- */
 
 /* Opens a run of the card with the first observation: 0, cell entered, its action.
  * Refused: 13, 12, 14. */
@@ -101,6 +207,90 @@ void kirdanzug_show(const uint32_t *table, size_t table_length,
                     const uint32_t *card, size_t card_length,
                     uint32_t cell,
                     uint64_t answer[3]);
+
+/* ---- Typed calls ----------------------------------------------------------------------------- */
+
+/* The four functions that run a card, with a type for each kind of number: a call with an observation
+ * where the cell belongs does not compile. */
+typedef struct { uint32_t number; } kirdanzug_cell;
+typedef struct { uint32_t number; } kirdanzug_observation;
+typedef struct { uint32_t number; } kirdanzug_action;
+
+/* Why a call was refused; number 0 where it was not. */
+typedef struct { uint32_t number; uint64_t place; } kirdanzug_refusal;
+
+/* The cell entered and the action to take. Where the move is refused, the run stays in its cell (a
+ * refused opening: KIRDANZUG_NO_CELL), and the action is KIRDANZUG_NO_ACTION. */
+typedef struct { kirdanzug_refusal refusal; kirdanzug_cell cell; kirdanzug_action action; } kirdanzug_move;
+
+/* A part of a buffer; none of it where the call is refused. */
+typedef struct { kirdanzug_refusal refusal; size_t offset; size_t length; } kirdanzug_part;
+
+#define KIRDANZUG_NO_ACTION UINT32_MAX
+
+static inline kirdanzug_refusal kirdanzug_refusal_of(const uint64_t answer[3])
+{
+    kirdanzug_refusal refusal = { 0, 0 };
+    if (answer[0] == KIRDANZUG_REFUSED) {
+        refusal.number = (uint32_t)answer[1];
+        refusal.place = answer[2];
+    }
+    return refusal;
+}
+
+static inline kirdanzug_move kirdanzug_move_of(const uint64_t answer[3], uint32_t cell_before)
+{
+    kirdanzug_move move;
+    int done = answer[0] == KIRDANZUG_DONE;
+    move.refusal = kirdanzug_refusal_of(answer);
+    move.cell.number = done ? (uint32_t)answer[1] : cell_before;
+    move.action.number = done ? (uint32_t)answer[2] : KIRDANZUG_NO_ACTION;
+    return move;
+}
+
+static inline kirdanzug_move kirdanzug_typed_open(const uint32_t *card, size_t card_length,
+                                                  kirdanzug_observation observation)
+{
+    uint64_t answer[3];
+    kirdanzug_open(card, card_length, observation.number, answer);
+    return kirdanzug_move_of(answer, KIRDANZUG_NO_CELL);
+}
+
+static inline kirdanzug_move kirdanzug_typed_step(const uint32_t *card, size_t card_length,
+                                                  kirdanzug_cell cell, kirdanzug_observation observation)
+{
+    uint64_t answer[3];
+    kirdanzug_step(card, card_length, cell.number, observation.number, answer);
+    return kirdanzug_move_of(answer, cell.number);
+}
+
+/* Refused or not: all observations were taken, or no action was written. A struct of one word lies in
+ * memory as the word does. */
+static inline kirdanzug_refusal kirdanzug_typed_run(const uint32_t *card, size_t card_length,
+                                                    const kirdanzug_observation *observations,
+                                                    size_t observations_length,
+                                                    kirdanzug_action *out, size_t out_length)
+{
+    uint64_t answer[3];
+    kirdanzug_run(card, card_length, &observations->number, observations_length,
+                  &out->number, out_length, answer);
+    return kirdanzug_refusal_of(answer);
+}
+
+static inline kirdanzug_part kirdanzug_typed_show(const uint32_t *table, size_t table_length,
+                                                  const uint32_t *card, size_t card_length,
+                                                  kirdanzug_cell cell)
+{
+    uint64_t answer[3];
+    kirdanzug_part part;
+    int done;
+    kirdanzug_show(table, table_length, card, card_length, cell.number, answer);
+    done = answer[0] == KIRDANZUG_DONE;
+    part.refusal = kirdanzug_refusal_of(answer);
+    part.offset = done ? (size_t)answer[1] : 0;
+    part.length = done ? (size_t)answer[2] : 0;
+    return part;
+}
 
 #ifdef __cplusplus
 }

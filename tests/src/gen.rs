@@ -1,7 +1,7 @@
 //! Random numbers, tables of several shapes, lists, cards, plays, and damage to words.
 
 use crate::game::{members, Game};
-use crate::oracle::{card_words, table_words, Card, Cell, NO_CELL};
+use crate::oracle::{card_words, table_words, Card, Cell, Fields, NO_CELL};
 
 /// splitmix64.
 #[derive(Clone)]
@@ -328,4 +328,20 @@ pub fn damage(rng: &mut Rng, words: &mut Vec<u32>) {
         10 => words[place] = words[place].wrapping_add(rng.pick(&[1, u32::MAX, 1 << 16, 1 << 20, 1 << 24, 1 << 28])),
         _ => words[0] = words[0].wrapping_add(rng.pick(&[1, u32::MAX, 1 << 8, 1 << 16, 1 << 20, 1 << 24])),
     }
+}
+
+/// Damages fields: a number, a mask or a slot, used or not, gets another value.
+pub fn damage_fields(rng: &mut Rng, fields: &mut Fields) {
+    let (shown, moved) = (rng.below(fields.observations.len()), rng.below(fields.moves.len()));
+    let field = match rng.below(8) {
+        0 => &mut fields.n,
+        1 => &mut fields.a,
+        2 => &mut fields.o,
+        3 => &mut fields.start,
+        4 => &mut fields.bad,
+        5 | 6 => &mut fields.observations[shown],
+        _ => &mut fields.moves[moved],
+    };
+    let (near, far, wild) = (*field ^ 1 << rng.below(13), *field ^ 1 << rng.below(32), rng.word());
+    *field = rng.pick(&[0, near, near, far, wild, field.wrapping_add(1), field.wrapping_sub(1)]);
 }

@@ -4,7 +4,7 @@
 use crate::archive;
 use crate::check::Runner;
 use crate::gen::Rng;
-use crate::oracle::{Call, Outcome};
+use crate::oracle::{Call, Fields, Outcome};
 use std::fmt::Debug;
 
 /// Words of either width, drawn at random.
@@ -76,6 +76,11 @@ impl Lent<u64> {
     }
 }
 
+/// Slots are lent as an array, without a length.
+fn slots<const COUNT: usize>(words: &[u32]) -> &[u32; COUNT] {
+    words.try_into().expect("all slots are lent")
+}
+
 /// The buffers of one call: those read, the work buffer and the one for the result.
 struct Buffers {
     inputs: Vec<Lent<u32>>,
@@ -102,6 +107,9 @@ impl Buffers {
                 Buffers::new(rng, &[first, second], 0, out)
             }
             Call::Rewrite { table, out } => Buffers::new(rng, &[table], 0, out),
+            Call::CheckTable { table } => Buffers::new(rng, &[table], 0, 0),
+            Call::CheckCard { card } => Buffers::new(rng, &[card], 0, 0),
+            Call::Write { fields, out } => Buffers::new(rng, &[&fields.observations, &fields.moves], 0, out),
             Call::Open { card, .. } | Call::Step { card, .. } | Call::Drive { card, .. } => {
                 Buffers::new(rng, &[card], 0, 0)
             }
@@ -120,6 +128,11 @@ impl Buffers {
             Call::Join { n, .. } => archive::join(n, input(0), input(1), out, answer),
             Call::Meet { n, .. } => archive::meet(n, input(0), input(1), out, answer),
             Call::Rewrite { .. } => archive::rewrite(input(0), out, answer),
+            Call::CheckTable { .. } => archive::check_table(input(0), answer),
+            Call::CheckCard { .. } => archive::check_card(input(0), answer),
+            Call::Write { fields: &Fields { n, a, o, start, bad, .. }, .. } => {
+                archive::write(n, a, o, start, bad, slots(input(0)), slots(input(1)), out, answer)
+            }
             Call::Open { observation, .. } => archive::open(input(0), observation, answer),
             Call::Step { cell, observation, .. } => archive::step(input(0), cell, observation, answer),
             Call::Run { .. } => archive::run(input(0), input(1), out, answer),

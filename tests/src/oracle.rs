@@ -132,7 +132,11 @@ pub struct Fields {
 }
 
 pub fn read_fields(words: &[u32]) -> Result<Fields, Refusal> {
-    let game = read_table(words)?;
+    read_table(words).map(|game| fields_of(&game))
+}
+
+/// The fields of a game whose sizes are within the limits, whatever its masks.
+pub fn fields_of(game: &Game) -> Fields {
     let mut fields = Fields {
         n: game.n as u32,
         a: game.a as u32,
@@ -144,7 +148,7 @@ pub fn read_fields(words: &[u32]) -> Result<Fields, Refusal> {
     };
     fields.observations[..game.o].copy_from_slice(&game.shows);
     fields.moves[..game.a * game.n].copy_from_slice(&game.moves.concat());
-    Ok(fields)
+    fields
 }
 
 /// Write: fields as words, refused by 2, 11, 5, 6, 7 and 10 in this order.
@@ -486,6 +490,9 @@ pub enum Call<'a> {
     Join { n: u32, first: &'a [u32], second: &'a [u32], out: usize },
     Meet { n: u32, first: &'a [u32], second: &'a [u32], out: usize },
     Rewrite { table: &'a [u32], out: usize },
+    CheckTable { table: &'a [u32] },
+    CheckCard { card: &'a [u32] },
+    Write { fields: &'a Fields, out: usize },
     Open { card: &'a [u32], observation: u32 },
     Step { card: &'a [u32], cell: u32, observation: u32 },
     Run { card: &'a [u32], observations: &'a [u32], out: usize },
@@ -550,6 +557,9 @@ pub fn outcome(call: &Call) -> Outcome {
         Call::Rewrite { table, out } => {
             read_fields(table).and_then(|fields| write_fields(&fields, out)).map(Outcome::list)
         }
+        Call::CheckTable { table } => read_table(table).map(|_| Outcome::done(0, 0)),
+        Call::CheckCard { card } => read_card(card).map(|card| Outcome::done(card.cells.len() as u64, card.o as u64)),
+        Call::Write { fields, out } => write_fields(fields, out).map(Outcome::list),
         Call::Open { card, observation } => open(card, observation).map(entered),
         Call::Step { card, cell, observation } => step(card, cell, observation).map(entered),
         Call::Run { card, observations, out } => run(card, observations, out).map(Outcome::list),
@@ -586,6 +596,9 @@ impl fmt::Debug for Call<'_> {
                 write!(f, "meet, n {n}, ({}), ({}), out {out}", hex(first), hex(second))
             }
             Call::Rewrite { table, out } => write!(f, "rewrite, out {out}, table {}", hex(table)),
+            Call::CheckTable { table } => write!(f, "check, table {}", hex(table)),
+            Call::CheckCard { card } => write!(f, "check, card {}", hex(card)),
+            Call::Write { fields, out } => write!(f, "write, out {out}, {fields:x?}"),
             Call::Open { card, observation } => write!(f, "open, observation {observation}, card {}", hex(card)),
             Call::Step { card, cell, observation } => {
                 write!(f, "step, cell {cell}, observation {observation}, card {}", hex(card))

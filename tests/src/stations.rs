@@ -2,7 +2,7 @@
 //! refusals with its small input. The answers here are copied from the document, not computed. Runs
 //! over lists of observations are done by hand on its cards.
 
-use crate::oracle::{Call, Outcome};
+use crate::oracle::{Call, Fields, Outcome};
 
 pub const A: [u32; 10] = [
     0x10010203, 0x20000001, 0x30000004, 0x40000007, 0x50000002, 0x50010000, 0x50020004, 0x50100004, 0x50110001,
@@ -75,6 +75,36 @@ const A_KIND_BEFORE_MASK: [u32; 10] = with(A, 1, 0x30000008);
 const A_NO_START_UNSHOWN: [u32; 10] = with(A_NO_START, 3, 0x40000003);
 const A_NO_START_MASK: [u32; 10] = with(A_NO_START, 9, 0x50120008);
 
+/// Slots that begin with these; the others are 0.
+const fn slots<const COUNT: usize, const USED: usize>(used: [u32; USED]) -> [u32; COUNT] {
+    let mut all = [0; COUNT];
+    let mut i = 0;
+    while i < USED {
+        all[i] = used[i];
+        i += 1;
+    }
+    all
+}
+
+/// A as fields.
+pub const A_FIELDS: Fields =
+    Fields { n: 3, a: 2, o: 1, start: 1, bad: 4, observations: slots([7]), moves: slots([2, 0, 4, 4, 1, 4]) };
+const A_WIDE: Fields = Fields { n: 13, ..A_FIELDS };
+const A_NO_ACTION: Fields = Fields { a: 0, moves: slots([]), ..A_FIELDS };
+const A_NINE: Fields = Fields { o: 9, ..A_FIELDS };
+const A_SHOWN_SLOT: Fields = Fields { observations: slots([7, 1]), ..A_FIELDS };
+const A_MOVE_SLOT: Fields = Fields { moves: slots([2, 0, 4, 4, 1, 4, 1]), ..A_FIELDS };
+const A_LAST_SLOT: Fields = Fields { moves: with(A_FIELDS.moves, 95, 1), ..A_FIELDS };
+const A_START_MASK: Fields = Fields { start: 8, ..A_FIELDS };
+const A_LAST_MASK: Fields = Fields { moves: slots([2, 0, 4, 4, 1, 1 << 16]), ..A_FIELDS };
+const A_STARTLESS: Fields = Fields { start: 0, ..A_FIELDS };
+const A_HIDDEN: Fields = Fields { observations: slots([3]), ..A_FIELDS };
+// Two things wrong at once, for the order of the refusals.
+const A_WIDE_SLOT: Fields = Fields { n: 13, ..A_SHOWN_SLOT };
+const A_SLOT_MASK: Fields = Fields { start: 8, ..A_SHOWN_SLOT };
+const A_STARTLESS_MASK: Fields = Fields { start: 0, ..A_LAST_MASK };
+const A_STARTLESS_HIDDEN: Fields = Fields { start: 0, ..A_HIDDEN };
+
 /// A call and the outcome that document 01 gives it.
 pub struct Row {
     pub name: &'static str,
@@ -135,7 +165,7 @@ pub fn stations() -> Vec<Row> {
     ]
 }
 
-/// "Numbered refusals", row by row (11 is the write's alone, see `tests/stations.rs`), and their order.
+/// "Numbered refusals", row by row (11 is the write's alone, see `checks`), and their order.
 pub fn refusals() -> Vec<Row> {
     let a_work = |work| Call::Solve { table: &A, work, card: 6 };
     let step = |card, cell, observation| Call::Step { card, cell, observation };
@@ -201,6 +231,64 @@ pub fn refusals() -> Vec<Row> {
         row("order: 16 before 12", show(&C, &A_CARD, 7), refused(16, 0)),
         row("order: table before 10", Call::Rewrite { table: &A_UNSHOWN, out: 0 }, refused(7, 2)),
     ]
+}
+
+/// The checks of tables and cards by themselves, and fields written: "A, reading slot 1 = 1" is 11.
+pub fn checks() -> Vec<Row> {
+    let table = |table| Call::CheckTable { table };
+    let card = |card| Call::CheckCard { card };
+    let write = |fields, out| Call::Write { fields, out };
+    let fine = || Outcome::done(0, 0);
+    vec![
+        row("A checked", table(&A), fine()),
+        row("n 12 checked", table(&TWELVE), fine()),
+        row("1", table(&[]), refused(1, 0)),
+        row("2", table(&[0x10010200]), refused(2, 0)),
+        row("2, n 13", table(&THIRTEEN), refused(2, 0)),
+        row("3", table(&[0x10010203]), refused(3, 1)),
+        row("4", table(&A_KIND), refused(4, 1)),
+        row("5", table(&A_MASK), refused(5, 2)),
+        row("6", table(&A_NO_START), refused(6, 1)),
+        row("7", table(&A_UNSHOWN), refused(7, 2)),
+        row("a card is no table", table(&A_CARD), refused(2, 0)),
+        row("order: 4 before 5 within a word", table(&A_KIND_BEFORE_MASK), refused(4, 1)),
+        row("order: 6 before 7", table(&A_NO_START_UNSHOWN), refused(6, 1)),
+        row("A's card checked", card(&A_CARD), Outcome::done(2, 1)),
+        row("C's card checked", card(&C_CARD), Outcome::done(2, 2)),
+        row("F's card checked", card(&F_CARD), Outcome::done(1, 1)),
+        row("a table is no card", card(&A), refused(13, 0)),
+        row("13, no words", card(&[]), refused(13, 0)),
+        row("13, length", card(&A_CARD_HEAD), refused(13, 6)),
+        row("13, kind", card(&A_CARD_KIND), refused(13, 1)),
+        row("13, mask", card(&A_CARD_MASK), refused(13, 2)),
+        row("13, cell", card(&A_CARD_CELL), refused(13, 3)),
+        row("13, action", card(&A_CARD_ACTION), refused(13, 4)),
+        row("13, spare bit", card(&A_CARD_SPARE), refused(13, 5)),
+        row("A written", write(&A_FIELDS, 10), list(&A)),
+        row("A written, more room", write(&A_FIELDS, 12), list(&A)),
+        row("2, n 13", write(&A_WIDE, 10), refused(2, 0)),
+        row("2, no action", write(&A_NO_ACTION, 10), refused(2, 0)),
+        row("2, o 9", write(&A_NINE, 10), refused(2, 0)),
+        row("11", write(&A_SHOWN_SLOT, 10), refused(11, 0)),
+        row("11, a move slot", write(&A_MOVE_SLOT, 10), refused(11, 0)),
+        row("11, the last slot", write(&A_LAST_SLOT, 10), refused(11, 0)),
+        row("5", write(&A_START_MASK, 10), refused(5, 1)),
+        row("5, not cut to 16 bits", write(&A_LAST_MASK, 10), refused(5, 9)),
+        row("6", write(&A_STARTLESS, 10), refused(6, 1)),
+        row("7", write(&A_HIDDEN, 10), refused(7, 2)),
+        row("10", write(&A_FIELDS, 9), refused(10, 10)),
+        row("10, no room", write(&A_FIELDS, 0), refused(10, 10)),
+        row("order: 2 before 11", write(&A_WIDE_SLOT, 0), refused(2, 0)),
+        row("order: 11 before 5", write(&A_SLOT_MASK, 0), refused(11, 0)),
+        row("order: 5 before 6", write(&A_STARTLESS_MASK, 0), refused(5, 9)),
+        row("order: 6 before 7", write(&A_STARTLESS_HIDDEN, 0), refused(6, 1)),
+        row("order: 7 before 10", write(&A_HIDDEN, 0), refused(7, 2)),
+    ]
+}
+
+/// Every row.
+pub fn rows() -> impl Iterator<Item = Row> {
+    stations().into_iter().chain(refusals()).chain(runs()).chain(checks())
 }
 
 /// Runs of the stations' cards over lists of observations, and runners driven by three.

@@ -5,8 +5,9 @@ use kirdanzug_tests::check::{keeps_clear, lasts_played, no_holds};
 use kirdanzug_tests::game::Game;
 use kirdanzug_tests::gen::{self, Rng, SHAPES};
 use kirdanzug_tests::guard::{compare, ArchiveRunner};
-use kirdanzug_tests::oracle::{self, card_length, work_length, Call, Card, Decided, Outcome, Verdict, NO_CELL};
+use kirdanzug_tests::oracle::{self, card_length, work_length, Call, Card, Decided, Fields, Outcome, Verdict, NO_CELL};
 use kirdanzug_tests::run::{count, report, seed, spread};
+use kirdanzug_tests::stack;
 use kirdanzug_tests::stations;
 
 /// How many random inputs are enough for every verdict and refusal to come up.
@@ -22,6 +23,7 @@ struct Tally {
     most_cells: u64,
     refusals: [u64; 18],
     runs: Runs,
+    checks: Checks,
 }
 
 impl Tally {
@@ -29,6 +31,9 @@ impl Tally {
         match *call {
             Call::Run { observations, out, .. } => return self.runs.add_run(observations.len(), out, outcome),
             Call::Drive { .. } => return self.runs.add_drive(outcome),
+            Call::CheckTable { .. } | Call::CheckCard { .. } | Call::Write { .. } => {
+                return self.checks.add_call(call, outcome)
+            }
             _ => self.calls += 1,
         }
         let [tag, first, second] = outcome.answer;
@@ -55,12 +60,13 @@ impl Tally {
             sum.most_cells = sum.most_cells.max(part.most_cells);
             add_each(&mut sum.refusals, &part.refusals);
             sum.runs.add(&part.runs);
+            sum.checks.add(&part.checks);
             sum
         })
     }
 
     fn report(&self, name: &str, tried: u64) {
-        let Tally { calls, yes, no, longest, most_cells, refusals, runs } = self;
+        let Tally { calls, yes, no, longest, most_cells, refusals, runs, checks } = self;
         report(&format!(
             "{name}: seed {}, {tried} inputs, {calls} calls, solve yes {yes} (up to {most_cells} cells), \
              no {no} (up to {longest} rounds), refusals {}",
@@ -68,6 +74,7 @@ impl Tally {
             listed(refusals)
         ));
         runs.report(name);
+        checks.report(name);
     }
 
     /// The same where so many random inputs were tried that each number must have come up.
@@ -81,6 +88,13 @@ impl Tally {
     fn must_have_runs_of(&self, tried: u64) {
         if tried >= ENOUGH {
             self.runs.must_have_all();
+        }
+    }
+
+    /// The same for the checks of tables and cards, and for what is written.
+    fn must_have_checks_of(&self, tried: u64) {
+        if tried >= ENOUGH {
+            self.checks.must_have_all();
         }
     }
 
@@ -182,6 +196,69 @@ impl Runs {
     }
 }
 
+/// What the checks by themselves and the write came by. The number at 0 counts the calls that were not
+/// refused.
+#[derive(Default, Clone)]
+struct Checks {
+    table: [u64; 18],
+    card: [u64; 18],
+    write: [u64; 18],
+}
+
+impl Checks {
+    fn add_call(&mut self, call: &Call, outcome: &Outcome) {
+        let numbers = match call {
+            Call::CheckTable { .. } => &mut self.table,
+            Call::CheckCard { .. } => &mut self.card,
+            _ => &mut self.write,
+        };
+        numbers[number_of(outcome)] += 1;
+    }
+
+    fn add(&mut self, part: &Checks) {
+        add_each(&mut self.table, &part.table);
+        add_each(&mut self.card, &part.card);
+        add_each(&mut self.write, &part.write);
+    }
+
+    fn report(&self, name: &str) {
+        let Checks { table, card, write } = self;
+        if table.iter().chain(card).chain(write).all(|&times| times == 0) {
+            return;
+        }
+        report(&format!(
+            "{name}, checks: seed {}, tables fine {}, refusals {}; cards fine {}, refusals {}; fields written {}, \
+             refusals {}",
+            seed(),
+            table[0],
+            listed(table),
+            card[0],
+            listed(card),
+            write[0],
+            listed(write)
+        ));
+    }
+
+    fn must_have_tables(&self, numbers: &[usize]) {
+        numbers.iter().for_each(|&number| assert!(self.table[number] > 0, "{number} never came up in a table's check"));
+    }
+
+    fn must_have_cards(&self) {
+        assert!(self.card[0] > 0 && self.card[13] > 0, "cards were checked: {:?}", self.card);
+    }
+
+    fn must_have_writes(&self, numbers: &[usize]) {
+        numbers.iter().for_each(|&number| assert!(self.write[number] > 0, "{number} never came up in a write"));
+    }
+
+    /// All that the checks and the write answer.
+    fn must_have_all(&self) {
+        self.must_have_tables(&[0, 1, 2, 3, 4, 5, 6, 7]);
+        self.must_have_cards();
+        self.must_have_writes(&[0, 2, 5, 6, 7, 10, 11]);
+    }
+}
+
 /// Compares one call with the oracle.
 fn try_call(rng: &mut Rng, tally: &mut Tally, call: Call) {
     let expected = oracle::outcome(&call);
@@ -260,6 +337,7 @@ fn some_observation(rng: &mut Rng, o: usize) -> u32 {
 fn try_card(rng: &mut Rng, tally: &mut Tally, table: &[u32], card: &[u32], calls: usize) {
     let head = card.first().copied().unwrap_or(0);
     let (m, o) = ((head & 0xFFFF).max(1) as usize, (head >> 16 & 15).max(1) as usize);
+    try_check(rng, tally, Call::CheckCard { card });
     for _ in 0..calls {
         let (cell, observation) = (some_cell(rng, m), some_observation(rng, o));
         try_call(rng, tally, Call::Open { card, observation });
@@ -294,6 +372,27 @@ fn some_observations(rng: &mut Rng, card: &[u32], o: usize, longest: usize) -> V
         observations[place] = some_observation(rng, o);
     }
     observations
+}
+
+/// A check by itself. It draws from a copy of the generator, as the runs do.
+fn try_check(rng: &Rng, tally: &mut Tally, call: Call) {
+    try_call(&mut rng.clone(), tally, call);
+}
+
+/// The fields of an accepted table give its words again, with exact, short, long and no room; and then
+/// fields with something wrong in them.
+fn try_write(rng: &Rng, tally: &mut Tally, table: &[u32]) {
+    let rng = &mut rng.clone();
+    let mut fields = oracle::read_fields(table).expect("the table is accepted");
+    assert_eq!(oracle::write_fields(&fields, table.len()).as_deref(), Ok(table));
+    for out in lengths(rng, table.len()) {
+        try_call(rng, tally, Call::Write { fields: &fields, out });
+    }
+    for _ in 0..2 {
+        gen::damage_fields(rng, &mut fields);
+        let out = rng.pick(&[table.len(), table.len() + 40, 0]);
+        try_call(rng, tally, Call::Write { fields: &fields, out });
+    }
 }
 
 /// A random play under the solver's card: a run over its observations is taken whole.
@@ -332,6 +431,8 @@ fn try_table(rng: &mut Rng, tally: &mut Tally, table: &[u32]) {
     for out in lengths(rng, table.len()) {
         try_call(rng, tally, Call::Rewrite { table, out });
     }
+    try_check(rng, tally, Call::CheckTable { table });
+    try_write(rng, tally, table);
     if let Verdict::Yes { card, .. } = verdict {
         try_play(rng, tally, &game, card);
         let mut card = oracle::card_words(card);
@@ -348,6 +449,7 @@ fn try_damaged(rng: &mut Rng, tally: &mut Tally, table: &[u32]) {
         gen::damage(rng, &mut damaged);
     }
     try_solve(rng, tally, &damaged);
+    try_check(rng, tally, Call::CheckTable { table: &damaged });
     try_judge(rng, tally, &damaged, 1);
     try_call(rng, tally, Call::Rewrite { table: &damaged, out: table.len() });
     let card = gen::card(rng, 2, 2, 2);
@@ -357,7 +459,7 @@ fn try_damaged(rng: &mut Rng, tally: &mut Tally, table: &[u32]) {
 #[test]
 fn stations_of_document_01() {
     let mut rng = Rng::new(seed(), 0);
-    for row in stations::stations().into_iter().chain(stations::refusals()).chain(stations::runs()) {
+    for row in stations::rows() {
         for _ in 0..10 {
             compare(&mut rng, &row.call, &row.outcome);
         }
@@ -366,7 +468,7 @@ fn stations_of_document_01() {
 
 /// All tables of one and two states with one or two actions and observations, those that are refused
 /// for an empty start or a state that shows nothing among them; on each, every mask, k, cell and
-/// observation, and one beyond, and every short run.
+/// observation, and one beyond, and every short run; and their fields written.
 #[test]
 fn all_small_tables() {
     for (n, a, o) in [(1, 1, 1), (1, 1, 2), (1, 2, 1), (1, 2, 2), (2, 1, 1), (2, 1, 2), (2, 2, 1), (2, 2, 2)] {
@@ -385,7 +487,35 @@ fn all_small_tables() {
         tally.must_have(&[5, 6, 7, 8, 9, 12, 17]);
         // With one observation every state shows it, and it can always occur.
         tally.runs.must_have(if o == 1 { &[12, 15] } else { &[12, 14, 15] });
+        tally.checks.must_have_tables(&[0, 6, 7]);
+        tally.checks.must_have_writes(&[0, 5, 6, 7, 10, 11]);
+        assert!(tally.checks.card[0] > 0);
     }
+}
+
+/// The game's fields with every room about the length, with one state from n up in each mask, and with
+/// a state in the first and the last unused slots.
+fn try_fields(rng: &Rng, tally: &mut Tally, game: &Game) {
+    let rng = &mut rng.clone();
+    let fields = oracle::fields_of(game);
+    let length = oracle::table_length(game.n, game.a, game.o);
+    for out in [0, length - 1, length, length + 1] {
+        try_call(rng, tally, Call::Write { fields: &fields, out });
+    }
+    let used = game.a * game.n;
+    let shown = (0..=game.o).chain([7]).map(|slot| 2 + slot);
+    let moved = (0..=used).chain([95]).map(|slot| 10 + slot);
+    for mask in [0, 1].into_iter().chain(shown).chain(moved) {
+        let mut changed = fields.clone();
+        *masks(&mut changed).nth(mask).expect("there are 106 masks") |= 1 << game.n;
+        try_call(rng, tally, Call::Write { fields: &changed, out: length });
+    }
+}
+
+/// Start, bad, and all slots.
+fn masks(fields: &mut Fields) -> impl Iterator<Item = &mut u32> {
+    let Fields { start, bad, observations, moves, .. } = fields;
+    [start, bad].into_iter().chain(observations).chain(moves)
 }
 
 /// Every entry with every small number on one small table.
@@ -401,6 +531,8 @@ fn try_whole(rng: &mut Rng, tally: &mut Tally, game: &Game) {
     for out in [0, table.len() - 1, table.len(), table.len() + 1] {
         try_call(rng, tally, Call::Rewrite { table: &table, out });
     }
+    try_check(rng, tally, Call::CheckTable { table: &table });
+    try_fields(rng, tally, game);
     let Ok((_, verdict)) = decided else {
         return;
     };
@@ -412,6 +544,7 @@ fn try_whole(rng: &mut Rng, tally: &mut Tally, game: &Game) {
 
 fn try_whole_card(rng: &mut Rng, tally: &mut Tally, game: &Game, table: &[u32], card: &[u32], cells: u32) {
     assert!(lasts_played(game, &mut ArchiveRunner { card }, 4), "{game:?}");
+    try_check(rng, tally, Call::CheckCard { card });
     for observation in 0..=game.o as u32 {
         try_call(rng, tally, Call::Open { card, observation });
         for cell in (0..=cells).chain([NO_CELL]) {
@@ -458,6 +591,7 @@ fn random_tables_up_to_six_states() {
     let tally = random_tables("random tables up to 6 states", count(1), 1, 6);
     tally.must_have_of(count(1), &[1, 2, 3, 4, 5, 6, 7, 8, 9, 10, 12, 13, 14, 16, 17]);
     tally.must_have_runs_of(count(1));
+    tally.must_have_checks_of(count(1));
 }
 
 /// The largest games known to us: long counters and wide rings, with every entry.
@@ -490,6 +624,7 @@ fn every_single_damage_to_the_stations() {
     for table in tables {
         for damaged in all_damages(table) {
             try_solve(&mut rng, &mut tally, &damaged);
+            try_check(&rng, &mut tally, Call::CheckTable { table: &damaged });
             try_call(&mut rng, &mut tally, Call::Judge { table: &damaged, mask: 1, k: 2 });
             try_call(&mut rng, &mut tally, Call::Rewrite { table: &damaged, out: table.len() });
             try_call(&mut rng, &mut tally, Call::Show { table: &damaged, card: &stations::A_CARD, cell: 1 });
@@ -499,6 +634,7 @@ fn every_single_damage_to_the_stations() {
         [(&stations::A, &stations::A_CARD), (&stations::C, &stations::C_CARD), (&stations::F, &stations::F_CARD)];
     for (table, card) in cards {
         for damaged in all_damages(card) {
+            try_check(&rng, &mut tally, Call::CheckCard { card: &damaged });
             for observation in 0..2 {
                 try_call(&mut rng, &mut tally, Call::Open { card: &damaged, observation });
                 try_call(&mut rng, &mut tally, Call::Step { card: &damaged, cell: observation, observation: 0 });
@@ -510,6 +646,31 @@ fn every_single_damage_to_the_stations() {
     tally.report("every single damage", 11);
     tally.must_have(&[1, 2, 3, 4, 5, 6, 7, 13, 14, 16]);
     tally.runs.must_have_all();
+    tally.checks.must_have_tables(&[0, 1, 2, 3, 4, 5, 6, 7]);
+    tally.checks.must_have_cards();
+}
+
+/// Every bit of every number, mask and slot of the stations' fields flipped, with exact and no room.
+#[test]
+fn every_single_damage_to_the_fields() {
+    let mut rng = Rng::new(seed(), 9);
+    let mut tally = Tally::default();
+    for table in [&stations::A[..], &stations::B, &stations::C, &stations::D, &stations::E, &stations::TWELVE] {
+        let fields = oracle::read_fields(table).expect("the table is accepted");
+        for (place, bit) in (0..3 + 106).flat_map(|place| (0..32).map(move |bit| (place, bit))) {
+            let mut changed = fields.clone();
+            let Fields { n, a, o, .. } = &mut changed;
+            match place {
+                0..=2 => *[n, a, o][place] ^= 1 << bit,
+                _ => *masks(&mut changed).nth(place - 3).expect("there are 106 masks") ^= 1 << bit,
+            }
+            for out in [table.len(), 0] {
+                try_call(&mut rng, &mut tally, Call::Write { fields: &changed, out });
+            }
+        }
+    }
+    tally.checks.report("every single damage to fields");
+    tally.checks.must_have_writes(&[0, 2, 5, 6, 7, 10, 11]);
 }
 
 fn all_damages(words: &[u32]) -> Vec<Vec<u32>> {
@@ -552,6 +713,9 @@ fn random_cards() {
     tally.report("random cards", cards);
     tally.must_have_of(cards, &[12, 13, 14, 16]);
     tally.must_have_runs_of(cards);
+    if cards >= ENOUGH {
+        tally.checks.must_have_cards();
+    }
 }
 
 /// A run of some observations, each step from the cell that the last one entered.
@@ -589,11 +753,13 @@ fn cards_at_the_limits() {
     let mut over = gen::card(&mut rng, 4096, 2, 1);
     over[0] += 1;
     over.extend([0xA000_0000, 0xB000_0000]);
+    try_check(&rng, &mut tally, Call::CheckCard { card: &over });
     try_call(&mut rng, &mut tally, Call::Open { card: &over, observation: 0 });
     try_all_runs(&rng, &mut tally, &over, 1);
     tally.report("cards at the limits", 4);
     tally.must_have(&[12, 13, 14]);
     tally.runs.must_have(&[12, 13, 15]);
+    tally.checks.must_have_cards();
 }
 
 /// The list with another observation in one place.
@@ -673,6 +839,8 @@ fn tables_at_the_limits() {
     }
     tally.report("tables at the limits", 8 * 6 * 6);
     tally.must_have(&[2, 3, 8]);
+    tally.checks.must_have_tables(&[0, 2, 3]);
+    tally.checks.must_have_writes(&[0, 2, 10]);
 }
 
 fn try_size(rng: &mut Rng, tally: &mut Tally, n: usize, a: usize, o: usize) {
@@ -685,12 +853,37 @@ fn try_size(rng: &mut Rng, tally: &mut Tally, n: usize, a: usize, o: usize) {
         true => oracle::table_words(&game),
         false => vec![0x1000_0000 | (o as u32) << 16 | (a as u32) << 8 | n as u32; 3 + o + a * n],
     };
-    try_solve(rng, tally, &table);
+    try_sized(rng, tally, &game, table.len());
+    let mut both = |table: &[u32]| {
+        try_solve(rng, tally, table);
+        try_check(rng, tally, Call::CheckTable { table });
+    };
+    both(&table);
     table.push(table[table.len() - 1]);
-    try_solve(rng, tally, &table);
+    both(&table);
     table.truncate(table.len() - 2);
-    try_solve(rng, tally, &table);
+    both(&table);
     try_call(rng, tally, Call::Judge { table: &table, mask: 0, k: 0 });
+}
+
+/// Fields of these numbers, with the slots that there are filled, and numbers that are far too large.
+fn try_sized(rng: &Rng, tally: &mut Tally, game: &Game, length: usize) {
+    let rng = &mut rng.clone();
+    let mut fields = Fields { n: game.n as u32, a: game.a as u32, o: game.o as u32, ..stations::A_FIELDS };
+    (fields.start, fields.bad) = (1, 0);
+    let states = (1u32 << game.n.min(16)) - 1;
+    fields.observations = [0, 1, 2, 3, 4, 5, 6, 7].map(|slot| if slot < game.o { states } else { 0 });
+    let used = game.a * game.n;
+    (0..96).for_each(|slot| fields.moves[slot] = u32::from(slot < used));
+    for out in [0, length.saturating_sub(1), length, length + 1] {
+        try_call(rng, tally, Call::Write { fields: &fields, out });
+    }
+    for number in 0..3 {
+        let mut large = fields.clone();
+        let Fields { n, a, o, .. } = &mut large;
+        *[n, a, o][number] |= 1 << rng.within(8, 31);
+        try_call(rng, tally, Call::Write { fields: &large, out: length });
+    }
 }
 
 /// Join and meet of all short lists of width 1 and 2, masks from n up among them, with every room.
@@ -781,4 +974,22 @@ fn long_lists() {
         }
     }
     tally.report("long lists", 4);
+}
+
+/// The figure is enough for these functions, with a margin of a quarter or more, and not twice what is
+/// needed.
+fn stack_fits<'a>(most: impl Iterator<Item = &'a usize>, figure: usize) {
+    let deepest = most.max().expect("there are functions");
+    assert!(deepest * 5 / 4 <= figure && figure <= deepest * 2, "{deepest} bytes were used, and {figure} are said");
+}
+
+/// The figures of the crate in `rust/`; its tests hold the header's to them.
+#[test]
+fn stack_as_it_is_said() {
+    let most = stack::measure(&mut Rng::new(seed(), 8));
+    report(&format!("stack in bytes: {most:?}"));
+    assert_eq!(most.len(), 12, "a function was not measured");
+    stack_fits(most.values(), kirdanzug::STACK_BYTES);
+    let running = ["check_card", "open", "step", "run", "show"];
+    stack_fits(running.iter().map(|name| &most[format!("kirdanzug_{name}").as_str()]), kirdanzug::RUN_STACK_BYTES);
 }

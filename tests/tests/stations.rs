@@ -28,11 +28,15 @@ fn oracle_gives_the_runs() {
 }
 
 #[test]
+fn oracle_gives_the_checks() {
+    check(stations::checks());
+}
+
+#[test]
 fn every_number_has_a_row() {
-    let rows = stations::refusals();
-    let numbers: Vec<u64> = rows.iter().map(|row| &row.outcome.answer).filter(|x| x[0] == 2).map(|x| x[1]).collect();
-    // 11 is the write's alone.
-    for number in (1..=17).filter(|&number| number != 11) {
+    let answers = stations::rows().map(|row| row.outcome.answer);
+    let numbers: Vec<u64> = answers.filter(|answer| answer[0] == 2).map(|answer| answer[1]).collect();
+    for number in 1..=17 {
         assert!(numbers.contains(&number), "{number} has no row");
     }
 }
@@ -70,6 +74,7 @@ fn only_the_empty_set_is_good() {
 #[test]
 fn writing_fields() {
     let fields = oracle::read_fields(&stations::A).unwrap();
+    assert_eq!(fields, stations::A_FIELDS);
     let refused = |number, place| Err(Refusal { number, place });
     let write = |change: &dyn Fn(&mut oracle::Fields), room| {
         let mut changed = fields.clone();
@@ -103,8 +108,7 @@ fn fast_models_give_the_stations() {
 fn fast_model_gives_the_stations(search: Search) {
     let mut solver = fast::Solver::new(search);
     let mut judge = fast::Judge::new();
-    let rows = stations::stations().into_iter().chain(stations::refusals()).chain(stations::runs());
-    for Row { name, call, outcome } in rows {
+    for Row { name, call, outcome } in stations::rows() {
         let mut out = vec![0; 64];
         let found = match call {
             Call::Solve { table, work, card } => {
@@ -121,7 +125,12 @@ fn fast_model_gives_the_stations(search: Search) {
             Call::Step { card, cell, observation } => moved(fast::step(card, cell, observation)),
             Call::Run { card, observations, out: room } => answer(fast::run(card, observations, &mut out[..room])),
             Call::Drive { card, observations } => moved(fast::drive(card, observations)),
-            Call::Rewrite { .. } | Call::Show { .. } => continue,
+            // The benchmark has none of these.
+            Call::Rewrite { .. }
+            | Call::CheckTable { .. }
+            | Call::CheckCard { .. }
+            | Call::Write { .. }
+            | Call::Show { .. } => continue,
         };
         assert_eq!(found, outcome.answer, "{name}");
         assert_eq!(out[..outcome.written.len()], outcome.written, "{name}");

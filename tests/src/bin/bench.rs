@@ -2,8 +2,8 @@
 //! The ratio is that of the proved solver to the better of the two independent searches (boundary);
 //! what the other (flat) takes stands beside them.
 //!
-//! `cargo run --release --bin bench [PLOT.svg]` prints a table of medians and ratios and writes a
-//! plot of time against n (docs/benchmark.svg unless named). Both sides read the table's words, write
+//! `cargo run --release --bin bench` prints a table of medians and ratios, and with a file named behind
+//! it (`bench PLOT.svg`) also writes a plot of time against n there. Both sides read the table's words, write
 //! the card and zero the lent work words, as document 01 says. Buffers are not cleared before a call.
 //! Both sides check a card once in a run, in a step and in each move of a runner.
 //! Answers are compared before anything is timed. What is measured is the
@@ -325,10 +325,7 @@ fn print_row(name: &str, (medians, what): &(Medians, String)) {
 }
 
 fn main() {
-    let plot = std::env::args().nth(1).map_or_else(
-        || PathBuf::from(env!("CARGO_MANIFEST_DIR")).join("../docs/benchmark.svg"),
-        PathBuf::from,
-    );
+    let plot = std::env::args().nth(1).map(PathBuf::from);
     println!("Median of {SAMPLES} measurements, per call; ratio is Rattle over Rust. Seed {}.\n", seed());
     print_head();
     let mut ratios = Vec::new();
@@ -343,7 +340,10 @@ fn main() {
     println!("\nMedian ratio of the solve rows: {:.2}\n", median(ratios));
     print_head();
     let curves = growth();
-    write_plot(&plot, &curves);
+    match plot {
+        Some(path) => write_plot(&path, &curves),
+        None => println!("\nNo plot was asked for: `cargo run --release --bin bench PLOT.svg` writes one."),
+    }
 }
 
 fn print_lists() {

@@ -1,0 +1,58 @@
+//! A table as fields.
+
+use crate::{Action, Observation, State, StateSet, MOVE_SLOTS, SHOWN_SLOTS};
+
+/// What a table says, to be written as words by [`write`](crate::write). Slots that are not used
+/// must stay empty.
+#[derive(Clone, PartialEq, Eq, Debug)]
+pub struct Fields {
+    /// The number of states.
+    pub states: u32,
+    /// The number of actions.
+    pub actions: u32,
+    /// The number of observations.
+    pub observations: u32,
+    /// The states to begin in.
+    pub start: StateSet,
+    /// The bad states.
+    pub bad: StateSet,
+    /// For each observation the states that show it.
+    pub shown: [StateSet; SHOWN_SLOTS],
+    /// At action · states + state, the successors; none where the action is blocked.
+    pub moves: [StateSet; MOVE_SLOTS],
+}
+
+impl Fields {
+    /// A station of so many states, actions and observations, with all sets empty: every action is
+    /// blocked, and no state shows anything.
+    pub fn new(states: u32, actions: u32, observations: u32) -> Fields {
+        Fields {
+            states,
+            actions,
+            observations,
+            start: StateSet::EMPTY,
+            bad: StateSet::EMPTY,
+            shown: [StateSet::EMPTY; SHOWN_SLOTS],
+            moves: [StateSet::EMPTY; MOVE_SLOTS],
+        }
+    }
+
+    /// These states show the observation.
+    ///
+    /// # Panics
+    /// Where the station has no such observation.
+    pub fn set_shown(&mut self, observation: Observation, states: &[State]) {
+        assert!(observation.0 < self.observations, "there is no observation {observation}");
+        self.shown[observation.0 as usize] = StateSet::of(states);
+    }
+
+    /// The action leads from the state to one of these.
+    ///
+    /// # Panics
+    /// Where the station has no such action or state.
+    pub fn set_move(&mut self, action: Action, state: State, successors: &[State]) {
+        assert!(action.0 < self.actions, "there is no action {action}");
+        assert!(state.0 < self.states, "there is no state {state}");
+        self.moves[(action.0 * self.states + state.0) as usize] = StateSet::of(successors);
+    }
+}
