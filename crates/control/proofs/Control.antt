@@ -14,7 +14,7 @@ use Rattle.control.specs.Control.{Controlled}
 module _ (w work d : List ℕ) (r : Answer) (e : List ℕ) where
   -- on solve's promise
   pub promise-controls : Promise w work d r e → Controlled w r e
-  promise-controls P t m yes = kept-controls (game w) (written w m e) (P .yes-card t m yes)
+  promise-controls P settled m is = kept-controls (game w) (written w m e) (P .yes-card settled m is)
 
   -- and on what it does
   pub solved-controls : (left : List ℕ) → leaves r (buffers left e) ≡ solved w work d → Controlled w r e
