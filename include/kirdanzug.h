@@ -1,7 +1,8 @@
 /* Kirdanzug: safety games of imperfect information, decided, with the controller written down.
  *
  * The functions of the proved archive libabi.a (x86-64, System V calls). docs/FORMAT.md has the game
- * and the words of tables and cards, docs/LIBRARY.md whole callers.
+ * and the words of tables and cards, docs/LIBRARY.md whole callers. An observation is what the bench
+ * calls a reading.
  *
  * Every function fills the three words of `answer`:
  *   0, x, y           done; x and y are said at each function

@@ -2,8 +2,9 @@
 //! a card, and the card run. Every function calls one of the proved archive (`libabi.a`, x86-64),
 //! which the build script finds and links.
 //!
-//! docs/FORMAT.md has the game and the words of tables and cards, docs/LIBRARY.md a whole caller. The
-//! functions lend buffers and allocate nothing; the crate needs no standard library.
+//! docs/FORMAT.md has the game and the words of tables and cards, docs/LIBRARY.md a whole caller. An
+//! observation is what the bench calls a reading. The functions lend buffers and allocate nothing; the
+//! crate needs no standard library.
 //!
 //! Numbers of states, actions, observations and cells have types of their own. A step takes a cell,
 //! then an observation:

@@ -4,16 +4,16 @@ use mathlib.Core.Path.{_≡_, sym, ap, subst, _∙_}
 use mathlib.Core.Logic.{_⊎_, inl, inr, ⊎-elim}
 use mathlib.Core.Bool.{Bool, true, false, not, _&&_, _||_}
 use mathlib.Core.List.{List}
-use Prim.Native.Nat.{ℕ, suc, _+_, _*_, _-_, _%_, _≤_, _<_}
-use native.Mathlib.Nat.{suc-mul, mul-le-mul-right, mul-mod-left, mul-add-mod-self-right, mod-eq-of-lt}
+use Prim.Native.Nat.{ℕ, suc, _+_, _*_, _-_, _≤_, _<_}
+use native.Mathlib.Nat.{suc-mul, mul-le-mul-right}
 use native.Mathlib.Numerals.{add-one}
 use native.Mathlib.Omega.{arith}
 use lib.Dec.{eqb, ltb}
 use lib.ListN.{length, getD}
-use borrow.Author.Tests.{eq-eqb, ne-eqb, lt-ltb, le-ltb, eqb-true, ltb-true, ltb-false, not-false}
+use borrow.Author.Tests.{eq-eqb, ne-eqb, eqb-true, ltb-true, ltb-false, not-false}
 use Rattle.sets.specs.Bounded.{Found, first, atFound}
-use Rattle.sets.proofs.Logic.{decided, and-left, and-right, or-cases, true-not, false-not}
-use Rattle.sets.proofs.Bounded.{first-is, first-none, first-nothing}
+use Rattle.sets.proofs.Logic.{decided, and-left, and-right, or-cases}
+use Rattle.sets.proofs.Bounded.{first-nothing}
 use Rattle.games.specs.Format.{within, maxActions, maxObservations, maxSets, maxCells, kindFirst, kindCell, kindNext}
 use Rattle.games.specs.Automaton.{noCell}
 use Rattle.games.specs.Fields.{lowField, numberField, actionField, word}
@@ -21,24 +21,32 @@ use Rattle.games.specs.Words.{frontLength, partLength, cardLength, cardHead}
 use Rattle.games.specs.declared.Checked.the-variants.{Fine, Refused}
 use Rattle.games.proofs.Answers.{never, cond-passed, found-none}
 use Rattle.games.proofs.Limits.{within-low, within-high}
-use Rattle.cards.specs.Card.{headPlace, firstPlace, cellPlace, nextPlace, cardCells, cardObservations, cardActions, automaton, Fitting}
-use Rattle.cards.specs.Card.{headFits, cellNamed, cellFits, partFits, wordFits, wordsChecked, checked}
+use Rattle.cards.specs.Card.{headPlace, firstPlace, cellPlace, nextPlace, Spot, atHead, atFirst, atCell, atNext, spotAt}
+use Rattle.cards.specs.Card.{cardCells, cardObservations, cardActions, automaton, Fitting}
+use Rattle.cards.specs.Card.{headFits, cellNamed, cellFits, fitsAt, wordFits, wordsChecked, checked}
+use Rattle.cards.proofs.Spots.{spot-head, spot-first, spot-cell, spot-next, pass-stop, pass-all, pass-on}
 use Rattle.cards.specs.Checking.{Shaped, FitsBelow, names, RightNames}
 
--- the word at a place, by where the place lies
-pub word-head : (w : List ℕ) (p : ℕ) → p ≡ 0 → wordFits w p ≡ headFits (getD w p 0)
+-- the word at a place, by what stands there
+at-spot : (w : List ℕ) (p : ℕ) (x : Spot) → spotAt (cardObservations w) p ≡ x → wordFits w p ≡ fitsAt w x (getD w p 0)
 unfolding wordFits
-word-head w p e = rw (wordFits, eq-eqb p 0 e)
+at-spot w p x e = ap (λ (y : Spot). fitsAt w y (getD w p 0)) e
 
-module _ (w : List ℕ) (p : ℕ) (n : p ≡ 0 → ⊥) where
-  pub word-first : p < frontLength (cardObservations w) → wordFits w p ≡ cellNamed kindFirst (cardCells w) (p - 1) (getD w p 0)
-  unfolding wordFits
-  word-first l = rw (wordFits, ne-eqb p 0 n, lt-ltb p (frontLength (cardObservations w)) l)
+pub word-head : (w : List ℕ) (p : ℕ) → p ≡ 0 → wordFits w p ≡ headFits (getD w p 0)
+word-head w p e = at-spot w p atHead (spot-head (cardObservations w) p e)
 
-  pub word-part : frontLength (cardObservations w) ≤ p
-      → wordFits w p ≡ partFits (cardCells w) (cardActions w) (cardObservations w) (p - frontLength (cardObservations w)) (getD w p 0)
-  unfolding wordFits
-  word-part l = rw (wordFits, ne-eqb p 0 n, le-ltb p (frontLength (cardObservations w)) l)
+module _ (w : List ℕ) where
+  abbrev o : ℕ
+  o = cardObservations w
+
+  pub word-begins : (j : ℕ) → j < o → wordFits w (firstPlace j) ≡ cellNamed kindFirst (cardCells w) j (getD w (firstPlace j) 0)
+  word-begins j l = at-spot w (firstPlace j) (atFirst j) (spot-first o j l)
+
+  pub word-cell : (c : ℕ) → wordFits w (cellPlace o c) ≡ cellFits (cardActions w) (getD w (cellPlace o c) 0)
+  word-cell c = at-spot w (cellPlace o c) (atCell c) (spot-cell o c)
+
+  pub word-next : (c j : ℕ) → j < o → wordFits w (nextPlace o c j) ≡ cellNamed kindNext (cardCells w) j (getD w (nextPlace o c j) 0)
+  word-next c j l = at-spot w (nextPlace o c j) (atNext c j) (spot-next o c j l)
 
 pub named-told : (k m j x low y : ℕ) → low ≡ lowField x → y ≡ word k low j 0 → (eqb x y && (ltb low m || eqb low noCell)) ≡ cellNamed k m j x
 unfolding cellNamed
@@ -55,28 +63,16 @@ pub head-told : (x low number action y : ℕ) (p q r : Bool) → low ≡ lowFiel
 unfolding headFits
 head-told x low number action y p q r e h g f i j k = rw (i, j, k, f, e, h, g)
 
--- the parts of a cell, by their number
-module _ (m a o i x : ℕ) where
-  pub part-cell : i % partLength o ≡ 0 → partFits m a o i x ≡ cellFits a x
-  unfolding partFits
-  part-cell e = rw (partFits, eq-eqb (i % partLength o) 0 e)
-
-  pub part-next : (i % partLength o ≡ 0 → ⊥) → partFits m a o i x ≡ cellNamed kindNext m (i % partLength o - 1) x
-  unfolding partFits
-  part-next n = rw (partFits, ne-eqb (i % partLength o) 0 n)
-
 -- ---- the check goes through the words in order
 
 module _ (w : List ℕ) where
   pub stopped : (p : ℕ) → FitsBelow w p → p < length w → wordFits w p ≡ false → wordsChecked w ≡ Refused 13 p
   unfolding wordsChecked
-  stopped p h l e =
-      ap (λ (f : Found). atFound f (Refused 13) Fine)
-      (first-is (length w) (λ q. not (wordFits w q)) p l (false-not e) (λ q k. true-not (h .right q k)))
+  stopped p h l e = ap (λ (f : Found). atFound f (Refused 13) Fine) (pass-stop (wordFits w) (length w) p h l e)
 
   pub fits-all : FitsBelow w (length w) → wordsChecked w ≡ Fine
   unfolding wordsChecked
-  fits-all h = ap (λ (f : Found). atFound f (Refused 13) Fine) (first-none (length w) (λ q. not (wordFits w q)) (λ q l. true-not (h .right q l)))
+  fits-all h = ap (λ (f : Found). atFound f (Refused 13) Fine) (pass-all (wordFits w) (length w) h)
 
   -- a head that fits
   pub fits-head : Shaped w → FitsBelow w 1
@@ -86,25 +82,11 @@ module _ (w : List ℕ) where
         right = λ q l. let z : q ≡ 0 = omega arith in word-head w q z ∙ ap (λ (i : ℕ). headFits (getD w i 0)) z ∙ s .head;
       }
 
-  -- r words more
-  pub fits-on : (p r : ℕ) → FitsBelow w p → p + r ≤ length w → ((i : ℕ) → i < r → wordFits w (p + i) ≡ true) → FitsBelow w (p + r)
-  fits-on p r h room more =
-      record {
-        within = room;
-        right = λ q l.
-            ⊎-elim (λ b. h .right q (ltb-true q p b))
-            (λ b.
-            let k : p ≤ q = ltb-false q p b in
-            let e : p + (q - p) ≡ q = omega arith in
-            subst (λ (i : ℕ). wordFits w i ≡ true) e (more (q - p) (omega arith)))
-            (decided (ltb q p));
-      }
-
   -- n first or next words, from a place on: all right, or the first wrong one stops the check
   module _ (k at n r : ℕ) (same : (j : ℕ) → j < n → wordFits w (at + j) ≡ names w k at j) (enough : at + n ≤ length w)
       (below : FitsBelow w at) (found : RightNames w k at n r) where
     fits-found : FitsBelow w (at + r)
-    fits-found = fits-on at r below (omega (arith, found .most)) (λ i l. same i (omega (arith, found .most)) ∙ found .right i l)
+    fits-found = pass-on (wordFits w) (length w) at r below (omega (arith, found .most)) (λ i l. same i (omega (arith, found .most)) ∙ found .right i l)
 
     pub names-stop : r < n → wordsChecked w ≡ Refused 13 (at + r)
     names-stop l = stopped (at + r) fits-found (omega arith) (same r l ∙ found .wrong l)
@@ -208,48 +190,6 @@ headed x e =
       actions = within-high (actionField x) maxActions (f .3);
     }
 
--- the places of a cell's words, counted behind the front
-over : (front i : ℕ) → front + i - front ≡ i
-over front i = omega arith
-
-pub cell-turn : (o c : ℕ) → c * partLength o % partLength o ≡ 0
-cell-turn o c = mul-mod-left c (partLength o)
-
-pub next-turn : (o c j : ℕ) → j < o → (c * partLength o + (1 + j)) % partLength o ≡ 1 + j
-next-turn o c j l = mul-add-mod-self-right c (partLength o) (1 + j) ∙ mod-eq-of-lt (omega arith)
-
--- the word at each place that has a meaning
-module _ (w : List ℕ) where
-  abbrev o : ℕ
-  o = cardObservations w
-
-  pub word-begins : (j : ℕ) → j < o → wordFits w (firstPlace j) ≡ cellNamed kindFirst (cardCells w) j (getD w (firstPlace j) 0)
-  word-begins j l =
-      word-first w (firstPlace j) (λ e. omega arith) (omega arith)
-      ∙ ap (λ (i : ℕ). cellNamed kindFirst (cardCells w) i (getD w (firstPlace j) 0)) (let e : firstPlace j - 1 ≡ j = omega arith in e)
-
-  behind : (i : ℕ) → wordFits w (frontLength o + i) ≡ partFits (cardCells w) (cardActions w) o i (getD w (frontLength o + i) 0)
-  behind i =
-      word-part w (frontLength o + i) (λ e. omega arith) (omega arith)
-      ∙ ap (λ (k : ℕ). partFits (cardCells w) (cardActions w) o k (getD w (frontLength o + i) 0)) (over (frontLength o) i)
-
-  pub word-cell : (c : ℕ) → wordFits w (cellPlace o c) ≡ cellFits (cardActions w) (getD w (cellPlace o c) 0)
-  word-cell c = behind (c * partLength o) ∙ part-cell _ _ _ _ _ (cell-turn o c)
-
-  next-place : (c j : ℕ) → frontLength o + (c * partLength o + (1 + j)) ≡ nextPlace o c j
-  next-place c j = omega arith
-
-  pub word-next : (c j : ℕ) → j < o → wordFits w (nextPlace o c j) ≡ cellNamed kindNext (cardCells w) j (getD w (nextPlace o c j) 0)
-  word-next c j l =
-      let i = c * partLength o + (1 + j) in
-      let t : i % partLength o ≡ 1 + j = next-turn o c j l in
-      let k : i % partLength o - 1 ≡ j = omega arith in
-      let x = getD w (frontLength o + i) 0 in
-      subst (λ (p : ℕ). wordFits w p ≡ cellNamed kindNext (cardCells w) j (getD w p 0)) (next-place c j)
-      (behind i
-      ∙ part-next (cardCells w) (cardActions w) o i x (λ e. omega arith)
-      ∙ ap (λ (n : ℕ). cellNamed kindNext (cardCells w) n x) k)
-
 -- the places of a card lie in it
 module _ (m o : ℕ) where
   -- a cell's part lies in it
@@ -303,7 +243,7 @@ module _ (w : List ℕ) (s : Shaped w) where
       module _ (own : cellFits (cardActions w) (getD w p 0) ≡ true) (r : ℕ) (found : RightNames w kindNext (p + 1) seen r) where
         behind-own : FitsBelow w (p + 1)
         behind-own =
-            fits-on w p 1 here (omega (arith, part-in))
+            pass-on (wordFits w) (length w) p 1 here (omega (arith, part-in))
             (λ i k. let e : p ≡ p + i = omega arith in subst (λ (q : ℕ). wordFits w q ≡ true) e (own-fits ∙ own))
 
         pub nexts-stop : r < seen → wordsChecked w ≡ Refused 13 (p + 1 + r)

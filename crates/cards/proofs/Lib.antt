@@ -1,3 +1,4 @@
+pub mod Spots
 pub mod Checked
 pub mod Running
 pub mod Written

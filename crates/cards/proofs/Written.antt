@@ -4,15 +4,14 @@ use mathlib.Core.Path.{_≡_, refl, sym, ap, subst, _∙_}
 use mathlib.Core.Logic.{_⊎_, ⊎-elim}
 use mathlib.Core.Bool.{true, _||_}
 use mathlib.Core.List.{List, [], _∷_, _++_}
-use Prim.Native.Nat.{ℕ, zero, suc, _+_, _*_, _-_, _/_, _%_, _≤_, _<_}
-use native.Mathlib.Nat.{div-add-mod', mod-lt, div-lt-iff-lt-mul}
+use Prim.Native.Nat.{ℕ, suc, _+_, _*_, _-_, _≤_, _<_}
 use native.Mathlib.Omega.{arith}
 use lib.Dec.{eqb, ltb}
 use lib.ListN.{length, getD, length-append, List·getD-append}
 use lib.Seq.{getD-append-add}
-use borrow.Author.Tests.{eq-eqb, lt-ltb, ltb-true, ltb-false}
+use borrow.Author.Tests.{eq-eqb, lt-ltb}
 use Rattle.sets.specs.Bounded.{gather}
-use Rattle.sets.proofs.Logic.{decided, and-intro, or-left, or-right}
+use Rattle.sets.proofs.Logic.{and-intro, or-left, or-right}
 use Rattle.games.specs.Format.{within, maxActions, maxObservations, maxSets, maxCells, lowValues, numberValues, actionValues, kindCard, kindFirst, kindCell, kindNext}
 use Rattle.games.specs.Automaton.{Automaton, noCell}
 use Rattle.games.specs.Fields.{lowField, numberField, actionField, word}
@@ -21,6 +20,7 @@ use Rattle.games.proofs.Limits.{within-limit}
 use Rattle.games.specs.declared.Checked.the-variants.{Fine}
 use Rattle.cards.specs.Card.{headPlace, firstPlace, cellPlace, nextPlace, cardCells, cardObservations, cardActions, automaton, headFits, cellNamed, cellFits, wordFits, checked, Named, Fitting}
 use Rattle.sets.proofs.Fills.{gather-length, gather-at, length-values, getD-values}
+use Rattle.cards.proofs.Spots.{every-place}
 use Rattle.cards.proofs.Checked.{word-head, word-begins, word-cell, word-next, only-words, fits-all}
 use Rattle.cards.proofs.Running.{size-of, set-of, action-of, begins-of, next-of}
 
@@ -175,32 +175,10 @@ module _ (A : Automaton) (a o : ℕ) (F : Fitting A a o) where
       ∙ ap (λ (m : ℕ). cellNamed kindNext m j (word kindNext (A .next c j) j 0)) written-cells
       ∙ named-right kindNext (A .size) j (A .next c j) (cell-small (A .next c j) (F .next-named c j l k)) (omega (arith, F .observations)) (F .next-named c j l k)
 
-  -- every place is one of these
-  place-right : (p c r : ℕ) → p ≡ cellPlace o c + r → c < A .size → r < partLength o → wordFits (cardWords A a o) p ≡ true
-  place-right p c zero e l k = ap (wordFits (cardWords A a o)) (let f : p ≡ cellPlace o c = omega arith in f) ∙ cell-word c l
-  place-right p c (suc j) e l k = ap (wordFits (cardWords A a o)) (let f : p ≡ nextPlace o c j = omega arith in f) ∙ next-word c j l (omega arith)
-
-  later-right : (i : ℕ) → i < A .size * partLength o → wordFits (cardWords A a o) (frontLength o + i) ≡ true
-  later-right i l =
-      let c = i / partLength o in
-      let r = i % partLength o in
-      place-right (frontLength o + i) c r
-      (let d : c * partLength o + r ≡ i = div-add-mod' i (partLength o) in omega arith)
-      (div-lt-iff-lt-mul {k = partLength o} {x = i} {y = A .size} (omega arith) .1 l)
-      (mod-lt i {m = partLength o} (omega arith))
-
-  early-right : (p : ℕ) → p < frontLength o → wordFits (cardWords A a o) p ≡ true
-  early-right zero l = word-head (cardWords A a o) 0 refl ∙ head-word
-  early-right (suc j) l = ap (wordFits (cardWords A a o)) (let f : suc j ≡ firstPlace j = omega arith in f) ∙ first-word j (omega arith)
-
   pub every-word : (p : ℕ) → p < length (cardWords A a o) → wordFits (cardWords A a o) p ≡ true
   every-word p l =
-      ⊎-elim (λ e. early-right p (ltb-true p (frontLength o) e))
-      (λ e.
-      let k : frontLength o ≤ p = ltb-false p (frontLength o) e in
-      ap (wordFits (cardWords A a o)) (let f : p ≡ frontLength o + (p - frontLength o) = omega arith in f)
-      ∙ later-right (p - frontLength o) (omega (arith, card-long A a o)))
-      (decided (ltb p (frontLength o)))
+      every-place (A .size) o (λ q. wordFits (cardWords A a o) q ≡ true) (word-head (cardWords A a o) 0 refl ∙ head-word) first-word cell-word next-word p
+      (omega (arith, card-long A a o))
 
   pub written-checked : checked (cardWords A a o) ≡ Fine
   written-checked =

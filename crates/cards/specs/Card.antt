@@ -4,7 +4,7 @@ use mathlib.Core.Path.{_≡_}
 use mathlib.Core.Logic.{_⊎_}
 use mathlib.Core.Bool.{Bool, cond, not, _&&_, _||_}
 use mathlib.Core.List.{List}
-use Prim.Native.Nat.{ℕ, _+_, _-_, _%_, _≤_, _<_}
+use Prim.Native.Nat.{ℕ, _+_, _-_, _/_, _%_, _≤_, _<_}
 use lib.Dec.{eqb, ltb}
 use lib.ListN.{length, getD}
 use Rattle.sets.specs.Bounded.{first, atFound}
@@ -27,6 +27,24 @@ cellPlace o c = cardLength c o
 
 abbrev pub nextPlace : (o c j : ℕ) → ℕ
 nextPlace o c j = cellPlace o c + 1 + j
+
+-- what stands at a place: the head, a first word, a cell's own word, a next word
+pub data Spot : Type 0 where
+  atHead : Spot
+  atFirst : (observation : ℕ) → Spot
+  atCell : (cell : ℕ) → Spot
+  atNext : (cell observation : ℕ) → Spot
+
+-- word number i behind the front: each cell has a part, its own word and then its next words
+unfoldable pub partSpot : (o i : ℕ) → Spot
+partSpot o i =
+    let c = i / partLength o in
+    let r = i % partLength o in
+    cond (eqb r 0) (atCell c) (atNext c (r - 1))
+
+-- place p: the head, then a first word for each observation, then the words of the cells
+unfoldable pub spotAt : (o p : ℕ) → Spot
+spotAt o p = cond (eqb p headPlace) atHead (cond (ltb p (frontLength o)) (atFirst (p - 1)) (partSpot o (p - frontLength o)))
 
 -- the numbers of the head: cells, observations and actions
 abbrev pub cardCells : List ℕ → ℕ
@@ -66,21 +84,15 @@ cellNamed k m j x = eqb x (word k (lowField x) j 0) && (ltb (lowField x) m || eq
 unfoldable pub cellFits : (a : ℕ) → ℕ → Bool
 cellFits a x = eqb x (word kindCell (lowField x) 0 (actionField x)) && ltb (lowField x) maxSets && ltb (actionField x) a
 
--- the word number i behind the front of a card for m cells, a actions and o observations: each cell has a part, its own word and
--- then its next words
-unfoldable pub partFits : (m a o i : ℕ) → ℕ → Bool
-partFits m a o i x =
-    let part = i % partLength o in
-    cond (eqb part 0) (cellFits a x) (cellNamed kindNext m (part - 1) x)
+-- the word is right for where it stands
+abbrev pub fitsAt : List ℕ → Spot → ℕ → Bool
+fitsAt w atHead x = headFits x
+fitsAt w (atFirst j) x = cellNamed kindFirst (cardCells w) j x
+fitsAt w (atCell c) x = cellFits (cardActions w) x
+fitsAt w (atNext c j) x = cellNamed kindNext (cardCells w) j x
 
--- the word at place p is right: the head, then a first word for each observation, then the words of the cells
 unfoldable pub wordFits : List ℕ → ℕ → Bool
-wordFits w p =
-    let o = cardObservations w in
-    let x = getD w p 0 in
-    cond (eqb p headPlace) (headFits x)
-    (cond (ltb p (frontLength o)) (cellNamed kindFirst (cardCells w) (p - 1) x)
-    (partFits (cardCells w) (cardActions w) o (p - frontLength o) x))
+wordFits w p = fitsAt w (spotAt (cardObservations w) p) (getD w p 0)
 
 -- the lowest wrong word stops the check
 unfoldable pub wordsChecked : List ℕ → Checked

@@ -13,10 +13,14 @@ pub record Shaped (w : List ℕ) : Type 0 where
   pub head : headFits (getD w headPlace 0) ≡ true
   pub long : length w ≡ cardLength (cardCells w) (cardObservations w)
 
+-- of n places, those below p pass the test
+pub record Pass (test : ℕ → Bool) (n p : ℕ) : Type 0 where
+  pub within : p ≤ n
+  pub right : (q : ℕ) → q < p → test q ≡ true
+
 -- the words below place p are right
-pub record FitsBelow (w : List ℕ) (p : ℕ) : Type 0 where
-  pub within : p ≤ length w
-  pub right : (q : ℕ) → q < p → wordFits w q ≡ true
+abbrev pub FitsBelow : List ℕ → ℕ → Type 0
+FitsBelow w p = Pass (wordFits w) (length w) p
 
 -- the word at place `at` + j is a first or next word (the kind says which) for observation j
 abbrev pub names : List ℕ → (kind at j : ℕ) → Bool

@@ -1,21 +1,37 @@
--- The card that solve wrote with a yes, held by a runner, is never refused on a play of its table under the actions that it gives.
+-- The card that solve wrote with a yes, held by a runner, is never refused on a play of its table under the actions that it gives; and
+-- it is certified against its table.
 -- Assumes nothing.
-use mathlib.Core.Path.{_≡_}
+use mathlib.Core.Path.{_≡_, sym, subst}
 use mathlib.Core.List.{List}
 use Prim.Native.Nat.{ℕ}
 use Rattle.games.specs.Answers.{leaves}
+use Rattle.games.specs.Automaton.{card}
 use Rattle.games.specs.Words.{game}
+use Rattle.games.specs.declared.Checked.the-variants.{Fine}
+use Rattle.tables.proofs.Checks.{accepted}
 use Rattle.runner.proofs.Control.{kept-controls}
+use Rattle.certificates.specs.Certificate.{certified}
+use Rattle.certificates.proofs.Written.{written-certified}
+use Rattle.certificates.proofs.Settled.{card-conditions}
 use Rattle.solver.specs.Solve.{buffers, solved, written, Promise}
 use Rattle.solver.specs.declared.Answer.{Answer}
-use Rattle.solver.proofs.Promises.{promised}
-use Rattle.control.specs.Control.{Controlled}
+use Rattle.solver.proofs.Promises.{card-fits, promised, yes-given}
+use Rattle.control.specs.Control.{Controlled, Certified}
 
 module _ (w work d : List ℕ) (r : Answer) (e : List ℕ) where
   -- on solve's promise
   pub promise-controls : Promise w work d r e → Controlled w r e
   promise-controls P settled m is = kept-controls (game w) (written w m e) (P .yes-card settled m is)
 
-  -- and on what it does
-  pub solved-controls : (left : List ℕ) → leaves r (buffers left e) ≡ solved w work d → Controlled w r e
-  solved-controls left is = promise-controls (promised w work d r e left is)
+  module _ (left : List ℕ) (is : leaves r (buffers left e) ≡ solved w work d) where
+    -- and on what it does
+    pub solved-controls : Controlled w r e
+    solved-controls = promise-controls (promised w work d r e left is)
+
+    pub solved-certified : Certified w r e
+    unfolding card
+    solved-certified settled m says =
+        let y = yes-given w work d r e settled m left is says in
+        let F = card-fits w (y .fine) in
+        subst (λ (k : List ℕ). certified w k ≡ Fine) (sym (y .front))
+        (written-certified w (y .fine) (card (game w)) F (card-conditions (game w) (accepted w (y .fine)) (F .cells) (y .won)))

@@ -130,7 +130,7 @@ module _ (g : Game) (A : Accepted g) where
   unfolding cells settled antichain
   cell-settled c l = let w = mem-maximal (g .states) (settled g) (getD (cells g) c 0) (at-mem (cells g) c l) in (w .0, w .1)
 
-  cell-step : (c : ℕ) → c < length (cells g) → step g (settled g) (getD (cells g) c 0) ≡ true
+  pub cell-step : (c : ℕ) → c < length (cells g) → step g (settled g) (getD (cells g) c 0) ≡ true
   cell-step c l = let w = cell-settled c l in sym (settled-step g A (getD (cells g) c 0) (w .0)) ∙ w .1
 
   next-held : (c i i′ o : ℕ) → c < length (cells g) → member (getD (cells g) c 0) i ≡ true → member (g .successors (chosen g (getD (cells g) c 0)) i) i′ ≡ true → Shows g i′ o → Held (cells g) (after g (getD (cells g) c 0) (chosen g (getD (cells g) c 0)) o) i′

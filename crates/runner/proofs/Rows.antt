@@ -7,7 +7,7 @@ use lib.ListN.{set}
 use Rattle.sets.specs.Bounded.{first, gather}
 use Rattle.games.specs.Answers.{Leaves, leaves}
 use Rattle.games.specs.Stations.{cardA, cardC}
-use Rattle.cards.specs.Card.{automaton, headFits, cellNamed, cellFits, partFits, wordFits, wordsChecked, checked}
+use Rattle.cards.specs.Card.{automaton, headFits, cellNamed, cellFits, partSpot, spotAt, wordFits, wordsChecked, checked}
 use Rattle.cards.specs.Run.{entered, enters, begun, followed, opened, stepped, moved, ranFrom, ran, asCell, stands}
 use Rattle.cards.specs.declared.Stood.{Stood}
 use Rattle.cards.specs.declared.Move.{Move}
@@ -57,7 +57,7 @@ rows =
     ∷ []
 
 pub every-row : Rows rows
-unfolding rows ranInto writes ranUpTo standing standingFrom ran ranFrom moved opened stepped begun followed enters automaton checked wordsChecked wordFits headFits cellNamed cellFits partFits first gather
+unfolding rows ranInto writes ranUpTo standing standingFrom ran ranFrom moved opened stepped begun followed enters automaton checked wordsChecked wordFits headFits cellNamed cellFits partSpot spotAt first gather
 every-row =
     row refl refl (row refl refl (row refl refl (row refl refl (row refl refl (row refl refl
     (row refl refl (row refl refl (row refl refl (row refl refl (row refl refl none))))))))))

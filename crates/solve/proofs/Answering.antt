@@ -18,10 +18,9 @@ use Rattle.solver.specs.declared.Answer.{Answer}
 use Rattle.solver.specs.declared.Answer.the-variants.{Yes, No, Refused}
 use Rattle.solver.proofs.Answer.{the-type}
 use Rattle.text.specs.Text.{Wrote}
-use Rattle.text.proofs.Writing.{wrote-then}
-use Rattle.printout.specs.Lines.{yesLine, cardText, noLine, refusedLine, answerText, lineBytes}
+use Rattle.printout.specs.Lines.{yesLine, cardText, noLine, refusedLine, answerText}
 use Rattle.solve.specs.Bytes.{wordsOf}
-use Rattle.solve.specs.Program.{inputBytes, bufferWords, blank, textBytes, cardIn, tableText, programText, Counts}
+use Rattle.solve.specs.Program.{inputBytes, bufferWords, blank, cardIn, tableText, programText, Counts}
 use Rattle.solve.specs.declared.Input.{Input}
 use Rattle.solve.specs.declared.Input.the-variants.{Bytes}
 

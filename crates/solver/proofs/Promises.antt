@@ -3,7 +3,7 @@
 use mathlib.Core.Path.{_≡_, sym, ap, _∙_, subst}
 use mathlib.Core.Logic.{_⊎_, inl, inr, ⊎-elim}
 use mathlib.Core.Bool.{true}
-use mathlib.Core.List.{List}
+use mathlib.Core.List.{List, _++_}
 use Prim.Native.Nat.{ℕ, _≤_, _<_}
 use native.Mathlib.Omega.{arith}
 use lib.Pow.{pow-pos}
@@ -73,7 +73,7 @@ settled-empty g A = good-empty g A (settling g)
 
 module _ (w : List ℕ) (fine : checked w ≡ Fine) where
   -- the card fits its words
-  card-fits : Fitting (card (game w)) (game w .actions) (game w .observations)
+  pub card-fits : Fitting (card (game w)) (game w .actions) (game w .observations)
   unfolding card chosen
   card-fits =
       let g = game w in
@@ -137,6 +137,12 @@ module _ (w work d : List ℕ) (r : Answer) (e : List ℕ) where
         no-round = λ k y. no-not-refused k n p (sym y ∙ is);
       }
 
+  -- the card stands in front of its room
+  written-front : (t m : ℕ) → verdict (game w) ≡ Yes t m → e ≡ cardOf (game w) ++ drop (cardLength m (game w .observations)) d → written w m e ≡ cardOf (game w)
+  written-front t m v words =
+      let need = cardLength m (game w .observations) in
+      ap (take need) words ∙ take-at (cardOf (game w)) (drop need d) need (card-size w m (cells-told (game w) t m v))
+
   promise : Ending w work d r e → Promise w work d r e
   promise (stopped {n} {p} c is) = refused-promise n p is (λ room. fine-not-stopped (checked w) n p (room .fine) c)
   promise (no-work fine short is) = refused-promise 8 _ is (λ room. omega (arith, room .enough))
@@ -164,8 +170,7 @@ module _ (w work d : List ℕ) (r : Answer) (e : List ℕ) where
   promise (granted {t} {m} room v fits is words) =
       let g = game w in
       let D = decides g (accepted w (room .fine)) in
-      let need = cardLength m (g .observations) in
-      let front : written w m e ≡ cardOf g = ap (take need) words ∙ take-at (cardOf g) (drop need d) need (card-size w m (cells-told g t m v)) in
+      let front = written-front t m v words in
       let same : (t′ m′ : ℕ) → r ≡ SaysYes t′ m′ → cardOf g ≡ written w m′ e =
       λ t′ m′ y. let s : SaysYes t m ≡ SaysYes t′ m′ = sym is ∙ y in let k : m ≡ m′ = cc in sym front ∙ ap (λ (n : ℕ). written w n e) k in
       record {
@@ -179,15 +184,22 @@ module _ (w work d : List ℕ) (r : Answer) (e : List ℕ) where
   pub promised : (left : List ℕ) → leaves r (buffers left e) ≡ solved w work d → Promise w work d r e
   promised left is = promise (ends w work d r e left is)
 
-  -- a yes comes of an accepted table, and there was room for its card
-  yes-ending : (t m : ℕ) → r ≡ SaysYes t m → Ending w work d r e → (checked w ≡ Fine) × (cardLength m (game w .observations) ≤ length d)
+  -- what a yes with m cells comes of: an accepted table whose start sets are settled, and room for the card, which was written
+  pub record Given (m : ℕ) : Type 0 where
+    pub fine : checked w ≡ Fine
+    pub won : startsIn (game w) (settled (game w)) ≡ true
+    pub fits : cardLength m (game w .observations) ≤ length d
+    pub front : written w m e ≡ cardOf (game w)
+
+  yes-ending : (t m : ℕ) → r ≡ SaysYes t m → Ending w work d r e → Given m
   yes-ending t m y (stopped {n} {p} c is) = yes-not-refused t m n p (sym y ∙ is)
   yes-ending t m y (no-work fine short is) = yes-not-refused t m 8 _ (sym y ∙ is)
   yes-ending t m y (lost {k} room v is) = yes-not-no t m k (sym y ∙ is)
   yes-ending t m y (no-card room v short is) = yes-not-refused t m 9 _ (sym y ∙ is)
   yes-ending t m y (granted {t = u} {m = n} room v fits is words) =
-      let s : SaysYes t m ≡ SaysYes u n = sym y ∙ is in
-      (room .fine, subst (λ (k : ℕ). cardLength k (game w .observations) ≤ length d) (cc) fits)
+      let s : SaysYes u n ≡ SaysYes t m = sym is ∙ y in
+      subst Given (cc)
+      (record { fine = room .fine; won = yes-starts (game w) u n v; fits = fits; front = written-front u n v words })
 
-  pub yes-fits : (t m : ℕ) (left : List ℕ) → leaves r (buffers left e) ≡ solved w work d → r ≡ SaysYes t m → (checked w ≡ Fine) × (cardLength m (game w .observations) ≤ length d)
-  yes-fits t m left is y = yes-ending t m y (ends w work d r e left is)
+  pub yes-given : (t m : ℕ) (left : List ℕ) → leaves r (buffers left e) ≡ solved w work d → r ≡ SaysYes t m → Given m
+  yes-given t m left is y = yes-ending t m y (ends w work d r e left is)

@@ -10,12 +10,11 @@ use lib.Seq.{length-take-le}
 use Rattle.games.specs.Answers.{leaves}
 use Rattle.games.specs.Words.{game, cardLength}
 use Rattle.games.specs.declared.Checked.the-variants.{Fine}
-use Rattle.tables.specs.Check.{checked}
 use Rattle.tables.proofs.Bounds.{few-observations}
 use Rattle.tables.proofs.Checks.{sized}
 use Rattle.cards.specs.Card.{checked as cardChecked}
 use Rattle.solver.specs.Solve.{buffers, solved, written}
-use Rattle.solver.proofs.Promises.{yes-fits}
+use Rattle.solver.proofs.Promises.{Given, yes-given}
 use Rattle.text.proofs.Writing.{wrote-then}
 use Rattle.printout.specs.Lines.{yesLine, cardText}
 use Rattle.solve.specs.Program.{bufferWords}
@@ -41,12 +40,11 @@ abbrev cells : tie.After-answer → ℕ
 cells a = a .answer .given .0 .1 .0
 
 yes : (a : tie.After-answer)
-    → (checked (entry (solving a) .args .table .now) ≡ Fine)
-    × (cardLength (cells a) (game (entry (solving a) .args .table .now) .observations) ≤ length (entry (solving a) .args .card .now))
+    → let x = entry (solving a) .args in
+    Given (x .table .now) (x .work .now) (x .card .now) (solving a .solve .result) (solving a .solve .last .1 .1 .0) (cells a)
 yes a =
-    let x = entry (solving a) .args in
     let s = solving a .solve in
-    yes-fits (x .table .now) (x .work .now) (x .card .now) (s .result) (s .last .1 .1 .0) (a .answer .given .0 .0) (cells a) (s .last .1 .0) (determined (solving a)) (a .answer .given .1)
+    yes-given _ _ _ (s .result) (s .last .1 .1 .0) (a .answer .given .0 .0) (cells a) (s .last .1 .0) (determined (solving a)) (a .answer .given .1)
 
 -- ---- its card, seen where its length is known
 
@@ -64,7 +62,7 @@ is-long : (l : tie.After-card-length) → l .card-length .result ≡ cardLength 
 is-long l = l .card-length .ensures ∙ ap (cardLength (cells (accepted l))) (l .before .observations .ensures)
 
 inside : (l : tie.After-card-length) → l .card-length .result ≤ length (room l)
-inside l = omega (arith, is-long l, yes (accepted l) .1, solving (accepted l) .solve .kept .1 .1 .0)
+inside l = omega (arith, is-long l, yes (accepted l) .fits, solving (accepted l) .solve .kept .1 .1 .0)
 
 counts : (l : tie.After-card-length) → length (words l) ≡ l .card-length .result
 counts l = length-take-le (l .card-length .result) (room l) (inside l)
@@ -99,14 +97,14 @@ returns-3 c =
     (wrote-same (no-text _ _ _ _ _ _ (determined s) _ (a .answer2 .given .1)) (put .ensures .0), omega (arith, put .ensures .1))
 
 observations-requires : tie.Need-observations-requires
-observations-requires c κs = let a = c .before in sized (entry (solving a) .args .table .now) (yes a .0)
+observations-requires c κs = let a = c .before in sized (entry (solving a) .args .table .now) (yes a .fine)
 
 card-length-requires : tie.Need-card-length-requires
 card-length-requires c κs =
     let a = c .before .before in
     let start = entry (solving a) in
     let w = start .args .table .now in
-    card-fits (cells a) (game w .observations) (c .observations .result) _ (c .observations .ensures) (few-observations w (sized w (yes a .0))) (start .pre) (yes a .1)
+    card-fits (cells a) (game w .observations) (c .observations .result) _ (c .observations .ensures) (few-observations w (sized w (yes a .fine))) (start .pre) (yes a .fits)
 
 put-card-requires : tie.Need-put-card-requires
 put-card-requires c κs =

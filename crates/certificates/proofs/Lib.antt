@@ -1,0 +1,4 @@
+pub mod Certified
+pub mod Written
+pub mod Settled
+pub mod Rows

@@ -1,0 +1,54 @@
+-- A card as a certificate (document 02, change 1): four conditions on its words, each of which is about one word, say that it is safe
+-- for a game.
+-- Assumes nothing.
+use mathlib.Core.Bool.{Bool, true, cond, not, _&&_}
+use mathlib.Core.List.{List}
+use Prim.Native.Nat.{ℕ, _^_}
+use lib.Dec.{eqb, ltb}
+use lib.ListN.{length}
+use Rattle.sets.specs.Mask.{subset}
+use Rattle.sets.specs.Bounded.{first, atFound}
+use Rattle.games.specs.Answers.{unless}
+use Rattle.games.specs.Game.{Game}
+use Rattle.games.specs.Step.{safe, enabledAt, after}
+use Rattle.games.specs.Verdict.{startSet}
+use Rattle.games.specs.Automaton.{Automaton, noCell}
+use Rattle.games.specs.Words.{game}
+use Rattle.games.specs.declared.Checked.{Checked}
+use Rattle.games.specs.declared.Checked.the-variants.{Fine, Refused}
+use Rattle.cards.specs.Card.{Spot, atHead, atFirst, atCell, atNext, spotAt, cardObservations, automaton}
+use Rattle.pairs.specs.Pair.{checked}
+
+-- the states of s lie in the set of the cell named; there are none where the word says "cannot occur"
+unfoldable pub lies : Automaton → (s cell : ℕ) → Bool
+lies A s c = cond (eqb c noCell) (eqb s 0) (subset s (A .set c))
+
+-- the start states showing the observation lie in the first cell named
+unfoldable pub firstHolds : Game → Automaton → (observation : ℕ) → Bool
+firstHolds g A j = lies A (startSet g j) (A .begins j)
+
+-- the cell's set has no state from n up and no bad one, and the action is enabled at all its members
+unfoldable pub cellHolds : Game → Automaton → (cell : ℕ) → Bool
+cellHolds g A c = ltb (A .set c) (2 ^ g .states) && safe g (A .set c) && enabledAt g (A .set c) (A .action c)
+
+-- the successors of the cell's set showing the observation lie in the next cell named
+unfoldable pub nextHolds : Game → Automaton → (cell observation : ℕ) → Bool
+nextHolds g A c j = lies A (after g (A .set c) (A .action c) j) (A .next c j)
+
+-- the condition on a word, by where it stands
+abbrev pub holdsAt : Game → Automaton → Spot → Bool
+holdsAt g A atHead = true
+holdsAt g A (atFirst j) = firstHolds g A j
+holdsAt g A (atCell c) = cellHolds g A c
+holdsAt g A (atNext c j) = nextHolds g A c j
+
+unfoldable pub wordHolds : Game → (card : List ℕ) → (place : ℕ) → Bool
+wordHolds g k p = holdsAt g (automaton k) (spotAt (cardObservations k) p)
+
+-- the lowest word at fault
+unfoldable pub wordsCertified : Game → (card : List ℕ) → Checked
+wordsCertified g k = atFound (first (length k) (λ p. not (wordHolds g k p))) (Refused 18) Fine
+
+-- the table checks, 13, 16, 18
+unfoldable pub certified : (table card : List ℕ) → Checked
+certified w k = unless (checked w k) Refused (wordsCertified (game w) k)
