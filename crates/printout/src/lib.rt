@@ -4,12 +4,13 @@ use games::Cell;
 use games::Checked;
 use games::Observation;
 ghost use mathlib.Core.Path.{_≡_};
+ghost use mathlib.Core.List.{_++_};
 ghost use Prim.Native.Nat.{_+_, _*_, _≤_, _<_};
 ghost use lib.ListN.{length};
 ghost use Rattle.games.specs.Words.{partLength};
 ghost use Rattle.cards.specs.Card.{cardCells, cardObservations, checked};
 ghost use Rattle.text.specs.Text.{room, Wrote};
-ghost use Rattle.printout.specs.Lines.{field, cellField, yesLine, firstLine, cellLine, nextLine, noLine, refusedLine};
+ghost use Rattle.printout.specs.Lines.{newline, field, cellField, yesLine, firstLine, cellLine, nextLine, noLine, refusedLine};
 ghost use Rattle.printout.specs.Lines.{frontText, ownText, partText, cardText, unreadLine, unwrittenLine, fieldBytes, lineBytes};
 
 // The most bytes of a field: a space and the digits of a 64-bit number.
@@ -47,15 +48,24 @@ fn put_cell_field(out: &mut [u8], at: usize, cell: Cell) -> usize
     }
 }
 
+// A line of a word and two numbers.
+fn put_numbers(out: &mut [u8], at: usize, word: &[u8], x: u64, y: u64) -> usize
+    requires { ⌜ (length (now word) ≤ 7) × (at + lineBytes < room) ⌝ }
+    ensures { λ r. ⌜ Wrote (now (word .entry) ++ field x ++ field y ++ newline) at (now (out .entry)) r (now (out .exit))
+        × (r ≤ at + lineBytes) ⌝ }
+{
+    let next = text::put_bytes(out, at, word);
+    let next = put_field(out, next, x);
+    let next = put_field(out, next, y);
+    text::put(out, next, NEWLINE)
+}
+
 // The line of a yes: the settling count and the cells.
 pub fn put_yes(out: &mut [u8], at: usize, settled: u32, cells: u32) -> usize
     requires { ⌜ at + lineBytes < room ⌝ }
     ensures { λ r. ⌜ Wrote (yesLine settled cells) at (now (out .entry)) r (now (out .exit)) × (r ≤ at + lineBytes) ⌝ }
 {
-    let next = text::put_bytes(out, at, b"yes");
-    let next = put_field(out, next, settled as u64);
-    let next = put_field(out, next, cells as u64);
-    text::put(out, next, NEWLINE)
+    put_numbers(out, at, b"yes", settled as u64, cells as u64)
 }
 
 // The line of a no: the round number.
@@ -73,10 +83,7 @@ pub fn put_refused(out: &mut [u8], at: usize, number: u32, place: usize) -> usiz
     requires { ⌜ at + lineBytes < room ⌝ }
     ensures { λ r. ⌜ Wrote (refusedLine number place) at (now (out .entry)) r (now (out .exit)) × (r ≤ at + lineBytes) ⌝ }
 {
-    let next = text::put_bytes(out, at, b"refused");
-    let next = put_field(out, next, number as u64);
-    let next = put_field(out, next, place as u64);
-    text::put(out, next, NEWLINE)
+    put_numbers(out, at, b"refused", number as u64, place as u64)
 }
 
 // The line of an observation's first cell.
