@@ -10,9 +10,9 @@ use native.Mathlib.Numerals.{add-one}
 use native.Mathlib.Omega.{arith}
 use lib.Dec.{eqb, ltb}
 use lib.ListN.{length, getD}
-use borrow.Author.Tests.{eq-eqb, ne-eqb, eqb-true, ltb-true, ltb-false, not-false}
+use borrow.Author.Tests.{eq-eqb, ne-eqb, eqb-true, ltb-true, not-false}
 use Rattle.sets.specs.Bounded.{Found, first, atFound}
-use Rattle.sets.proofs.Logic.{decided, and-left, and-right, or-cases}
+use Rattle.sets.proofs.Logic.{and-left, and-right, or-cases}
 use Rattle.sets.proofs.Bounded.{first-nothing}
 use Rattle.games.specs.Format.{within, maxActions, maxObservations, maxSets, maxCells, kindFirst, kindCell, kindNext}
 use Rattle.games.specs.Automaton.{noCell}
@@ -24,7 +24,8 @@ use Rattle.games.proofs.Limits.{within-low, within-high}
 use Rattle.cards.specs.Card.{headPlace, firstPlace, cellPlace, nextPlace, Spot, atHead, atFirst, atCell, atNext, spotAt}
 use Rattle.cards.specs.Card.{cardCells, cardObservations, cardActions, automaton, Fitting}
 use Rattle.cards.specs.Card.{headFits, cellNamed, cellFits, fitsAt, wordFits, wordsChecked, checked}
-use Rattle.cards.proofs.Spots.{spot-head, spot-first, spot-cell, spot-next, pass-stop, pass-all, pass-on}
+use Rattle.cards.proofs.Spots.{spot-head, spot-first, spot-cell, spot-next}
+use Rattle.cards.proofs.Passing.{pass-stop, pass-all, pass-on, row-stop, row-pass}
 use Rattle.cards.specs.Checking.{Shaped, FitsBelow, names, RightNames}
 
 -- the word at a place, by what stands there
@@ -82,38 +83,12 @@ module _ (w : List ℕ) where
         right = λ q l. let z : q ≡ 0 = omega arith in word-head w q z ∙ ap (λ (i : ℕ). headFits (getD w i 0)) z ∙ s .head;
       }
 
-  -- n first or next words, from a place on: all right, or the first wrong one stops the check
-  module _ (k at n r : ℕ) (same : (j : ℕ) → j < n → wordFits w (at + j) ≡ names w k at j) (enough : at + n ≤ length w)
-      (below : FitsBelow w at) (found : RightNames w k at n r) where
-    fits-found : FitsBelow w (at + r)
-    fits-found = pass-on (wordFits w) (length w) at r below (omega (arith, found .most)) (λ i l. same i (omega (arith, found .most)) ∙ found .right i l)
-
-    pub names-stop : r < n → wordsChecked w ≡ Refused 13 (at + r)
-    names-stop l = stopped (at + r) fits-found (omega arith) (same r l ∙ found .wrong l)
-
-    pub names-fit : n ≤ r → FitsBelow w (at + n)
-    names-fit l = let e : r ≡ n = omega (arith, found .most) in subst (λ (i : ℕ). FitsBelow w (at + i)) e fits-found
-
--- the loop over these words: those below j are right
-pub record NamesBelow (w : List ℕ) (k at n j : ℕ) : Type 0 where
-  pub within : j ≤ n
-  pub right : (i : ℕ) → i < j → names w k at i ≡ true
-
-module _ (w : List ℕ) (k at n : ℕ) where
-  pub names-none : NamesBelow w k at n 0
-  names-none = record { within = omega arith; right = λ i l. absurd (omega arith) }
-
-  pub names-more : (j : ℕ) → NamesBelow w k at n j → j < n → names w k at j ≡ true → NamesBelow w k at n (j + 1)
-  names-more j h l e =
-      record {
-        within = omega arith;
-        right = λ i b.
-            ⊎-elim (λ t. h .right i (ltb-true i j t)) (λ f. let g : j ≡ i = omega (arith, ltb-false i j f) in subst (λ (m : ℕ). names w k at m ≡ true) g e)
-            (decided (ltb i j));
-      }
-
-  pub names-end : (j : ℕ) → NamesBelow w k at n j → (j < n → names w k at j ≡ false) → RightNames w k at n j
-  names-end j h e = record { most = h .within; right = h .right; wrong = e }
+  -- n first or next words, from a place on: the first wrong one stops the check
+  names-stop : (k at n r : ℕ) → ((j : ℕ) → j < n → wordFits w (at + j) ≡ names w k at j) → at + n ≤ length w → FitsBelow w at
+      → RightNames w k at n r → r < n → wordsChecked w ≡ Refused 13 (at + r)
+  unfolding wordsChecked
+  names-stop k at n r same enough below ended l =
+      ap (λ (f : Found). atFound f (Refused 13) Fine) (row-stop (wordFits w) (length w) (names w k at) at n r same enough below ended l)
 
 -- the head, the length, and then the words
 pub no-word : (w : List ℕ) → length w ≡ 0 → checked w ≡ Refused 13 0
@@ -220,7 +195,7 @@ module _ (w : List ℕ) (s : Shaped w) where
     firsts-stop = names-stop w kindFirst 1 seen r (word-begins w) firsts-in (fits-head w s) found
 
     pub firsts-fit : seen ≤ r → FitsBelow w (frontLength seen)
-    firsts-fit = names-fit w kindFirst 1 seen r (word-begins w) firsts-in (fits-head w s) found
+    firsts-fit = row-pass (wordFits w) (length w) (names w kindFirst 1) 1 seen r (word-begins w) firsts-in (fits-head w s) found
 
   -- the part of cell c, at place p
   module _ (c p : ℕ) (l : c < cardCells w) (g : p ≡ cellPlace seen c) where
@@ -252,7 +227,7 @@ module _ (w : List ℕ) (s : Shaped w) where
         pub nexts-fit : seen ≤ r → FitsBelow w (cellPlace seen (c + 1))
         nexts-fit k =
             let e : p + 1 + seen ≡ cellPlace seen (c + 1) = omega (arith, suc-mul c (partLength seen), ap (λ (n : ℕ). n * partLength seen) (add-one c)) in
-            subst (FitsBelow w) e (names-fit w kindNext (p + 1) seen r next-fits (omega (arith, part-in)) behind-own found k)
+            subst (FitsBelow w) e (row-pass (wordFits w) (length w) (names w kindNext (p + 1)) (p + 1) seen r next-fits (omega (arith, part-in)) behind-own found k)
 
 -- what right words say
 pub named : (k m j x : ℕ) → cellNamed k m j x ≡ true → (lowField x < m) ⊎ (lowField x ≡ noCell)

@@ -1,4 +1,5 @@
 pub mod Spots
+pub mod Passing
 pub mod Checked
 pub mod Running
 pub mod Written

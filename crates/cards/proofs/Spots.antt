@@ -1,19 +1,15 @@
--- What stands at each place of a card, and a test of the places in their order.
+-- What stands at each place of a card.
 -- Assumes nothing.
 use mathlib.Core.Path.{_≡_, ap, subst, _∙_}
 use mathlib.Core.Logic.{⊎-elim}
-use mathlib.Core.Bool.{Bool, true, false, not}
 use Prim.Native.Nat.{ℕ, zero, suc, _+_, _*_, _-_, _/_, _%_, _≤_, _<_}
 use native.Mathlib.Nat.{mul-mod-left, mul-add-mod-self-right, mod-eq-of-lt, mul-div-cancel, mul-add-div-right, div-eq-of-lt, add-zero, div-add-mod', div-lt-iff-lt-mul, mod-lt}
 use native.Mathlib.Omega.{arith}
 use lib.Dec.{ltb}
 use borrow.Author.Tests.{eq-eqb, ne-eqb, lt-ltb, le-ltb, ltb-true, ltb-false}
-use Rattle.sets.specs.Bounded.{nothing, found, first}
-use Rattle.sets.proofs.Logic.{decided, true-not, false-not}
-use Rattle.sets.proofs.Bounded.{first-is, first-none}
+use Rattle.sets.proofs.Logic.{decided}
 use Rattle.games.specs.Words.{frontLength, partLength, cardLength}
 use Rattle.cards.specs.Card.{firstPlace, cellPlace, nextPlace, atHead, atFirst, atCell, atNext, partSpot, spotAt}
-use Rattle.cards.specs.Checking.{Pass}
 
 -- ---- the places
 
@@ -81,28 +77,3 @@ module _ (m o : ℕ) (P : ℕ → Type 0) (head : P 0) (firsts : (j : ℕ) → j
       let k : frontLength o ≤ p = ltb-false p (frontLength o) e in
       subst P (let f : frontLength o + (p - frontLength o) ≡ p = omega arith in f) (later (p - frontLength o) (omega arith)))
       (decided (ltb p (frontLength o)))
-
--- ---- a test of n places in their order
-
-module _ (test : ℕ → Bool) (n : ℕ) where
-  -- the first place that fails
-  pub pass-stop : (p : ℕ) → Pass test n p → p < n → test p ≡ false → first n (λ q. not (test q)) ≡ found p
-  pass-stop p h l e = first-is n (λ q. not (test q)) p l (false-not e) (λ q k. true-not (h .right q k))
-
-  -- none does
-  pub pass-all : Pass test n n → first n (λ q. not (test q)) ≡ nothing
-  pass-all h = first-none n (λ q. not (test q)) (λ q l. true-not (h .right q l))
-
-  -- r places more
-  pub pass-on : (p r : ℕ) → Pass test n p → p + r ≤ n → ((i : ℕ) → i < r → test (p + i) ≡ true) → Pass test n (p + r)
-  pass-on p r h room more =
-      record {
-        within = room;
-        right = λ q l.
-            ⊎-elim (λ b. h .right q (ltb-true q p b))
-            (λ b.
-            let k : p ≤ q = ltb-false q p b in
-            let e : p + (q - p) ≡ q = omega arith in
-            subst (λ (i : ℕ). test i ≡ true) e (more (q - p) (omega arith)))
-            (decided (ltb q p));
-      }

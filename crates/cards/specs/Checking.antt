@@ -26,8 +26,12 @@ FitsBelow w p = Pass (wordFits w) (length w) p
 abbrev pub names : List ℕ → (kind at j : ℕ) → Bool
 names w k at j = cellNamed k (cardCells w) j (getD w (at + j) 0)
 
--- of so many words from a place on, the first r are such, and the next is not, if there is one
-pub record RightNames (w : List ℕ) (kind at count r : ℕ) : Type 0 where
-  pub most : r ≤ count
-  pub right : (j : ℕ) → j < r → names w kind at j ≡ true
-  pub wrong : r < count → names w kind at r ≡ false
+-- of n tests in a row, the first r pass, and the next does not, if there is one
+pub record FirstWrong (test : ℕ → Bool) (n r : ℕ) : Type 0 where
+  pub most : r ≤ n
+  pub right : (j : ℕ) → j < r → test j ≡ true
+  pub wrong : r < n → test r ≡ false
+
+-- so many words from a place on are first or next words, up to word r
+abbrev pub RightNames : List ℕ → (kind at count r : ℕ) → Type 0
+RightNames w k at n r = FirstWrong (names w k at) n r

@@ -21,7 +21,8 @@ use Rattle.games.specs.declared.Checked.{Checked}
 use Rattle.games.specs.declared.Checked.the-variants.{Fine, Refused}
 use Rattle.tables.specs.Check.{checked as tableChecked}
 use Rattle.cards.specs.Card.{firstPlace, cellPlace, nextPlace, Spot, atHead, atFirst, atCell, atNext, spotAt, automaton, Named, Fitting}
-use Rattle.cards.proofs.Spots.{spot-head, spot-first, spot-cell, spot-next, every-place, pass-all}
+use Rattle.cards.proofs.Spots.{spot-head, spot-first, spot-cell, spot-next, every-place}
+use Rattle.cards.proofs.Passing.{pass-all}
 use Rattle.cards.proofs.Written.{Agree, card-long, written-checked, written-agrees, written-actions, written-observations}
 use Rattle.pairs.specs.Pair.{agree}
 use Rattle.pairs.proofs.Pairing.{fine-pair}

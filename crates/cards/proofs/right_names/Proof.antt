@@ -8,12 +8,13 @@ use borrow.Author.Tests.{not-true, not-false}
 use lib.ListN.{length, getD}
 use Rattle.cards.specs.Card.{cellNamed}
 use Rattle.cards.specs.Checking.{names}
-use Rattle.cards.proofs.Checked.{NamesBelow, names-none, names-more, names-end}
+use Rattle.cards.specs.Checking.{names, Pass}
+use Rattle.cards.proofs.Passing.{pass-none, pass-more, pass-end}
 use Rattle.cards.proofs.right_names.Statement.{statement}
 use Rattle.cards.proofs.right_names.Tie as tie
 
 abbrev Inv-loop : tie.InvT-loop
-Inv-loop card kind at count m j₀ j = NamesBelow card kind at count j
+Inv-loop card kind at count m j₀ j = Pass (names card kind at) count j
 
 abbrev μ-loop : tie.MeasureT-loop
 μ-loop card kind at count m j₀ j = count - j
@@ -41,17 +42,17 @@ right-names-spec =
     μ-loop
     (λ c. omega (arith, c .before .before .pre .0 .long))
     (λ c κs. search needs)
-    (λ c. names-none _ _ _ _)
+    (λ c. pass-none _ _)
     (λ c. search needs)
     (λ c. omega (arith, inside c))
     (λ c. omega (arith, inside c))
     (λ c. inside (c .before))
     (λ c κs. let asked = c .before .before .before .before .before .before .pre in (asked .1, omega (arith, c .before .loop-test .taken, asked .2)))
-    (λ c. let word = c .before in names-end _ _ _ _ _ (word .before .before .before .loop .inv) (λ l. told word ∙ not-true _ (c .if1 .taken)))
+    (λ c. let word = c .before in pass-end _ _ _ (word .before .before .before .loop .inv) (λ l. told word ∙ not-true _ (c .if1 .taken)))
     (λ c. let turn = c .before .before .before in omega (arith, turn .loop-test .taken))
     (λ c. let turn = c .before .before .before in omega (arith, turn .loop-test .taken))
     (λ c.
     let word = c .before in
     let turn = word .before .before in
-    names-more _ _ _ _ _ (turn .before .loop .inv) (turn .loop-test .taken) (told word ∙ not-false _ (c .if1 .left)))
-    (λ c. names-end _ _ _ _ _ (c .before .loop .inv) (λ l. absurd (omega (arith, c .loop-test .left)))))
+    pass-more _ _ _ (turn .before .loop .inv) (turn .loop-test .taken) (told word ∙ not-false _ (c .if1 .left)))
+    (λ c. pass-end _ _ _ (c .before .loop .inv) (λ l. absurd (omega (arith, c .loop-test .left)))))

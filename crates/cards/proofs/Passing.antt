@@ -1,0 +1,59 @@
+-- A test of n places in their order, for a loop over them and for a loop over a row of them.
+-- Assumes nothing.
+use mathlib.Core.Path.{_≡_, subst, _∙_}
+use mathlib.Core.Logic.{⊎-elim}
+use mathlib.Core.Bool.{Bool, true, false, not}
+use Prim.Native.Nat.{ℕ, _+_, _-_, _≤_, _<_}
+use native.Mathlib.Omega.{arith}
+use lib.Dec.{ltb}
+use borrow.Author.Tests.{ltb-true, ltb-false}
+use Rattle.sets.specs.Bounded.{nothing, found, first}
+use Rattle.sets.proofs.Logic.{decided, true-not, false-not}
+use Rattle.sets.proofs.Bounded.{first-is, first-none}
+use Rattle.cards.specs.Checking.{Pass, FirstWrong}
+
+module _ (test : ℕ → Bool) (n : ℕ) where
+  pub pass-none : Pass test n 0
+  pass-none = record { within = omega arith; right = λ i l. absurd (omega arith) }
+
+  -- r places more
+  pub pass-on : (p r : ℕ) → Pass test n p → p + r ≤ n → ((i : ℕ) → i < r → test (p + i) ≡ true) → Pass test n (p + r)
+  pass-on p r h room more =
+      record {
+        within = room;
+        right = λ q l.
+            ⊎-elim (λ b. h .right q (ltb-true q p b))
+            (λ b.
+            let k : p ≤ q = ltb-false q p b in
+            let e : p + (q - p) ≡ q = omega arith in
+            subst (λ (i : ℕ). test i ≡ true) e (more (q - p) (omega arith)))
+            (decided (ltb q p));
+      }
+
+  -- one more
+  pub pass-more : (p : ℕ) → Pass test n p → p < n → test p ≡ true → Pass test n (p + 1)
+  pass-more p h l e = pass-on p 1 h (omega arith) (λ i b. let z : p ≡ p + i = omega arith in subst (λ (q : ℕ). test q ≡ true) z e)
+
+  -- the loop ends
+  pub pass-end : (p : ℕ) → Pass test n p → (p < n → test p ≡ false) → FirstWrong test n p
+  pass-end p h e = record { most = h .within; right = h .right; wrong = e }
+
+  -- the first place that fails
+  pub pass-stop : (p : ℕ) → Pass test n p → p < n → test p ≡ false → first n (λ q. not (test q)) ≡ found p
+  pass-stop p h l e = first-is n (λ q. not (test q)) p l (false-not e) (λ q k. true-not (h .right q k))
+
+  -- none does
+  pub pass-all : Pass test n n → first n (λ q. not (test q)) ≡ nothing
+  pass-all h = first-none n (λ q. not (test q)) (λ q l. true-not (h .right q l))
+
+  -- a row of m places from `at` on, tested by another name: all pass, or the first wrong one is the first place that fails
+  module _ (row : ℕ → Bool) (at m r : ℕ) (same : (j : ℕ) → j < m → test (at + j) ≡ row j) (enough : at + m ≤ n)
+      (below : Pass test n at) (ended : FirstWrong row m r) where
+    row-passed : Pass test n (at + r)
+    row-passed = pass-on at r below (omega (arith, ended .most)) (λ i l. same i (omega (arith, ended .most)) ∙ ended .right i l)
+
+    pub row-stop : r < m → first n (λ q. not (test q)) ≡ found (at + r)
+    row-stop l = pass-stop (at + r) row-passed (omega arith) (same r l ∙ ended .wrong l)
+
+    pub row-pass : m ≤ r → Pass test n (at + m)
+    row-pass l = let e : r ≡ m = omega (arith, ended .most) in subst (λ (i : ℕ). Pass test n (at + i)) e row-passed
