@@ -34,7 +34,7 @@ use Rattle.pairs.specs.Pair.{checked, Paired}
 use Rattle.pairs.proofs.Pairing.{paired}
 use Rattle.runner.specs.Control.{Controls}
 use Rattle.runner.proofs.Control.{kept-controls}
-use Rattle.certificates.specs.Certificate.{lies, firstHolds, cellHolds, nextHolds, holdsAt, wordHolds, wordsCertified, certified}
+use Rattle.certificates.specs.Certificate.{lies, firstHolds, cellHolds, nextHolds, spotHolds, wordHolds, wordsCertified, certified}
 
 -- ---- a word's condition
 
@@ -80,9 +80,9 @@ module _ (w k : List ℕ) (fine : certified w k ≡ Fine) where
       let wrong : ℕ → Bool = λ q. not (wordHolds g k q) in
       not-false (wordHolds g k p) (first-nothing (length k) wrong (found-none (first (length k) wrong) (Refused 18) (λ i r. never 18 i r) (passed .1)) p l)
 
-  at-spot : (p : ℕ) (x : Spot) → p < length k → spotAt o p ≡ x → holdsAt g A x ≡ true
+  at-spot : (p : ℕ) (x : Spot) → p < length k → spotAt o p ≡ x → spotHolds g A x ≡ true
   unfolding wordHolds
-  at-spot p x l e = sym (ap (holdsAt g A) e) ∙ word p l
+  at-spot p x l e = sym (ap (spotHolds g A) e) ∙ word p l
 
   first-word : (j : ℕ) → j < o → firstHolds g A j ≡ true
   first-word j l = at-spot (firstPlace j) (atFirst j) (first-in k (pair .card-fine) j l) (spot-first o j l)

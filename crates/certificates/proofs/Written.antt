@@ -26,7 +26,7 @@ use Rattle.cards.proofs.Passing.{pass-all}
 use Rattle.cards.proofs.Written.{Agree, card-long, written-checked, written-agrees, written-actions, written-observations}
 use Rattle.pairs.specs.Pair.{agree}
 use Rattle.pairs.proofs.Pairing.{fine-pair}
-use Rattle.certificates.specs.Certificate.{lies, firstHolds, cellHolds, nextHolds, holdsAt, wordHolds, wordsCertified, certified}
+use Rattle.certificates.specs.Certificate.{lies, firstHolds, cellHolds, nextHolds, spotHolds, wordHolds, wordsCertified, certified}
 
 -- the conditions, over an automaton
 pub record Conditions (g : Game) (A : Automaton) : Type 0 where
@@ -80,10 +80,10 @@ module _ (w : List ℕ) (fine : tableChecked w ≡ Fine) (A : Automaton) (F : Fi
   E : Agree (automaton words) A o
   E = written-agrees A (g .actions) o F
 
-  at-spot : (p : ℕ) (x : Spot) → spotAt o p ≡ x → holdsAt g (automaton words) x ≡ true → wordHolds g words p ≡ true
+  at-spot : (p : ℕ) (x : Spot) → spotAt o p ≡ x → spotHolds g (automaton words) x ≡ true → wordHolds g words p ≡ true
   unfolding wordHolds
   at-spot p x e h =
-      ap (λ (n : ℕ). holdsAt g (automaton words) (spotAt n p)) (written-observations A (g .actions) o F) ∙ ap (holdsAt g (automaton words)) e ∙ h
+      ap (λ (n : ℕ). spotHolds g (automaton words) (spotAt n p)) (written-observations A (g .actions) o F) ∙ ap (spotHolds g (automaton words)) e ∙ h
 
   every : (p : ℕ) → p < length words → wordHolds g words p ≡ true
   every p l =

@@ -36,14 +36,14 @@ unfoldable pub nextHolds : Game → Automaton → (cell observation : ℕ) → B
 nextHolds g A c j = lies A (after g (A .set c) (A .action c) j) (A .next c j)
 
 -- the condition on a word, by where it stands
-abbrev pub holdsAt : Game → Automaton → Spot → Bool
-holdsAt g A atHead = true
-holdsAt g A (atFirst j) = firstHolds g A j
-holdsAt g A (atCell c) = cellHolds g A c
-holdsAt g A (atNext c j) = nextHolds g A c j
+abbrev pub spotHolds : Game → Automaton → Spot → Bool
+spotHolds g A atHead = true
+spotHolds g A (atFirst j) = firstHolds g A j
+spotHolds g A (atCell c) = cellHolds g A c
+spotHolds g A (atNext c j) = nextHolds g A c j
 
 unfoldable pub wordHolds : Game → (card : List ℕ) → (place : ℕ) → Bool
-wordHolds g k p = holdsAt g (automaton k) (spotAt (cardObservations k) p)
+wordHolds g k p = spotHolds g (automaton k) (spotAt (cardObservations k) p)
 
 -- the lowest word at fault
 unfoldable pub wordsCertified : Game → (card : List ℕ) → Checked

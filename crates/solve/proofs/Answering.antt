@@ -1,15 +1,19 @@
 -- Laws of what is printed: for each answer of solve, and for each input.
 -- Assumes nothing.
-use mathlib.Core.Path.{_≡_, sym, ap, _∙_, subst}
+use mathlib.Core.Path.{_≡_, refl, sym, ap, _∙_, subst}
 use mathlib.Core.Logic.{⊎-elim}
+use mathlib.Core.Bool.{true, false}
 use mathlib.Core.List.{List, [], _∷_, _++_}
 use Prim.Native.Nat.{ℕ, _+_, _*_, _/_, _%_, _≤_, _<_}
-use native.Mathlib.Nat.{mul-comm, mul-le-mul-right}
+use native.Mathlib.Nat.{mul-comm, mul-le-mul-right, min-le-right, not-suc-le-zero}
 use native.Mathlib.Omega.{arith}
-use borrow.Author.Tests.{eq-eqb, ne-eqb, lt-ltb, le-ltb}
+use borrow.Author.Tests.{eq-eqb, ne-eqb, lt-ltb, le-ltb, ltb-true}
 use types.Run.{OneOf}
 use denote.Enum.Declared.{tagOf}
-use lib.ListN.{length}
+use lib.ListN.{length, take}
+use lib.IntN.{ℤ, pos, negsuc}
+use lib.Signed.{ltZ}
+use Rattle.sets.proofs.Logic.{clash}
 use Rattle.games.specs.Answers.{Leaves, leaves}
 use Rattle.games.specs.Format.{maxObservations, lowValues, numberValues}
 use Rattle.games.specs.Words.{partLength, cardLength}
@@ -18,11 +22,12 @@ use Rattle.solver.specs.declared.Answer.{Answer}
 use Rattle.solver.specs.declared.Answer.the-variants.{Yes, No, Refused}
 use Rattle.solver.proofs.Answer.{the-type}
 use Rattle.text.specs.Text.{Wrote}
-use Rattle.printout.specs.Lines.{yesLine, cardText, noLine, refusedLine, answerText}
+use Rattle.printout.specs.Lines.{yesLine, cardText, noLine, refusedLine, answerText, unreadLine}
 use Rattle.solve.specs.Bytes.{wordsOf}
-use Rattle.solve.specs.Program.{inputBytes, bufferWords, blank, cardIn, tableText, programText, Counts}
+use Rattle.solve.specs.Program.{inputBytes, bufferWords, blank, cardIn, tableText, programText, Counts, takenOf, replyTo, replyText}
 use Rattle.solve.specs.declared.Input.{Input}
-use Rattle.solve.specs.declared.Input.the-variants.{Bytes}
+use Rattle.solve.specs.declared.Input.the-variants.{Bytes, Failed}
+use Rattle.io.specs.Counts.{clamped}
 
 -- another name for the text that was written
 pub wrote-same : {s t d e : List ℕ} {r : ℕ} → s ≡ t → Wrote s 0 d r e → Wrote t 0 d r e
@@ -83,3 +88,30 @@ module _ (b : List ℕ) where
 
 pub counted : (r : Input) (n k : ℕ) → r ≡ Bytes n → Counts k r → n ≤ k
 counted r n k e c = subst (Counts k) e c
+
+pub failed-taken : (got : ℤ) (n : ℕ) → ltZ got (pos 0) ≡ true → Failed ≡ takenOf got n
+unfolding takenOf
+failed-taken (pos k) n e = absurd (not-suc-le-zero (ltb-true k 0 e))
+failed-taken (negsuc k) n e = refl
+
+pub bytes-taken : (got : ℤ) (n k : ℕ) → ltZ got (pos 0) ≡ false → k ≡ clamped got n → Bytes k ≡ takenOf got n
+unfolding takenOf
+bytes-taken (pos j) n k e f = ap Bytes f
+bytes-taken (negsuc j) n k e f = clash {b = true} refl e
+
+few-taken : (got : ℤ) (n : ℕ) → Counts n (takenOf got n)
+unfolding takenOf
+few-taken (pos k) n = min-le-right k n
+few-taken (negsuc k) n = tt
+
+pub taken-counts : (r : Input) (got : ℤ) (n : ℕ) → r ≡ takenOf got n → Counts n r
+taken-counts r got n e = subst (Counts n) (sym e) (few-taken got n)
+
+-- ---- the reply
+
+module _ (input : Input) (b : List ℕ) where
+  pub failed-reply : input ≡ Failed → (pos 2 ≡ replyTo input) × (unreadLine ≡ replyText input b)
+  failed-reply e = (sym (ap replyTo e), sym (ap (λ (x : Input). replyText x b) e))
+
+  pub bytes-reply : (n : ℕ) → input ≡ Bytes n → (pos 1 ≡ replyTo input) × (programText (take n b) ≡ replyText input b)
+  bytes-reply n e = (sym (ap replyTo e), sym (ap (λ (x : Input). replyText x b) e))

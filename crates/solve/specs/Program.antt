@@ -2,14 +2,15 @@
 -- Assumes nothing.
 use mathlib.Core.Bool.{cond, not}
 use mathlib.Core.List.{List, []}
-use Prim.Native.Nat.{ℕ, _+_, _*_, _/_, _%_, _≤_}
+use Prim.Native.Nat.{ℕ, _+_, _*_, _/_, _%_, _≤_, min}
 use lib.Dec.{eqb, ltb}
-use lib.ListN.{length, replicate}
+use lib.ListN.{length, take, replicate}
+use lib.IntN.{ℤ, pos, negsuc}
 use Rattle.games.specs.Format.{maxSets}
 use Rattle.solver.specs.Solve.{solved, written}
 use Rattle.solver.specs.declared.Answer.{Answer}
 use Rattle.solver.specs.declared.Answer.the-variants.{Yes, No, Refused}
-use Rattle.printout.specs.Lines.{answerText, lineBytes}
+use Rattle.printout.specs.Lines.{answerText, unreadLine, lineBytes}
 use Rattle.solve.specs.Bytes.{wordsOf}
 use Rattle.solve.specs.declared.Input.{Input}
 use Rattle.solve.specs.declared.Input.the-variants.{Bytes, Failed}
@@ -46,9 +47,23 @@ programText b =
     (cond (not (eqb (length b % 4) 0)) (answerText (Refused 3 (length b / 4)) [])
     (tableText (wordsOf (length b / 4) b) blank blank))
 
--- ---- what reading gave
+-- ---- what reading gave, and the reply to it
+
+-- what C's read answers: so many of the buffer's bytes, or a failure, which is no end of the input
+unfoldable pub takenOf : ℤ → (room : ℕ) → Input
+takenOf (pos k) n = Bytes (min k n)
+takenOf (negsuc k) n = Failed
 
 -- no more bytes than there was room for
 abbrev pub Counts : (room : ℕ) → Input → Type 0
 Counts k (Bytes n) = n ≤ k
 Counts k Failed = Unit {0}
+
+-- the text for the bytes that were read goes to standard output; that reading failed is told on standard error
+abbrev pub replyTo : Input → ℤ
+replyTo (Bytes n) = pos 1
+replyTo Failed = pos 2
+
+abbrev pub replyText : Input → (buffer : List ℕ) → List ℕ
+replyText (Bytes n) b = programText (take n b)
+replyText Failed b = unreadLine

@@ -5,7 +5,8 @@ ghost use Prim.Native.Nat.{_+_, _*_, _/_, _%_, _≤_, _<_};
 ghost use lib.ListN.{length};
 ghost use Rattle.text.specs.Text.{Wrote};
 ghost use Rattle.solve.specs.Bytes.{word, wordsOf};
-ghost use Rattle.solve.specs.Program.{inputBytes, bufferWords, blank, textBytes, tableText, programText, Counts};
+ghost use Rattle.solve.specs.Program.{inputBytes, bufferWords, blank, textBytes, tableText, programText};
+ghost use Rattle.solve.specs.Program.{Counts, takenOf, replyTo, replyText};
 use libc::STDERR_FILENO;
 use libc::STDIN_FILENO;
 use libc::STDOUT_FILENO;
@@ -122,15 +123,22 @@ enum Input {
     Failed,
 }
 
+// What C's read answered, as a number of the buffer's bytes or a failure.
+fn taken(got: isize, bytes: &[u8]) -> Input
+    ensures { λ r. ⌜ r ≡ takenOf got (length (now (bytes .entry))) ⌝ }
+{
+    if got < 0 {
+        return Input::Failed;
+    }
+    Input::Bytes(io::count(got, bytes))
+}
+
 // One read into the buffer.
 fn read_some(bytes: &mut [u8]) -> Input
     ensures { λ r. ⌜ Counts (length (now (bytes .exit))) r ⌝ }
 {
     let got = libc::read(STDIN_FILENO, bytes);
-    if got < 0 {
-        return Input::Failed;
-    }
-    Input::Bytes(io::count(got, bytes))
+    taken(got, bytes)
 }
 
 // Reads until the buffer is full, the input ends or a read fails.
@@ -150,25 +158,51 @@ fn read_input(bytes: &mut [u8]) -> Input
     Input::Bytes(done)
 }
 
-// Nothing was read, or not all of it: a line on standard error, and no answer.
-fn tell_unread() {
-    let mut text = [0u8; printout::LINE_BYTES];
-    let length = printout::put_unread(&mut text, 0);
-    io::write_all(STDERR_FILENO, &text[..length]);
+// What is written, and where: the descriptor, and the length of the text in front of the buffer.
+struct Reply {
+    to: i32,
+    length: usize,
 }
 
-// The answer was not written, or not all of it.
+// The answer to what was read; where reading failed, the line that says so, on standard error.
+fn reply_to(input: Input, bytes: &[u8], out: &mut [u8]) -> Reply
+    requires { ⌜ Counts (length (now bytes)) input ⌝ }
+    ensures { λ r. ⌜ (r .to ≡ replyTo input) × Wrote (replyText input (now (bytes .entry))) 0 (now (out .entry)) (r .length) (now (out .exit))
+        × (r .length ≤ textBytes) ⌝ }
+{
+    match input {
+        Input::Failed => {
+            let length = printout::put_unread(out, 0);
+            Reply {
+                to: STDERR_FILENO,
+                length: length,
+            }
+        }
+        Input::Bytes(n) => {
+            let length = respond(&bytes[..n], out);
+            Reply {
+                to: STDOUT_FILENO,
+                length: length,
+            }
+        }
+    }
+}
+
+// The text was not written, or not all of it.
 fn tell_unwritten() {
     let mut text = [0u8; printout::LINE_BYTES];
     let length = printout::put_unwritten(&mut text, 0);
     io::write_all(STDERR_FILENO, &text[..length]);
 }
 
-// Writes out the text for the bytes of the input.
-fn answer(bytes: &[u8]) {
+// Writes out the reply.
+fn answer(input: Input, bytes: &[u8])
+    requires { ⌜ Counts (length (now bytes)) input ⌝ }
+{
     let mut text = text_buffer();
-    let length = respond(bytes, &mut text);
-    let written = io::write_all(STDOUT_FILENO, &text[..length]);
+    let reply = reply_to(input, bytes, &mut text);
+    let length = reply.length;
+    let written = io::write_all(reply.to, &text[..length]);
     if !written {
         tell_unwritten();
     }
@@ -177,8 +211,6 @@ fn answer(bytes: &[u8]) {
 // One byte more than a table may have, so that a longer input is seen.
 fn main() {
     let mut bytes = [0u8; INPUT_BYTES + 1];
-    match read_input(&mut bytes) {
-        Input::Failed => tell_unread(),
-        Input::Bytes(n) => answer(&bytes[..n]),
-    }
+    let input = read_input(&mut bytes);
+    answer(input, &bytes);
 }

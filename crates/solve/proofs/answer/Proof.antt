@@ -17,7 +17,7 @@ answer-spec =
     (λ c. search needs)
     (λ c.
     let told = c .before .before in
-    sym (length-take-le _ _ (omega (arith, told .respond .ensures .1, told .respond .kept .1 .0, told .before .before .text-buffer .ensures))))
+    sym (length-take-le _ _ (omega (arith, told .reply-to .ensures .2, told .reply-to .kept .1 .1 .0, told .before .before .text-buffer .ensures))))
     (λ c κs. search needs)
     (λ c κs. search needs)
     (λ c. search needs)
