@@ -1,8 +1,9 @@
 -- What the answer words tell: the answer behind them, and what is promised of it.
 -- Assumes nothing.
-use mathlib.Core.Path.{_≡_, sym, ap, _∙_, subst}
+use mathlib.Core.Path.{_≡_, refl, sym, ap, _∙_, subst}
 use mathlib.Core.List.{List}
 use Prim.Native.Nat.{ℕ}
+use native.Mathlib.Omega.{arith}
 use lib.ListN.{take}
 use Rattle.games.specs.Answers.{unless, Leaves, leaves}
 use Rattle.games.specs.declared.Checked.{Checked}
@@ -39,6 +40,16 @@ module _ (w : List ℕ) (r : Checked) (e : r ≡ cardChecked w) where
   pub card-refused : (number place : ℕ) → r ≡ Stopped number place → checkWords r ≡ cardTold w
   unfolding cardTold
   card-refused number place f = rw (sym e, f)
+
+-- ---- judge_card
+
+-- only fine has its words
+fine-told : (r : Checked) → checkWords r ≡ done 0 0 → r ≡ Fine
+fine-told Fine e = refl
+fine-told (Stopped number place) e = let z : _≡_ {A = ℕ} 2 0 = cc in absurd (omega arith)
+
+pub accepted-told : (a : List ℕ) (r : Checked) (P : Type 0) → a ≡ checkWords r → (r ≡ Fine → P) → a ≡ done 0 0 → P
+accepted-told a r P e p f = p (fine-told r (sym e ∙ f))
 
 -- ---- solve
 

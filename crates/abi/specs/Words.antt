@@ -29,7 +29,7 @@ no k = 1 ∷ k ∷ 0 ∷ []
 abbrev pub refused : (number place : ℕ) → List ℕ
 refused number place = 2 ∷ number ∷ place ∷ []
 
--- a table's check: no value beside fine
+-- a table's check and the judge of cards: no value beside fine
 abbrev pub checkWords : Checked → List ℕ
 checkWords checked.Fine = done 0 0
 checkWords (checked.Refused number place) = refused number place

@@ -5,6 +5,7 @@ ghost use mathlib.Core.List.{[], _∷_};
 ghost use Prim.Native.Nat.{ℕ};
 ghost use lib.ListN.{take};
 ghost use Rattle.games.specs.Answers.{leaves};
+ghost use Rattle.games.specs.Words.{game};
 ghost use Rattle.tables.specs.Check.{checked};
 ghost use Rattle.fields.specs.Write.{writeOf};
 ghost use Rattle.judge.specs.Judge.{judged};
@@ -13,6 +14,7 @@ ghost use Rattle.lists.specs.Plain.{OfEither, OfBoth, MaximalOf};
 ghost use Rattle.cards.specs.Run.{opened, stepped};
 ghost use Rattle.runner.specs.Runs.{standing, ranInto};
 ghost use Rattle.show.specs.Show.{found};
+ghost use Rattle.certificates.specs.Certificate.{certified, Safe};
 ghost use Rattle.solver.specs.Solve.{buffers, solved, Promise};
 ghost use Rattle.solver.specs.declared.Answer.{Answer};
 ghost use Rattle.abi.specs.Words.{done, no as noWords, refused as refusedWords};
@@ -321,4 +323,13 @@ pub extern "C" fn kirdanzug_show(table: &[u32], card: &[u32], cell: u32, answer:
     ensures { λ _. ⌜ now (answer .exit) ≡ showWords (found (now (table .entry)) (now (card .entry)) cell) ⌝ }
 {
     *answer = show_words(show::find(table, card, Cell(cell)));
+}
+
+// 0, 0, 0: the card, whoever drew it, is safe for the table.
+#[no_mangle]
+pub extern "C" fn kirdanzug_judge_card(table: &[u32], card: &[u32], answer: &mut [u64; 3])
+    ensures determined { λ _. ⌜ now (answer .exit) ≡ checkWords (certified (now (table .entry)) (now (card .entry))) ⌝ }
+    ensures safe { λ _. ⌜ (now (answer .exit) ≡ done 0 0 → Safe (game (now (table .entry))) (now (card .entry))) ⌝ }
+{
+    *answer = check_words(certificates::judge_card(table, card));
 }

@@ -182,6 +182,10 @@ module _ (m o : ℕ) where
   pub first-within : (j : ℕ) → j < o → firstPlace j < cardLength m o
   first-within j l = omega arith
 
+-- the part behind a part
+pub part-behind : (o c : ℕ) → cellPlace o c + partLength o ≡ cellPlace o (c + 1)
+part-behind o c = omega (arith, suc-mul c (partLength o), ap (λ (n : ℕ). n * partLength o) (add-one c))
+
 -- ---- the check of the first words and of a cell's part, for words that are as many as the head asks for
 module _ (w : List ℕ) (s : Shaped w) where
   abbrev seen : ℕ
@@ -226,7 +230,7 @@ module _ (w : List ℕ) (s : Shaped w) where
 
         pub nexts-fit : seen ≤ r → FitsBelow w (cellPlace seen (c + 1))
         nexts-fit k =
-            let e : p + 1 + seen ≡ cellPlace seen (c + 1) = omega (arith, suc-mul c (partLength seen), ap (λ (n : ℕ). n * partLength seen) (add-one c)) in
+            let e : p + 1 + seen ≡ cellPlace seen (c + 1) = omega (arith, part-behind seen c) in
             subst (FitsBelow w) e (row-pass (wordFits w) (length w) (names w kindNext (p + 1)) (p + 1) seen r next-fits (omega (arith, part-in)) behind-own found k)
 
 -- what right words say
@@ -280,6 +284,9 @@ module _ (w : List ℕ) (e : checked w ≡ Fine) where
         begins-named = λ j l. named kindFirst m j _ (sym (word-begins w j l) ∙ right (firstPlace j) (first-within m os j l));
         next-named = λ c j l k. named kindNext m j _ (sym (word-next w c j k) ∙ right (nextPlace os c j) (next-within m os c j l k));
       }
+
+  pub shaped : Shaped w
+  shaped = let s = sound w e in record { head = s .head; long = s .long }
 
   -- the places of a checked card lie in it
   pub some-word : 0 < length w

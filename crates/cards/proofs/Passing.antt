@@ -3,7 +3,7 @@
 use mathlib.Core.Path.{_≡_, subst, _∙_}
 use mathlib.Core.Logic.{⊎-elim}
 use mathlib.Core.Bool.{Bool, true, false, not}
-use Prim.Native.Nat.{ℕ, _+_, _-_, _≤_, _<_}
+use Prim.Native.Nat.{ℕ, zero, suc, _+_, _-_, _≤_, _<_}
 use native.Mathlib.Omega.{arith}
 use lib.Dec.{ltb}
 use borrow.Author.Tests.{ltb-true, ltb-false}
@@ -57,3 +57,22 @@ module _ (test : ℕ → Bool) (n : ℕ) where
 
     pub row-pass : m ≤ r → Pass test n (at + m)
     row-pass l = let e : r ≡ m = omega (arith, ended .most) in subst (λ (i : ℕ). Pass test n (at + i)) e row-passed
+
+-- a row with one place more in front of it: that place fails, or it passes and the row decides
+pub front-wrong : (test : ℕ → Bool) (n : ℕ) → test 0 ≡ false → FirstWrong test n 0
+front-wrong test n e = record { most = omega arith; right = λ j l. absurd (omega arith); wrong = λ l. e }
+
+module _ (test row : ℕ → Bool) (n r : ℕ) (same : (j : ℕ) → j < n → test (1 + j) ≡ row j) (front : test 0 ≡ true) (ended : FirstWrong row n r) where
+  behind-right : (j : ℕ) → j < 1 + r → test j ≡ true
+  behind-right zero l = front
+  behind-right (suc j) l =
+      let e : 1 + j ≡ suc j = omega arith in
+      subst (λ (i : ℕ). test i ≡ true) e (same j (omega (arith, ended .most)) ∙ ended .right j (omega arith))
+
+  pub behind-front : FirstWrong test (1 + n) (1 + r)
+  behind-front =
+      record {
+        most = omega (arith, ended .most);
+        right = behind-right;
+        wrong = λ l. let k : r < n = omega arith in same r k ∙ ended .wrong k;
+      }

@@ -1,6 +1,6 @@
 -- A certified card covers the plays of the game, so it keeps every play clear and controls the station.
 -- Assumes nothing.
-use mathlib.Core.Path.{_≡_, sym, ap, subst, _∙_}
+use mathlib.Core.Path.{_≡_, refl, sym, ap, subst, _∙_}
 use mathlib.Core.Bool.{Bool, true, false, cond, not, _&&_}
 use mathlib.Core.List.{List}
 use Prim.Native.Nat.{ℕ, _^_, _<_}
@@ -24,17 +24,17 @@ use Rattle.games.proofs.Steps.{safe-at, enabled-at, after-intro}
 use Rattle.games.proofs.Starts.{start-member}
 use Rattle.games.proofs.Winning.{Covers}
 use Rattle.tables.proofs.Checks.{accepted}
-use Rattle.cards.specs.Card.{firstPlace, cellPlace, nextPlace, Spot, atFirst, atCell, atNext, spotAt, cardCells, cardObservations, automaton, Named}
+use Rattle.cards.specs.Card.{firstPlace, cellPlace, nextPlace, cardCells, cardObservations, automaton, Named}
 use Rattle.cards.specs.Kept.{Kept}
 use Rattle.cards.proofs.Checked.{fitting, first-in, cell-in, next-in}
 use Rattle.cards.proofs.Running.{named-cell}
 use Rattle.cards.proofs.Runs.{covering-kept}
-use Rattle.cards.proofs.Spots.{spot-first, spot-cell, spot-next}
 use Rattle.pairs.specs.Pair.{checked, Paired}
-use Rattle.pairs.proofs.Pairing.{paired}
+use Rattle.pairs.proofs.Pairing.{paired, action-in}
 use Rattle.runner.specs.Control.{Controls}
 use Rattle.runner.proofs.Control.{kept-controls}
-use Rattle.certificates.specs.Certificate.{lies, firstHolds, cellHolds, nextHolds, spotHolds, wordHolds, wordsCertified, certified}
+use Rattle.certificates.specs.Certificate.{lies, firstHolds, cellHolds, nextHolds, wordHolds, wordsCertified, certified}
+use Rattle.certificates.proofs.Words.{first-word, cell-word, next-word}
 
 -- ---- a word's condition
 
@@ -80,18 +80,14 @@ module _ (w k : List ℕ) (fine : certified w k ≡ Fine) where
       let wrong : ℕ → Bool = λ q. not (wordHolds g k q) in
       not-false (wordHolds g k p) (first-nothing (length k) wrong (found-none (first (length k) wrong) (Refused 18) (λ i r. never 18 i r) (passed .1)) p l)
 
-  at-spot : (p : ℕ) (x : Spot) → p < length k → spotAt o p ≡ x → spotHolds g A x ≡ true
-  unfolding wordHolds
-  at-spot p x l e = sym (ap (spotHolds g A) e) ∙ word p l
+  first-holds : (j : ℕ) → j < o → firstHolds g A j ≡ true
+  first-holds j l = sym (first-word g k j l) ∙ word (firstPlace j) (first-in k (pair .card-fine) j l)
 
-  first-word : (j : ℕ) → j < o → firstHolds g A j ≡ true
-  first-word j l = at-spot (firstPlace j) (atFirst j) (first-in k (pair .card-fine) j l) (spot-first o j l)
+  cell-holds : (c : ℕ) → c < cardCells k → cellHolds g A c ≡ true
+  cell-holds c l = sym (cell-word g k c) ∙ word (cellPlace o c) (cell-in k (pair .card-fine) c l)
 
-  cell-word : (c : ℕ) → c < cardCells k → cellHolds g A c ≡ true
-  cell-word c l = at-spot (cellPlace o c) (atCell c) (cell-in k (pair .card-fine) c l) (spot-cell o c)
-
-  next-word : (c j : ℕ) → c < cardCells k → j < o → nextHolds g A c j ≡ true
-  next-word c j l m = at-spot (nextPlace o c j) (atNext c j) (next-in k (pair .card-fine) c j l m) (spot-next o c j m)
+  next-holds : (c j : ℕ) → c < cardCells k → j < o → nextHolds g A c j ≡ true
+  next-holds c j l m = sym (next-word g k c j m) ∙ word (nextPlace o c j) (next-in k (pair .card-fine) c j l m)
 
   -- ---- what a cell's word says
 
@@ -100,17 +96,17 @@ module _ (w k : List ℕ) (fine : certified w k ≡ Fine) where
   cell-set-below c l =
       let below = ltb (A .set c) (2 ^ g .states) in
       ltb-true (A .set c) (2 ^ g .states)
-      (and-left below (safe g (A .set c)) (and-left (below && safe g (A .set c)) (enabledAt g (A .set c) (A .action c)) (cell-word c l)))
+      (and-left below (safe g (A .set c)) (and-left (below && safe g (A .set c)) (enabledAt g (A .set c) (A .action c)) (cell-holds c l)))
 
   cell-safe : (c : ℕ) → c < cardCells k → safe g (A .set c) ≡ true
   unfolding cellHolds
   cell-safe c l =
       let below = ltb (A .set c) (2 ^ g .states) in
-      and-right below (safe g (A .set c)) (and-left (below && safe g (A .set c)) (enabledAt g (A .set c) (A .action c)) (cell-word c l))
+      and-right below (safe g (A .set c)) (and-left (below && safe g (A .set c)) (enabledAt g (A .set c) (A .action c)) (cell-holds c l))
 
   cell-enabled : (c : ℕ) → c < cardCells k → enabledAt g (A .set c) (A .action c) ≡ true
   unfolding cellHolds
-  cell-enabled c l = and-right (ltb (A .set c) (2 ^ g .states) && safe g (A .set c)) (enabledAt g (A .set c) (A .action c)) (cell-word c l)
+  cell-enabled c l = and-right (ltb (A .set c) (2 ^ g .states) && safe g (A .set c)) (enabledAt g (A .set c) (A .action c)) (cell-holds c l)
 
   seen : (j : ℕ) → j < g .observations → j < o
   seen j l = omega (arith, pair .observations)
@@ -125,7 +121,7 @@ module _ (w k : List ℕ) (fine : certified w k ≡ Fine) where
         begins-in = λ i j m shows.
             let b = start-member g i j m shows in
             let l = seen j (shows .0) in
-            inside A (startSet g j) (A .begins j) i (first-word j l) (b .1) (F .begins-named j l);
+            inside A (startSet g j) (A .begins j) i (first-holds j l) (b .1) (F .begins-named j l);
         survives = λ c i l m. (
           safe-at g (A .set c) (cell-safe c l) i m,
           enabled-at g (A .set c) (A .action c) (cell-enabled c l) i (member-below (g .states) (A .set c) i (cell-set-below c l) m) m,
@@ -133,8 +129,8 @@ module _ (w k : List ℕ) (fine : certified w k ≡ Fine) where
         next-in = λ c i i′ j l m e shows.
             let n = member-below (g .states) (A .set c) i (cell-set-below c l) m in
             let s = seen j (shows .0) in
-            inside A (after g (A .set c) (A .action c) j) (A .next c j) i′ (next-word c j l s) (after-intro g (A .set c) (A .action c) j i i′ n m e (shows .1)) (F .next-named c j l s);
-        gives = λ c l. subst (λ (n : ℕ). A .action c < n) (pair .actions) (F .action-below c l);
+            inside A (after g (A .set c) (A .action c) j) (A .next c j) i′ (next-holds c j l s) (after-intro g (A .set c) (A .action c) j i i′ n m e (shows .1)) (F .next-named c j l s);
+        gives = λ c l. action-in w k pair c (A .action c) l refl;
       }
 
   -- so it keeps every play clear, is never refused on a play under it, and a runner that holds it is not

@@ -1,5 +1,5 @@
 -- A card as a certificate (document 02, change 1): four conditions on its words, each of which is about one word, say that it is safe
--- for a game.
+-- for a game; and what safe means.
 -- Assumes nothing.
 use mathlib.Core.Bool.{Bool, true, cond, not, _&&_}
 use mathlib.Core.List.{List}
@@ -17,7 +17,9 @@ use Rattle.games.specs.Words.{game}
 use Rattle.games.specs.declared.Checked.{Checked}
 use Rattle.games.specs.declared.Checked.the-variants.{Fine, Refused}
 use Rattle.cards.specs.Card.{Spot, atHead, atFirst, atCell, atNext, spotAt, cardObservations, automaton}
+use Rattle.cards.specs.Kept.{Kept}
 use Rattle.pairs.specs.Pair.{checked}
+use Rattle.runner.specs.Control.{Controls}
 
 -- the states of s lie in the set of the cell named; there are none where the word says "cannot occur"
 unfoldable pub lies : Automaton → (s cell : ℕ) → Bool
@@ -52,3 +54,9 @@ wordsCertified g k = atFound (first (length k) (λ p. not (wordHolds g k p))) (R
 -- the table checks, 13, 16, 18
 unfoldable pub certified : (table card : List ℕ) → Checked
 certified w k = unless (checked w k) Refused (wordsCertified (game w) k)
+
+-- what is promised of a card that is accepted: it keeps every play clear, and on every play under the actions it gives it is in a cell
+-- whose set holds the state and is never refused by 12, 13 or 14; nor is it in a runner
+pub record Safe (g : Game) (card : List ℕ) : Type 0 where
+  pub kept : Kept g card
+  pub controls : Controls g card

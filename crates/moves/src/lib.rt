@@ -1,5 +1,5 @@
-// The successors of every set of states in two reads, for the search: a table for the lower half of the states and one for the
-// upper half.
+// The successors of every set of states in two reads, for the search and the judge of cards: a table for the lower half of the states
+// and one for the upper half.
 ghost use mathlib.Core.Path.{_≡_};
 ghost use Prim.Native.Nat.{_+_, _*_, _^_, _<_, _≤_, min};
 ghost use lib.ListN.{length};
@@ -19,7 +19,7 @@ const HALF_SETS: u32 = 1 << HALF_STATES;
 const HALF_WORDS: usize = HALF_SETS as usize;
 
 // The words of one of the two tables: a half for each action.
-pub const SIDE_WORDS: usize = games::MAX_ACTIONS as usize * HALF_WORDS;
+const SIDE_WORDS: usize = games::MAX_ACTIONS as usize * HALF_WORDS;
 
 // Above every mask: it stands for the successors where the action is not enabled.
 const BLOCKED: u32 = games::LOW_VALUES;
@@ -83,6 +83,13 @@ fn low_states(n: u32) -> u32
     ensures { λ r. ⌜ r ≡ min n halfStates ⌝ }
 {
     if n < HALF_STATES { n } else { HALF_STATES }
+}
+
+// Room for one of the two tables.
+pub fn side() -> [u32; SIDE_WORDS]
+    ensures { λ r. ⌜ length r ≡ sideWords ⌝ }
+{
+    [0; SIDE_WORDS]
 }
 
 // Fills both tables.

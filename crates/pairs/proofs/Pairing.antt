@@ -1,9 +1,9 @@
 -- The check's answers in their order, and what `Fine` tells.
 -- Assumes nothing.
-use mathlib.Core.Path.{_≡_}
+use mathlib.Core.Path.{_≡_, sym, subst}
 use mathlib.Core.Bool.{true, false, cond, not}
 use mathlib.Core.List.{List}
-use Prim.Native.Nat.{ℕ}
+use Prim.Native.Nat.{ℕ, _<_}
 use lib.Dec.{eqb}
 use borrow.Author.Tests.{eqb-true, not-false}
 use Rattle.sets.proofs.Logic.{and-left, and-right}
@@ -12,7 +12,9 @@ use Rattle.games.specs.Words.{game}
 use Rattle.games.specs.declared.Checked.the-variants.{Fine, Refused}
 use Rattle.games.proofs.Answers.{then-fine, cond-passed}
 use Rattle.tables.specs.Check.{checked as tableChecked}
-use Rattle.cards.specs.Card.{cardActions, cardObservations, checked as cardChecked}
+use Rattle.cards.specs.Card.{cardCells, cardActions, cardObservations, automaton, checked as cardChecked}
+use Rattle.cards.proofs.Checked.{fitting}
+use Rattle.cards.proofs.Running.{size-of}
 use Rattle.pairs.specs.Pair.{agree, checked, Paired}
 
 module _ (w k : List ℕ) where
@@ -51,3 +53,9 @@ module _ (w k : List ℕ) where
         actions = eqb-true (cardActions k) (game w .actions) (and-left x y c);
         observations = eqb-true (cardObservations k) (game w .observations) (and-right x y c);
       }
+
+-- a cell's action is one of the table's
+pub action-in : (w k : List ℕ) → Paired w k → (c a : ℕ) → c < cardCells k → a ≡ automaton k .action c → a < game w .actions
+action-in w k p c a l e =
+    let below = fitting k (p .card-fine) .action-below c (subst (λ (n : ℕ). c < n) (sym (size-of k)) l) in
+    subst (λ (n : ℕ). a < n) (p .actions) (subst (λ (b : ℕ). b < cardActions k) (sym e) below)

@@ -9,7 +9,7 @@ ghost use Rattle.games.specs.Words.{game, frontLength, partLength, cardLength};
 ghost use Rattle.tables.specs.Check.{checked};
 ghost use Rattle.games.specs.declared.Checked.the-variants.{Fine};
 ghost use Rattle.families.specs.Bits.{laneSets, maxLanes, lanes as lanesOf, Bits};
-ghost use Rattle.moves.specs.Halves.{sideWords, Tabled, Ready};
+ghost use Rattle.moves.specs.Halves.{Tabled, Ready};
 ghost use Rattle.games.specs.Verdict.{settled as settledFamily, cells as cellsOf, verdict, Yes};
 ghost use Rattle.solver.specs.Solve.{workWords, byVerdict, cardOf, buffers, solved, Promise};
 ghost use Rattle.solver.specs.Writing.{heldBy, named as namedBy, Starts, Index, Listed, SettledSet, frontWords, setWords};
@@ -258,13 +258,6 @@ fn answer_with(
     }
 }
 
-// Room for one side of every action's moves.
-fn side() -> [u32; moves::SIDE_WORDS]
-    ensures { λ r. ⌜ length r ≡ sideWords ⌝ }
-{
-    [0; moves::SIDE_WORDS]
-}
-
 // Room for a family of sets.
 fn empty_family() -> [u64; MAX_LANES]
     ensures { λ r. ⌜ length r ≡ maxLanes ⌝ }
@@ -279,8 +272,8 @@ fn decide(table: &[u32], work: &mut [u32], card: &mut [u32]) -> Answer
         ≡ byVerdict (game (now (table .entry))) (now (card .entry)) (verdict (game (now (table .entry)))) ⌝ }
 {
     let lanes = families::lane_count(tables::states(table));
-    let mut low = side();
-    let mut high = side();
+    let mut low = moves::side();
+    let mut high = moves::side();
     moves::fill(table, &mut low, &mut high);
     let mut family = empty_family();
     let mut next = empty_family();
