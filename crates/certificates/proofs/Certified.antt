@@ -1,7 +1,7 @@
 -- A certified card covers the plays of the game, so it keeps every play clear and controls the station.
 -- Assumes nothing.
 use mathlib.Core.Path.{_≡_, refl, sym, ap, subst, _∙_}
-use mathlib.Core.Bool.{Bool, true, false, cond, not, _&&_}
+use mathlib.Core.Bool.{Bool, true, false, cond, not}
 use mathlib.Core.List.{List}
 use Prim.Native.Nat.{ℕ, _^_, _<_}
 use native.Mathlib.Omega.{arith}
@@ -33,10 +33,20 @@ use Rattle.pairs.specs.Pair.{checked, Paired}
 use Rattle.pairs.proofs.Pairing.{paired, action-in}
 use Rattle.runner.specs.Control.{Controls}
 use Rattle.runner.proofs.Control.{kept-controls}
-use Rattle.certificates.specs.Certificate.{lies, firstHolds, cellHolds, nextHolds, wordHolds, wordsCertified, certified}
+use Rattle.certificates.specs.Certificate.{lies, firstHolds, setFits, cellHolds, nextHolds, wordHolds, wordsCertified, certified}
 use Rattle.certificates.proofs.Words.{first-word, cell-word, next-word}
 
 -- ---- a word's condition
+
+-- a set that fits
+module _ (g : Game) (s : ℕ) (fits : setFits g s ≡ true) where
+  fit-safe : safe g s ≡ true
+  unfolding setFits
+  fit-safe = and-right (ltb s (2 ^ g .states)) (safe g s) fits
+
+  pub fit-below : s < 2 ^ g .states
+  unfolding setFits
+  fit-below = ltb-true s (2 ^ g .states) (and-left (ltb s (2 ^ g .states)) (safe g s) fits)
 
 -- states that lie in a cell named: a member of them is held by a cell, which is one of the automaton's
 module _ (A : Automaton) (s c i : ℕ) (lie : lies A s c ≡ true) (m : member s i ≡ true) where
@@ -91,22 +101,19 @@ module _ (w k : List ℕ) (fine : certified w k ≡ Fine) where
 
   -- ---- what a cell's word says
 
-  cell-set-below : (c : ℕ) → c < cardCells k → A .set c < 2 ^ g .states
-  unfolding cellHolds
-  cell-set-below c l =
-      let below = ltb (A .set c) (2 ^ g .states) in
-      ltb-true (A .set c) (2 ^ g .states)
-      (and-left below (safe g (A .set c)) (and-left (below && safe g (A .set c)) (enabledAt g (A .set c) (A .action c)) (cell-holds c l)))
-
-  cell-safe : (c : ℕ) → c < cardCells k → safe g (A .set c) ≡ true
-  unfolding cellHolds
-  cell-safe c l =
-      let below = ltb (A .set c) (2 ^ g .states) in
-      and-right below (safe g (A .set c)) (and-left (below && safe g (A .set c)) (enabledAt g (A .set c) (A .action c)) (cell-holds c l))
-
   cell-enabled : (c : ℕ) → c < cardCells k → enabledAt g (A .set c) (A .action c) ≡ true
   unfolding cellHolds
-  cell-enabled c l = and-right (ltb (A .set c) (2 ^ g .states) && safe g (A .set c)) (enabledAt g (A .set c) (A .action c)) (cell-holds c l)
+  cell-enabled c l = and-right (setFits g (A .set c)) (enabledAt g (A .set c) (A .action c)) (cell-holds c l)
+
+  cell-fits : (c : ℕ) → c < cardCells k → setFits g (A .set c) ≡ true
+  unfolding cellHolds
+  cell-fits c l = and-left (setFits g (A .set c)) (enabledAt g (A .set c) (A .action c)) (cell-holds c l)
+
+  cell-safe : (c : ℕ) → c < cardCells k → safe g (A .set c) ≡ true
+  cell-safe c l = fit-safe g (A .set c) (cell-fits c l)
+
+  cell-set-below : (c : ℕ) → c < cardCells k → A .set c < 2 ^ g .states
+  cell-set-below c l = fit-below g (A .set c) (cell-fits c l)
 
   seen : (j : ℕ) → j < g .observations → j < o
   seen j l = omega (arith, pair .observations)

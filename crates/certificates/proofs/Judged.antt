@@ -3,16 +3,15 @@
 use mathlib.Core.Path.{_≡_, refl, sym, ap, subst, _∙_}
 use mathlib.Core.Bool.{Bool, true, false, _&&_}
 use mathlib.Core.List.{List}
-use Prim.Native.Nat.{ℕ, _+_, _^_, _≤_, _<_}
+use Prim.Native.Nat.{ℕ, _+_, _≤_, _<_}
 use native.Mathlib.Omega.{arith}
-use lib.Dec.{eqb, ltb}
+use lib.Dec.{eqb}
 use lib.ListN.{length}
-use borrow.Author.Tests.{eq-eqb, ne-eqb, ltb-true}
+use borrow.Author.Tests.{eq-eqb, ne-eqb}
 use Rattle.sets.specs.Mask.{subset, common}
 use Rattle.sets.specs.Bounded.{Found, atFound}
-use Rattle.sets.proofs.Logic.{and-left}
 use Rattle.games.specs.Game.{Game}
-use Rattle.games.specs.Step.{safe, enabledAt, post, after}
+use Rattle.games.specs.Step.{enabledAt, post, after}
 use Rattle.games.specs.Verdict.{startSet}
 use Rattle.games.specs.Automaton.{Automaton, noCell}
 use Rattle.games.specs.Words.{game, frontLength, partLength}
@@ -29,7 +28,7 @@ use Rattle.moves.specs.Halves.{posted}
 use Rattle.moves.specs.declared.Posted.the-variants.{Blocked, Post}
 use Rattle.moves.proofs.Posting.{posted-blocked, posted-post}
 use Rattle.pairs.specs.Pair.{checked}
-use Rattle.certificates.specs.Certificate.{lies, firstHolds, cellHolds, nextHolds, wordHolds, wordsCertified, certified, Safe}
+use Rattle.certificates.specs.Certificate.{lies, firstHolds, setFits, cellHolds, nextHolds, wordHolds, wordsCertified, certified, Safe}
 use Rattle.certificates.specs.Judging.{HoldsBelow, partHolds}
 use Rattle.certificates.proofs.Words.{head-word, first-word, cell-word, next-word}
 use Rattle.certificates.proofs.Certified.{certified-kept, certified-controls}
@@ -75,14 +74,7 @@ module _ (g : Game) (k : List ℕ) (c s : ℕ) (set-is : s ≡ automaton k .set 
   abbrev o : ℕ
   o = cardObservations k
 
-  -- no state from n up, and no bad one
-  abbrev fits : Bool
-  fits = ltb s (2 ^ g .states) && safe g s
-
-  pub set-below : fits ≡ true → s < 2 ^ g .states
-  set-below e = ltb-true s (2 ^ g .states) (and-left (ltb s (2 ^ g .states)) (safe g s) e)
-
-  own-at : partHolds g k c 0 ≡ (fits && enabledAt g s (A .action c))
+  own-at : partHolds g k c 0 ≡ (setFits g s && enabledAt g s (A .action c))
   unfolding cellHolds
   own-at = let e : cellPlace o c + 0 ≡ cellPlace o c = omega arith in ap (wordHolds g k) e ∙ cell-word g k c ∙ rw set-is
 
@@ -90,10 +82,10 @@ module _ (g : Game) (k : List ℕ) (c s : ℕ) (set-is : s ≡ automaton k .set 
   next-at j l = let e : cellPlace o c + (1 + j) ≡ nextPlace o c j = omega arith in ap (wordHolds g k) e ∙ next-word g k c j l
 
   -- the set doesn't fit: the own word fails
-  pub set-wrong : fits ≡ false → FirstWrong (partHolds g k c) (partLength o) 0
+  pub set-wrong : setFits g s ≡ false → FirstWrong (partHolds g k c) (partLength o) 0
   set-wrong e = front-wrong (partHolds g k c) (partLength o) (own-at ∙ rw e)
 
-  module _ (fit : fits ≡ true) (a : ℕ) (action-is : a ≡ automaton k .action c) where
+  module _ (fit : setFits g s ≡ true) (a : ℕ) (action-is : a ≡ automaton k .action c) where
     enabled-decides : partHolds g k c 0 ≡ enabledAt g s a
     enabled-decides = own-at ∙ rw (fit, action-is)
 

@@ -18,7 +18,7 @@ use Rattle.tables.specs.Layout.{bareWord}
 use Rattle.tables.specs.Check.{limitsHold, headRight, sizeChecked, placed, faulty, wordsChecked as tableWords, unseen, setsChecked, checked as tableChecked}
 use Rattle.cards.specs.Card.{headFits, cellNamed, cellFits, partSpot, spotAt, wordFits, wordsChecked, automaton, checked as cardChecked}
 use Rattle.pairs.specs.Pair.{agree, checked}
-use Rattle.certificates.specs.Certificate.{lies, firstHolds, cellHolds, nextHolds, wordHolds, wordsCertified, certified}
+use Rattle.certificates.specs.Certificate.{lies, firstHolds, setFits, cellHolds, nextHolds, wordHolds, wordsCertified, certified}
 
 abbrev pub Row : Type 0
 Row = record { table : List ℕ; card : List ℕ; answer : Checked }
@@ -46,5 +46,5 @@ rows =
     ∷ []
 
 pub every-row : Rows rows
-unfolding rows certified wordsCertified wordHolds firstHolds cellHolds nextHolds lies safe enabledAt enabled post after startSet unionOver all checked agree tableChecked sizeChecked tableWords setsChecked headRight limitsHold placed faulty unseen placeAt bareWord game first any cardChecked wordsChecked wordFits headFits cellNamed cellFits partSpot spotAt automaton
+unfolding rows certified wordsCertified wordHolds firstHolds setFits cellHolds nextHolds lies safe enabledAt enabled post after startSet unionOver all checked agree tableChecked sizeChecked tableWords setsChecked headRight limitsHold placed faulty unseen placeAt bareWord game first any cardChecked wordsChecked wordFits headFits cellNamed cellFits partSpot spotAt automaton
 every-row = row refl (row refl (row refl (row refl (row refl (row refl (row refl (row refl (row refl (row refl (row refl none))))))))))

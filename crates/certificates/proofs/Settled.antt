@@ -22,7 +22,7 @@ use Rattle.games.proofs.Lasting.{lowest-meets}
 use Rattle.games.proofs.Settling.{cells-hold}
 use Rattle.games.proofs.Holding.{holding-empty, held-by}
 use Rattle.games.proofs.Winning.{cell-settled, cell-step}
-use Rattle.certificates.specs.Certificate.{lies, firstHolds, cellHolds, nextHolds}
+use Rattle.certificates.specs.Certificate.{lies, firstHolds, setFits, cellHolds, nextHolds}
 use Rattle.certificates.proofs.Written.{Conditions}
 
 module _ (g : Game) (A : Accepted g) (few : length (cells g) ≤ maxCells) where
@@ -54,7 +54,7 @@ module _ (g : Game) (A : Accepted g) (few : length (cells g) ≤ maxCells) where
     cell-meets = lowest-meets g A (settled g) s (cell-step g A c l)
 
     cell-holds : cellHolds g (card g) c ≡ true
-    unfolding cellHolds card chosen
+    unfolding cellHolds setFits card chosen
     cell-holds =
         and-intro
         (and-intro (lt-ltb s (2 ^ g .states) (cell-settled g A c l .0)) (step-safe g (settled g) s (cell-step g A c l)))

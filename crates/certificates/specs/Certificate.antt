@@ -29,9 +29,13 @@ lies A s c = cond (eqb c noCell) (eqb s 0) (subset s (A .set c))
 unfoldable pub firstHolds : Game → Automaton → (observation : ℕ) → Bool
 firstHolds g A j = lies A (startSet g j) (A .begins j)
 
--- the cell's set has no state from n up and no bad one, and the action is enabled at all its members
+-- the set has no state from n up and no bad one
+unfoldable pub setFits : Game → (s : ℕ) → Bool
+setFits g s = ltb s (2 ^ g .states) && safe g s
+
+-- the cell's set fits, and the action is enabled at all its members
 unfoldable pub cellHolds : Game → Automaton → (cell : ℕ) → Bool
-cellHolds g A c = ltb (A .set c) (2 ^ g .states) && safe g (A .set c) && enabledAt g (A .set c) (A .action c)
+cellHolds g A c = setFits g (A .set c) && enabledAt g (A .set c) (A .action c)
 
 -- the successors of the cell's set showing the observation lie in the next cell named
 unfoldable pub nextHolds : Game → Automaton → (cell observation : ℕ) → Bool

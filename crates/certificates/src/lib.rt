@@ -6,17 +6,15 @@ use games::Observation;
 use moves::Posted;
 use tables::Walked;
 ghost use mathlib.Core.Path.{_≡_};
-ghost use mathlib.Core.Bool.{_&&_};
 ghost use Prim.Native.Nat.{_^_, _<_};
-ghost use lib.Dec.{ltb};
-ghost use Rattle.games.specs.Step.{safe as isSafe, post as postOf};
+ghost use Rattle.games.specs.Step.{post as postOf};
 ghost use Rattle.games.specs.Words.{game, frontLength, partLength};
 ghost use Rattle.tables.specs.Layout.{Sized};
 ghost use Rattle.cards.specs.Card.{automaton, cardCells, cardObservations, Named, checked as cardChecked};
 ghost use Rattle.cards.specs.Checking.{FirstWrong};
 ghost use Rattle.moves.specs.Halves.{posted, Ready};
 ghost use Rattle.pairs.specs.Pair.{checked};
-ghost use Rattle.certificates.specs.Certificate.{lies, firstHolds, nextHolds, wordsCertified, certified, Safe};
+ghost use Rattle.certificates.specs.Certificate.{lies, firstHolds, setFits, nextHolds, wordsCertified, certified, Safe};
 ghost use Rattle.certificates.specs.Judging.{Halves, Prepared, HoldsBelow, partHolds};
 
 // From so many cells on the half tables of the moves are filled first: two reads for a cell's set, and no walk over its members.
@@ -54,7 +52,7 @@ fn firsts_hold(table: &[u32], card: &[u32]) -> u32
 // The set has no state from n up and no bad one.
 fn set_fits(table: &[u32], s: u32) -> bool
     requires { ⌜ Sized (now table) ⌝ }
-    ensures { λ r. ⌜ r ≡ (ltb s (2 ^ game (now (table .entry)) .states) && isSafe (game (now (table .entry))) s) ⌝ }
+    ensures { λ r. ⌜ r ≡ setFits (game (now (table .entry))) s ⌝ }
 {
     (s < sets::single(tables::states(table))) & (sets::common(s, tables::bad(table)) == 0)
 }

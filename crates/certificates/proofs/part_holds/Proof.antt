@@ -1,18 +1,17 @@
 -- `certificates::part_holds` meets its contract: the set, the action, then the next words.
 -- Assumes nothing.
 use mathlib.Core.Path.{_≡_, sym, _∙_}
-use mathlib.Core.Bool.{true, _&&_}
-use Prim.Native.Nat.{_^_}
+use mathlib.Core.Bool.{true}
 use native.Mathlib.Omega.{arith}
 use borrow.Author.Needs.{needs}
 use borrow.Author.Tests.{not-true, not-false}
-use lib.Dec.{ltb}
-use Rattle.games.specs.Step.{safe}
 use Rattle.games.specs.Words.{game}
 use Rattle.tables.proofs.Checks.{sized}
 use Rattle.pairs.specs.Pair.{Paired}
 use Rattle.pairs.proofs.Pairing.{paired, action-in}
-use Rattle.certificates.proofs.Judged.{set-below, set-wrong, blocked-wrong, posts, own-right}
+use Rattle.certificates.specs.Certificate.{setFits}
+use Rattle.certificates.proofs.Certified.{fit-below}
+use Rattle.certificates.proofs.Judged.{set-wrong, blocked-wrong, posts, own-right}
 use Rattle.certificates.proofs.part_holds.Statement.{statement}
 use Rattle.certificates.proofs.part_holds.Tie as tie
 
@@ -25,8 +24,7 @@ pair c = paired _ _ (entry c .pre .0 .fine)
 -- the set passed its own tests
 fit : (c : tie.Else1)
     → let set = c .before .before in
-    let g = game (entry set .args .table .now) in
-    (ltb (set .cell-set .result) (2 ^ g .states) && safe g (set .cell-set .result)) ≡ true
+    setFits (game (entry set .args .table .now)) (set .cell-set .result) ≡ true
 fit c = let tested = c .before in sym (tested .set-fits .ensures) ∙ not-false _ (c .if1 .left)
 
 pub part-holds-spec : {M : Type 1} → statement M
@@ -45,7 +43,7 @@ part-holds-spec =
     let asked = entry set .pre in (
       sized _ (pair set .table-fine),
       asked .0 .halves,
-      set-below _ _ _ _ (set .cell-set .ensures) (fit (c .before)),
+      fit-below _ _ (fit (c .before)),
       action-in _ _ (pair set) _ _ (asked .1) (c .cell-action .ensures),
     ))
     (λ c. search needs)

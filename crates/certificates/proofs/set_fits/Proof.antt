@@ -4,11 +4,12 @@ use native.Mathlib.Omega.{arith}
 use borrow.Author.Needs.{needs}
 use Rattle.games.specs.Step.{safe}
 use Rattle.tables.proofs.Bounds.{few-states}
+use Rattle.certificates.specs.Certificate.{setFits}
 use Rattle.certificates.proofs.set_fits.Statement.{statement}
 use Rattle.certificates.proofs.set_fits.Tie as tie
 
 returns : tie.Need-returns
-unfolding safe
+unfolding setFits safe
 returns c =
     let bad = c .before in
     let single = bad .before in
