@@ -2,7 +2,6 @@
 use cards::Move;
 use cards::Stood;
 use games::Cell;
-use games::Checked;
 use games::Observation;
 use rows::print;
 use rows::print::say;
@@ -10,15 +9,10 @@ use rows::stations::A_CARD;
 use rows::stations::C_CARD;
 use rows::stations::changed_card;
 
-fn print_check(answer: Checked) {
-    print::checked(answer);
-    say(b"\n");
-}
-
 fn check(name: &[u8], card: &[u32]) {
     say(b"check card ");
     say(name);
-    print_check(cards::check(card));
+    print::answer(cards::check(card));
 }
 
 // A's card with one word changed.
@@ -26,7 +20,7 @@ fn check_a(place: usize, word: u32) {
     let card = changed_card(place, word);
     say(b"check card A");
     print::change(place, word);
-    print_check(cards::check(&card));
+    print::answer(cards::check(&card));
 }
 
 // The cell and the action, or the refusal; then the cell that the runner is in.

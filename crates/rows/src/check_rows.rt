@@ -4,17 +4,11 @@ use crate::print::say;
 use crate::stations;
 use crate::stations::A;
 use crate::stations::changed_a;
-use games::Checked;
-
-fn print_answer(answer: Checked) {
-    print::checked(answer);
-    say(b"\n");
-}
 
 fn check(name: &[u8], table: &[u32]) {
     say(b"check ");
     say(name);
-    print_answer(tables::check(table));
+    print::answer(tables::check(table));
 }
 
 // The head alone: 3 where it is right.
@@ -23,7 +17,7 @@ fn check_head(head: u32) {
     say(b"check ");
     print::word(head);
     say(b" alone");
-    print_answer(tables::check(&table));
+    print::answer(tables::check(&table));
 }
 
 // A with one word changed.
@@ -31,7 +25,7 @@ fn check_a(place: usize, word: u32) {
     let table = changed_a(place, word, place, word);
     say(b"check A");
     print::change(place, word);
-    print_answer(tables::check(&table));
+    print::answer(tables::check(&table));
 }
 
 fn heads() {
@@ -138,7 +132,7 @@ fn check_twice(place: usize, word: u32, other: usize, second: u32) {
     say(b"check A");
     print::change(place, word);
     print::change(other, second);
-    print_answer(tables::check(&table));
+    print::answer(tables::check(&table));
 }
 
 // 4 before 5 within a word; the words in order; 5 before 6; 6 before 7; 2 before 3 is above.

@@ -68,12 +68,22 @@ pub fn room(words: &[u32]) {
     say(b"]\n");
 }
 
-// " with 30000001 at 1"
-pub fn change(place: usize, w: u32) {
-    say(b" with ");
+fn placed(place: usize, w: u32) {
     word(w);
     say(b" at ");
     decimal(place as u64);
+}
+
+// " with 30000001 at 1"
+pub fn change(place: usize, w: u32) {
+    say(b" with ");
+    placed(place, w);
+}
+
+// ", 30000001 at 1"
+pub fn replaced(place: usize, w: u32) {
+    say(b", ");
+    placed(place, w);
 }
 
 pub fn refusal(number: u32, place: usize) {
@@ -89,6 +99,12 @@ pub fn checked(answer: Checked) {
         Checked::Fine => say(b": fine"),
         Checked::Refused(number, place) => refusal(number, place),
     }
+}
+
+// The same, and the line's end.
+pub fn answer(answer: Checked) {
+    checked(answer);
+    say(b"\n");
 }
 
 pub fn wrote(count: usize) {

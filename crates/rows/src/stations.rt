@@ -206,6 +206,18 @@ pub const C_CARD: [u32; 9] = [
     0xB001FFFF,
 ];
 
+// F's card, and the one for twelve states that move to themselves.
+pub const F_CARD: [u32; 4] = [0x80110001, 0x90000000, 0xA0000001, 0xB0000000];
+
+pub const STATES_12_CARD: [u32; 4] = [0x80110001, 0x90000000, 0xA0000FFF, 0xB0000000];
+
+// One word changed.
+pub fn change(words: &mut [u32], place: usize, word: u32) {
+    if place < words.len() {
+        words[place] = word;
+    }
+}
+
 // A with one word changed, and then another.
 pub fn changed_a(place: usize, word: u32, other: usize, second: u32) -> [u32; 10]
     ensures { λ r. ⌜ 10 ≡ length r ⌝ }

@@ -1,12 +1,13 @@
-// Runs the rows of document 01 and prints what each entry answers and leaves in its buffers.
+// Runs the rows of documents 01 and 02 and prints what each entry answers and leaves in its buffers.
 use entry_rows::card_rows;
 use entry_rows::judge_rows;
 use entry_rows::list_rows;
+use pair_rows::judge_card_rows;
+use pair_rows::show_rows;
 use rows::check_rows;
 use rows::field_rows;
 
 mod run_rows;
-mod show_rows;
 mod solve_rows;
 
 fn main() {
@@ -17,5 +18,6 @@ fn main() {
     card_rows::rows();
     solve_rows::rows();
     show_rows::rows();
+    judge_card_rows::rows();
     run_rows::rows();
 }
