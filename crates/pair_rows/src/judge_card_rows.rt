@@ -141,8 +141,8 @@ fn judge_third(cell: u32, next: u32) {
     tell(&A, &card);
 }
 
-// The empty set is fine with any action and any next cell. Any other set is judged, reached or not: {1} waits, which is blocked; {2} is
-// bad; {1} doses, and what follows can occur.
+// The empty set is fine with any action and any next cell, and so is cell 1 once more. Any set is judged, reached or not: {1} waits, which
+// is blocked; {2} is bad; {1} doses, and what follows can occur.
 fn unreached() {
     judge_third(0xA0000000, 0xB000FFFF);
     judge_third(0xA0100000, 0xB0000001);
@@ -182,7 +182,7 @@ fn next_words() {
     judge_c(7, 0xB000FFFF);
 }
 
-// A blocked action has no successors, and loses all the same; in G it comes to that in the last cell.
+// A blocked action has no successors, and loses all the same; in G it comes to that in the last cell. D's state is bad.
 fn blocked() {
     let mut card = F_CARD;
     judge_changed(b"E with F's card", &stations::E, &mut card, 3, 0xB000FFFF);
@@ -216,7 +216,7 @@ fn overlapping() {
     judge_changed(name, &table, &mut other, 5, 0xB001FFFF);
 }
 
-// No card is looked at where the table is refused.
+// With no card: 13 where the table is right.
 fn judge_uncarded(name: &[u8], table: &[u32]) {
     begin(name);
     say(b" with no card");
@@ -231,7 +231,7 @@ fn judge_table(place: usize, word: u32) {
     tell(&table, &[]);
 }
 
-// The table checks, and 13 behind them.
+// The table checks before 13.
 fn refused_tables() {
     judge_uncarded(b"no words", &[]);
     judge_uncarded(b"10010200 alone", &[0x10010200]);
