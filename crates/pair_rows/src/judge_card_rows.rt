@@ -8,6 +8,7 @@ use rows::stations::A_CARD;
 use rows::stations::C;
 use rows::stations::C_CARD;
 use rows::stations::F_CARD;
+use rows::stations::GUARD;
 use rows::stations::STATES_12_CARD;
 use rows::stations::change;
 use rows::stations::changed_a;
@@ -78,6 +79,30 @@ fn limits() {
     let table = stations::OBSERVATIONS_8;
     judge(b"o 8 with one cell", &table, &card);
     judge_changed(b"o 8 with one cell", &table, &mut card, 17, 0xB007FFFF);
+}
+
+// Equal cells behind the front.
+fn repeat(card: &mut [u32], cell: u32, next: u32) {
+    let mut at = 2;
+    while at < card.len() {
+        change(card, at, cell);
+        change(card, at + 1, next);
+        at += 2;
+    }
+}
+
+// So many cells that the judge tabulates the moves first. At fault: the last word; the first cell, blocked in its last state.
+fn many() {
+    let mut card = [GUARD; 130];
+    change(&mut card, 0, 0x80110040);
+    change(&mut card, 1, 0x90000000);
+    repeat(&mut card, 0xA0000FFF, 0xB0000000);
+    let mut table = stations::STATES_12;
+    judge(b"n 12 with 64 cells", &table, &card);
+    let mut other = card;
+    judge_changed(b"n 12 with 64 cells", &table, &mut other, 129, 0xB000FFFF);
+    change(&mut table, 15, 0x500B0000);
+    judge(b"n 12, 500B0000 at 15, with 64 cells", &table, &card);
 }
 
 // Accepted, though the solver would not write it: cells in another order; where no state is bad the solver has one cell for all
@@ -312,6 +337,7 @@ fn lowest() {
 pub fn rows() {
     accepted();
     limits();
+    many();
     drawn();
     highest();
     wider();
