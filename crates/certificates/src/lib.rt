@@ -12,7 +12,7 @@ ghost use Rattle.games.specs.Words.{game, frontLength, partLength};
 ghost use Rattle.tables.specs.Layout.{Sized};
 ghost use Rattle.cards.specs.Card.{automaton, cardCells, cardObservations, Named, checked as cardChecked};
 ghost use Rattle.cards.specs.Checking.{FirstWrong};
-ghost use Rattle.moves.specs.Halves.{posted, Ready};
+ghost use Rattle.moves.specs.Halves.{posted};
 ghost use Rattle.pairs.specs.Pair.{checked};
 ghost use Rattle.certificates.specs.Certificate.{lies, firstHolds, setFits, nextHolds, wordsCertified, certified, Safe};
 ghost use Rattle.certificates.specs.Judging.{Halves, Prepared, HoldsBelow, partHolds};
