@@ -226,6 +226,7 @@ fn numbers() -> Vec<(&'static str, usize)> {
         ("REFUSED_LIST_ROOM", Refusal::LIST_ROOM),
         ("REFUSED_OTHER_TABLE", Refusal::OTHER_TABLE),
         ("REFUSED_ROUNDS", Refusal::ROUNDS),
+        ("REFUSED_UNCERTIFIED", Refusal::UNCERTIFIED),
     ];
     let others = [
         ("DONE", 0),
@@ -289,7 +290,7 @@ fn named(source: &str, prefix: &str) -> BTreeSet<String> {
 fn header_and_crate_have_the_same_functions() {
     let declared = named(&read("include/kirdanzug.h"), "void kirdanzug_");
     assert_eq!(declared, named(&read("rust/src/raw.rs"), "pub fn kirdanzug_"));
-    assert_eq!(declared.len(), 12, "{declared:?}");
+    assert_eq!(declared.len(), 13, "{declared:?}");
 }
 
 /// The archive needs memcpy and memset, and keeps nothing: it has no data of its own but constants.
