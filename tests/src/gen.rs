@@ -244,6 +244,19 @@ pub fn ring(n: usize, blocked: &[u32], o: usize) -> Game {
 /// Blocked sets found by search for which the ring of twelve states settles at 498 cells.
 pub const WIDE_RING: [u32; 8] = [0x044, 0x089, 0xE00, 0x500, 0x024, 0x070, 0x202, 0x811];
 
+/// The game with one state put into one of its masks, or taken out of it; it may be no table's any more.
+pub fn changed(rng: &mut Rng, game: &Game) -> Game {
+    let (mut game, state) = (game.clone(), 1 << rng.below(game.n));
+    let (action, from, r) = (rng.below(game.a), rng.below(game.n), rng.below(game.o));
+    match rng.below(6) {
+        0 => game.start ^= state,
+        1 => game.bad ^= state,
+        2 => game.shows[r] ^= state,
+        _ => game.moves[action][from] ^= state,
+    }
+    game
+}
+
 /// The words of a random table with up to these numbers of states, actions and observations.
 pub fn table(rng: &mut Rng, shape: Shape, n: usize, a: usize, o: usize) -> Vec<u32> {
     table_words(&game(rng, shape, n, a, o))
@@ -321,18 +334,19 @@ fn numbered(pairs: &mut Vec<(usize, u32)>, named: &[Option<usize>], sets: Vec<u3
     named.iter().zip(sets).map(in_question).map(|pair| pair.map(&mut number)).collect()
 }
 
-/// A game in which every set of states is good: nothing is bad and nothing blocked.
+/// A game in which every set of states is good: nothing is bad, and action 0 is never blocked.
 pub fn open_game(rng: &mut Rng, n: usize, a: usize, o: usize) -> Game {
-    let game = game(rng, Shape::Sparse, n, a, o);
-    let moves = game.moves.iter().map(|row| row.iter().map(|&set| set.max(1)).collect()).collect();
-    Game { bad: 0, moves, ..game }
+    let mut game = game(rng, Shape::Sparse, n, a, o);
+    game.moves[0].iter_mut().filter(|set| **set == 0).for_each(|set| *set = 1);
+    Game { bad: 0, ..game }
 }
 
 /// The card of such a game with a cell for every set: the number of the cell is its mask.
 pub fn card_of_all_sets(rng: &mut Rng, game: &Game) -> Card {
     let named = |set: u32| (set != 0).then_some(set as usize);
     let mut cell = |mask| {
-        let action = rng.below(game.a);
+        let enabled: Vec<usize> = (0..game.a).filter(|&action| game.enabled(action, mask)).collect();
+        let action = rng.pick(&enabled);
         Cell { mask, action, next: game.after(action, mask).into_iter().map(named).collect() }
     };
     let cells = (0..1 << game.n).map(&mut cell).collect();
