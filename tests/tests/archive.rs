@@ -554,7 +554,11 @@ fn try_damaged(rng: &mut Rng, tally: &mut Tally, table: &[u32]) {
     try_call(rng, tally, Call::Rewrite { table: &damaged, out: table.len() });
     let card = gen::card(rng, 2, 2, 2);
     try_call(rng, tally, Call::Show { table: &damaged, card: &card, cell: 1 });
-    try_check(rng, tally, Call::JudgeCard { table: &damaged, card: &card });
+    let mut wrong = card.clone();
+    gen::damage(&mut rng.clone(), &mut wrong);
+    for card in [&card, &wrong] {
+        try_check(rng, tally, Call::JudgeCard { table: &damaged, card });
+    }
 }
 
 // ---- Cards judged ------------------------------------------------------------------------------
