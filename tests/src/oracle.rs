@@ -675,7 +675,7 @@ impl fmt::Debug for Call<'_> {
             Call::Show { table, card, cell } => {
                 write!(f, "show, cell {cell}, table {}, card {}", hex(table), hex(card))
             }
-            Call::JudgeCard { table, card } => write!(f, "judge, table {}, card {}", hex(table), hex(card)),
+            Call::JudgeCard { table, card } => write!(f, "judge a card, table {}, card {}", hex(table), hex(card)),
         }
     }
 }

@@ -670,7 +670,10 @@ fn all_small_cards() {
     for (n, a, o, m, masks) in families {
         let cards = Cards { a, o, m, masks };
         let tables = 1u64 << (n * (2 + o + a * n));
-        let work = |number: u64, tally: &mut Tally| try_all_cards(tally, &small_game(n, a, o, number), &cards);
+        let work = |number: u64, tally: &mut Tally| {
+            let all = (0..cards.count()).map(|number| cards.words(number));
+            try_cards(&mut Rng::new(seed(), number), tally, &small_game(n, a, o, number), all);
+        };
         let tally = Tally::sum(spread(tables, work));
         tally.judged.report(&format!("all cards of {m} cells, tables of n {n}, a {a}, o {o}"));
         tally.judged.must_have(&[0, 6, 7, 18]);
@@ -678,14 +681,18 @@ fn all_small_cards() {
     }
 }
 
-fn try_all_cards(tally: &mut Tally, game: &Game, cards: &Cards) {
-    let mut rng = Rng::new(seed(), 0);
+/// The cards judged against the game's table, the solver's too where it has one. One of them is enough where the
+/// table is refused.
+fn try_cards(rng: &mut Rng, tally: &mut Tally, game: &Game, cards: impl Iterator<Item = Vec<u32>>) {
     let table = &oracle::table_words(game);
     let Ok((_, verdict)) = oracle::decided(table) else {
-        return try_call(&mut rng, tally, Call::JudgeCard { table, card: &cards.words(0) });
+        return cards.take(1).for_each(|card| try_call(rng, tally, Call::JudgeCard { table, card: &card }));
     };
     let station = Station { table, game, solved: solved(&verdict) };
-    (0..cards.count()).for_each(|number| try_judged(&mut rng, tally, &station, &cards.words(number)));
+    if let Some(card) = station.solved {
+        accepts(rng, tally, table, &oracle::card_words(card));
+    }
+    cards.for_each(|card| try_judged(rng, tally, &station, &card));
 }
 
 /// The solver's card of one table judged against another: with one state more or less in one mask, and any
@@ -697,9 +704,11 @@ fn cards_of_other_tables() {
         let (n, a, o) = (rng.within(1, 6), rng.within(1, 4), rng.within(1, 4));
         let game = gen::game(&mut rng, SHAPES[i as usize % SHAPES.len()], n, a, o);
         let Verdict::Yes { card, .. } = oracle::decide(&game) else { return };
+        let card = oracle::card_words(&card);
+        accepts(&rng, tally, &oracle::table_words(&game), &card);
         let (shape, n) = (rng.pick(&SHAPES), rng.within(1, 6));
         for other in [gen::changed(&mut rng, &game), gen::game(&mut rng, shape, n, a, o)] {
-            try_other(&mut rng, tally, &other, &oracle::card_words(&card));
+            try_cards(&mut rng, tally, &other, [card.clone()].into_iter());
         }
     };
     let tables = count(4);
@@ -708,14 +717,6 @@ fn cards_of_other_tables() {
     if tables >= ENOUGH {
         tally.judged.must_have(&[0, 6, 7, 16, 18]);
         tally.judged.must_have_drawn(tables / 50, tables / 20);
-    }
-}
-
-fn try_other(rng: &mut Rng, tally: &mut Tally, game: &Game, card: &[u32]) {
-    let table = &oracle::table_words(game);
-    match oracle::decided(table) {
-        Ok((_, verdict)) => try_judged(rng, tally, &Station { table, game, solved: solved(&verdict) }, card),
-        Err(_) => try_call(rng, tally, Call::JudgeCard { table, card }),
     }
 }
 
@@ -728,7 +729,7 @@ fn long_cards_judged() {
     for o in [1, 3, 8] {
         let game = gen::open_game(&mut rng, 12, 8, o);
         let card = oracle::card_words(&gen::card_of_all_sets(&mut rng, &game));
-        try_other(&mut rng, &mut tally, &game, &card);
+        try_cards(&mut rng, &mut tally, &game, [card.clone()].into_iter());
         let first = (1..=o).find(|&place| card[place] & 0xFFFF != NO_CELL).expect("something is shown first");
         let mut words: Vec<(usize, u32)> = [first, card.len() - 1].map(|place| (place, card[place] | NO_CELL)).into();
         for _ in 0..20 {

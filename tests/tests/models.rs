@@ -388,7 +388,7 @@ fn card_judges_agree() {
     }
     report(&format!("judges of cards: seed {seed}, accepted {}, refused by 1 to 18: {:?}", answers[0], &answers[1..]));
     let numbers = [0, 1, 2, 3, 4, 5, 6, 7, 13, 16, 18];
-    assert!(count(2) < 10_000 || numbers.iter().all(|&number: &usize| answers[number] > 0));
+    assert!(count(2) < 50_000 || numbers.iter().all(|&number: &usize| answers[number] > 0));
     assert!(count(2) < 1000 || answers[0] * 10 > count(2) && answers[18] * 10 > count(2));
 }
 
