@@ -720,6 +720,25 @@ fn cards_of_other_tables() {
     }
 }
 
+/// Cards of every number of cells up to 130, drawn by hand where every set is good, and redrawn.
+#[test]
+fn cards_of_every_length() {
+    let work = |i: u64, tally: &mut Tally| {
+        let mut rng = Rng::new(seed(), i);
+        let (n, a, o) = (rng.within(1, 7), rng.within(1, 8), rng.within(1, 8));
+        let game = gen::open_game(&mut rng, n, a, o);
+        let card = gen::drawn(&mut rng, &game, 1 + i as usize % 130);
+        let mut redrawn = card.clone();
+        gen::redraw(&mut rng, &game, &mut redrawn);
+        let cards = [card, redrawn].map(|card| oracle::card_words(&card));
+        try_cards(&mut rng, tally, &game, cards.into_iter());
+    };
+    let tally = Tally::sum(spread(130 * 10, work));
+    tally.judged.report("cards of every length");
+    tally.judged.must_have(&[0, 18]);
+    tally.judged.must_have_drawn(500, 50);
+}
+
 /// Cards of 4,096 cells, one for every set of twelve states: as they are, where a first word and the last word
 /// say that it cannot occur, and with a bit changed of a first word, of a cell's set or action, of a next word.
 #[test]

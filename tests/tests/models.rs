@@ -400,6 +400,27 @@ fn solved(game: &Game) -> Option<Card> {
     }
 }
 
+/// Cards of every number of cells up to 40, drawn by hand and redrawn.
+#[test]
+fn card_judges_agree_on_every_length() {
+    let mut judge = fast::CardJudge::new();
+    let mut accepted = 0;
+    for i in 0..400 {
+        let mut rng = Rng::new(seed(), i);
+        let (n, a, o) = (rng.within(1, 12), rng.within(1, 8), rng.within(1, 8));
+        let game = gen::open_game(&mut rng, n, a, o);
+        let mut card = gen::drawn(&mut rng, &game, 1 + i as usize % 40);
+        for _ in 0..2 {
+            let (table, words) = (oracle::table_words(&game), oracle::card_words(&card));
+            let expected = oracle::judge_card(&table, &words).map_err(refused);
+            assert_eq!(judge.judge(&table, &words), expected, "{table:x?} {words:x?}");
+            accepted += u32::from(expected.is_ok());
+            gen::redraw(&mut rng, &game, &mut card);
+        }
+    }
+    assert!((100..700).contains(&accepted), "{accepted} of 800 accepted");
+}
+
 /// Cards of 4,096 cells, right and with a word changed anywhere.
 #[test]
 fn card_judges_agree_on_long_cards() {
