@@ -65,20 +65,20 @@ impl Layout {
         }
     }
 
-    /// The table checks in their order, and what the search needs.
+    /// The table checks in their order.
     fn read(&mut self, table: &[u32]) -> Result<(), (u32, usize)> {
-        self.read_masks(table, Layout::fill_halves)?;
+        let shown = self.read_front(table)?;
+        for c in 0..self.a {
+            self.read_action(table, c)?;
+        }
+        self.check_sets(shown)?;
         self.find_widest();
         Ok(())
     }
 
-    /// The table checks in their order; the successors of every state under an action are handed on.
+    /// The numbers and the masks in front of the moves; the states that show anything.
     #[inline(always)]
-    fn read_masks(
-        &mut self,
-        table: &[u32],
-        mut keep: impl FnMut(&mut Layout, usize, &[u16; 12]),
-    ) -> Result<(), (u32, usize)> {
+    fn read_front(&mut self, table: &[u32]) -> Result<u16, (u32, usize)> {
         let &head = table.first().ok_or((1, 0))?;
         let [n, a, o, top] = head.to_le_bytes().map(usize::from);
         let fits = top == 0x10 && n.wrapping_sub(1) < 12 && a.wrapping_sub(1) < 8 && o.wrapping_sub(1) < 8;
@@ -96,14 +96,16 @@ impl Layout {
             self.shows[r] = self.mask(table, 3 + r, 0x4000 | r as u32)?;
             shown |= self.shows[r];
         }
-        for c in 0..a {
-            let row = self.read_action(table, c)?;
-            keep(self, c, &row);
-        }
+        Ok(shown)
+    }
+
+    /// What comes after all words: 6 and 7.
+    #[inline(always)]
+    fn check_sets(&self, shown: u16) -> Result<(), (u32, usize)> {
         if self.start == 0 {
             return Err((6, 1));
         }
-        if shown != full(n) {
+        if shown != full(self.n) {
             return Err((7, shown.trailing_ones() as usize));
         }
         Ok(())
@@ -121,24 +123,27 @@ impl Layout {
         Ok(word as u16)
     }
 
+    /// The successors of each state under an action, and the states where it is open.
     #[inline(always)]
-    fn read_action(&mut self, table: &[u32], c: usize) -> Result<[u16; 12], (u32, usize)> {
-        let (mut row, mut enabled) = ([0u16; 12], 0);
+    fn read_row(&self, table: &[u32], c: usize) -> Result<([u16; 12], u16), (u32, usize)> {
+        let (mut row, mut enabled) = ([0; 12], 0);
         for state in 0..self.n {
             let place = 3 + self.o + c * self.n + state;
             row[state] = self.mask(table, place, 0x5000 | (c as u32) << 4 | state as u32)?;
             enabled |= u16::from(row[state] != 0) << state;
         }
-        self.enabled[c] = enabled;
-        Ok(row)
+        Ok((row, enabled))
     }
 
-    fn fill_halves(&mut self, c: usize, row: &[u16; 12]) {
+    fn read_action(&mut self, table: &[u32], c: usize) -> Result<(), (u32, usize)> {
+        let (row, enabled) = self.read_row(table, c)?;
+        self.enabled[c] = enabled;
         for half in 1..64usize {
             let (rest, lowest) = (half & (half - 1), half.trailing_zeros() as usize);
             self.low[c][half] = self.low[c][rest] | row[lowest];
             self.high[c][half] = self.high[c][rest] | row[lowest + 6];
         }
+        Ok(())
     }
 
     /// Successors that show less are good where those that show more are.
@@ -774,11 +779,12 @@ impl CardJudge {
 
     /// Whether the card is accepted, or number and place of a refusal.
     pub fn judge(&mut self, table: &[u32], card: &[u32]) -> Result<(), (u32, usize)> {
-        let (moves, lost) = (&mut self.moves, &mut self.lost);
-        self.layout.read_masks(table, |layout, c, row| {
-            moves[c] = *row;
-            lost[c] = layout.bad | !layout.enabled[c];
-        })?;
+        let shown = self.layout.read_front(table)?;
+        for c in 0..self.layout.a {
+            let (row, enabled) = self.layout.read_row(table, c)?;
+            (self.moves[c], self.lost[c]) = (row, self.layout.bad | !enabled);
+        }
+        self.layout.check_sets(shown)?;
         let (cells, o, a) = Rows::head(card)?;
         if (a as usize, o) != (self.layout.a, self.layout.o) {
             Rows::check(card)?;
