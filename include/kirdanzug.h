@@ -30,11 +30,11 @@ extern "C" {
 
 /* The version of this header and of the archive that it is for. */
 #define KIRDANZUG_VERSION_MAJOR 0
-#define KIRDANZUG_VERSION_MINOR 11
+#define KIRDANZUG_VERSION_MINOR 12
 #define KIRDANZUG_VERSION_PATCH 0
-#define KIRDANZUG_VERSION "0.11.0"
+#define KIRDANZUG_VERSION "0.12.0"
 
-/* The stack that is enough for a call of any function, in bytes. Measured: 6,512 (solve); 9,576 where
+/* The stack that is enough for a call of any function, in bytes. Measured: 6,528 (solve); 9,592 where
  * memcpy and memset are bound at their first call, by the dynamic linker. The rest is margin. */
 #define KIRDANZUG_STACK_BYTES 12288
 
@@ -119,7 +119,8 @@ enum {
     KIRDANZUG_REFUSED_CANNOT_OCCUR = 14, /* by the card the observation cannot occur here: stop; the observation */
     KIRDANZUG_REFUSED_LIST_ROOM = 15,    /* the room for a list or for actions is too short; the words needed */
     KIRDANZUG_REFUSED_OTHER_TABLE = 16,  /* the card's actions or observations are not the table's; 0 */
-    KIRDANZUG_REFUSED_ROUNDS = 17        /* the judge was asked for more than 4 rounds; k */
+    KIRDANZUG_REFUSED_ROUNDS = 17,       /* the judge was asked for more than 4 rounds; k */
+    KIRDANZUG_REFUSED_UNCERTIFIED = 18   /* a word of the card does not hold for the table; the lowest such word */
 };
 
 /* ---- Tables and cards ------------------------------------------------------------------------ */
@@ -164,6 +165,13 @@ void kirdanzug_solve(const uint32_t *table, size_t table_length,
 void kirdanzug_judge(const uint32_t *table, size_t table_length,
                      uint32_t mask, uint32_t k,
                      uint64_t answer[3]);
+
+/* Judges a card, whoever drew it, against the table: 0, 0, 0 where it is accepted. An accepted card keeps
+ * every play clear and is never refused on a play under it; what solve wrote is accepted against its own
+ * table. Refused: the table's checks, 13, 16, then 18 at the lowest word of the card at fault. */
+void kirdanzug_judge_card(const uint32_t *table, size_t table_length,
+                          const uint32_t *card, size_t card_length,
+                          uint64_t answer[3]);
 
 /* The maximal sets of both lists of masks of width n, ascending, at the front of `out`: 0, length, 0.
  * Refused: 2, 5, 15. */
@@ -212,7 +220,7 @@ void kirdanzug_show(const uint32_t *table, size_t table_length,
 /* ---- Typed calls ----------------------------------------------------------------------------- */
 
 /* The four functions that run a card, with a type for each kind of number: a call with an observation
- * where the cell belongs does not compile. */
+ * where the cell belongs does not compile. The judge of cards stands with them. */
 typedef struct { uint32_t number; } kirdanzug_cell;
 typedef struct { uint32_t number; } kirdanzug_observation;
 typedef struct { uint32_t number; } kirdanzug_action;
@@ -291,6 +299,15 @@ static inline kirdanzug_part kirdanzug_typed_show(const uint32_t *table, size_t 
     part.offset = done ? (size_t)answer[1] : 0;
     part.length = done ? (size_t)answer[2] : 0;
     return part;
+}
+
+/* Refused or not: a card that is not refused is accepted. */
+static inline kirdanzug_refusal kirdanzug_typed_judge_card(const uint32_t *table, size_t table_length,
+                                                           const uint32_t *card, size_t card_length)
+{
+    uint64_t answer[3];
+    kirdanzug_judge_card(table, table_length, card, card_length, answer);
+    return kirdanzug_refusal_of(answer);
 }
 
 #ifdef __cplusplus

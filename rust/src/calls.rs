@@ -86,6 +86,13 @@ pub fn judge(table: &[u32], set: StateSet, rounds: u32) -> Result<bool, Refusal>
     Ok(done(|answer| raw::judge(table, set.0, rounds, answer))?.0 == 1)
 }
 
+/// Judges a card, whoever drew it, against a table. One that is accepted keeps every play clear and is
+/// never refused on a play under it; what [`solve`] wrote is accepted against its own table. Refused: the
+/// table's checks, 13, 16, then 18 at the lowest word at fault.
+pub fn judge_card(table: &[u32], card: &[u32]) -> Result<(), Refusal> {
+    done(|answer| raw::judge_card(table, card, answer)).map(|_| ())
+}
+
 /// The maximal sets of both lists, for stations of so many states, ascending. Refused: 2, 5, 15.
 pub fn join<'a>(
     states: u32,

@@ -36,7 +36,8 @@ pub mod raw;
 mod refusal;
 
 pub use calls::{
-    check_card, check_table, join, judge, meet, open, rewrite, run, show, solve, step, write, CardSize, Move, Verdict,
+    check_card, check_table, join, judge, judge_card, meet, open, rewrite, run, show, solve, step, write, CardSize,
+    Move, Verdict,
 };
 pub use fields::Fields;
 pub use numbers::{Action, Cell, Observation, State, StateSet};

@@ -71,6 +71,12 @@ extern "C" {
         card: *const u32, card_length: usize,
         cell: u32, answer: *mut Answer,
     );
+    /// Judges a card against a table.
+    pub fn kirdanzug_judge_card(
+        table: *const u32, table_length: usize,
+        card: *const u32, card_length: usize,
+        answer: *mut Answer,
+    );
 }
 
 // Each call below is sound because the slices are valid for their lengths and, being Rust
@@ -188,4 +194,10 @@ pub fn run(card: &[u32], observations: &[u32], out: &mut [u32], answer: &mut Ans
 #[inline]
 pub fn show(table: &[u32], card: &[u32], cell: u32, answer: &mut Answer) {
     unsafe { kirdanzug_show(table.as_ptr(), table.len(), card.as_ptr(), card.len(), cell, answer) }
+}
+
+/// 0, 0, 0: the card is accepted.
+#[inline]
+pub fn judge_card(table: &[u32], card: &[u32], answer: &mut Answer) {
+    unsafe { kirdanzug_judge_card(table.as_ptr(), table.len(), card.as_ptr(), card.len(), answer) }
 }

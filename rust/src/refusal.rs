@@ -11,7 +11,7 @@ pub struct Refusal {
 }
 
 /// What is wrong and what to do about it, by number from 1 (docs/FORMAT.md).
-const TEXTS: [&str; 17] = [
+const TEXTS: [&str; 18] = [
     "the table has no word: pass the table's words",
     "the table's head (its kind, its spare bits, or the number of states, actions or readings) or the lists' width is \
      out of its limits: correct it, and count states, actions and readings again",
@@ -35,6 +35,9 @@ const TEXTS: [&str; 17] = [
     "the room for the list, or for the actions of the run, is too short: lend as many words as the place says",
     "the card's number of actions or readings is not the table's: take the table that the card was made for",
     "the plain judge takes at most 4 rounds: ask for fewer",
+    "this word of the card, the place, does not hold for the table (the states in question are not all in the cell \
+     named; or the cell's set has a bad state, one from n up, or one where the action is blocked): correct it, or the \
+     set of the cell that it names",
 ];
 
 impl Refusal {
@@ -72,14 +75,16 @@ impl Refusal {
     pub const OTHER_TABLE: u32 = 16;
     /// 17: the judge was asked for more than 4 rounds.
     pub const ROUNDS: u32 = 17;
+    /// 18: a word of the card does not hold for the table.
+    pub const UNCERTIFIED: u32 = 18;
 
-    /// The archive's refusal. It has no number but 1 to 17.
+    /// The archive's refusal. It has no number but 1 to 18.
     pub(crate) fn new(number: u64, place: u64) -> Refusal {
         assert!((1..=TEXTS.len() as u64).contains(&number), "the archive has no refusal {number}");
         Refusal { number: number as u32, place }
     }
 
-    /// The number of the check that failed, 1 to 17.
+    /// The number of the check that failed, 1 to 18.
     pub fn number(&self) -> u32 {
         self.number
     }
@@ -111,7 +116,7 @@ mod tests {
 
     #[test]
     fn every_number_has_a_text_of_its_own() {
-        for number in 1..=17 {
+        for number in 1..=18 {
             let text = Refusal::new(number, 0).text();
             assert!(text.contains(": "), "{text} does not say what to do");
             assert_eq!(TEXTS.iter().filter(|&&other| other == text).count(), 1, "{text}");
@@ -125,8 +130,8 @@ mod tests {
     }
 
     #[test]
-    #[should_panic(expected = "no refusal 18")]
+    #[should_panic(expected = "no refusal 19")]
     fn no_other_number() {
-        Refusal::new(18, 0);
+        Refusal::new(19, 0);
     }
 }

@@ -13,7 +13,8 @@ use std::process::{Command, Output, Stdio};
 const ARCHIVE: &str = env!("KIRDANZUG_ARCHIVE_FOLDER");
 
 /// The sections of the page that have a caller.
-const CALLERS: [&str; 3] = ["A caller in C", "Tables and cards by themselves", "A caller in Rust"];
+const CALLERS: [&str; 4] =
+    ["A caller in C", "Tables and cards by themselves", "A card drawn by hand", "A caller in Rust"];
 
 fn root() -> PathBuf {
     Path::new(env!("CARGO_MANIFEST_DIR")).parent().expect("rust/ has a parent").to_path_buf()
@@ -131,8 +132,13 @@ fn tables_and_cards_in_c() {
 }
 
 #[test]
-fn caller_in_rust() {
+fn card_judged_in_c() {
     build_and_run(CALLERS[2]);
+}
+
+#[test]
+fn caller_in_rust() {
+    build_and_run(CALLERS[3]);
 }
 
 /// No block of the page is left out: each is a file, the commands or the output of a caller.
@@ -226,6 +232,7 @@ fn numbers() -> Vec<(&'static str, usize)> {
         ("REFUSED_LIST_ROOM", Refusal::LIST_ROOM),
         ("REFUSED_OTHER_TABLE", Refusal::OTHER_TABLE),
         ("REFUSED_ROUNDS", Refusal::ROUNDS),
+        ("REFUSED_UNCERTIFIED", Refusal::UNCERTIFIED),
     ];
     let others = [
         ("DONE", 0),
@@ -289,7 +296,7 @@ fn named(source: &str, prefix: &str) -> BTreeSet<String> {
 fn header_and_crate_have_the_same_functions() {
     let declared = named(&read("include/kirdanzug.h"), "void kirdanzug_");
     assert_eq!(declared, named(&read("rust/src/raw.rs"), "pub fn kirdanzug_"));
-    assert_eq!(declared.len(), 12, "{declared:?}");
+    assert_eq!(declared.len(), 13, "{declared:?}");
 }
 
 /// The archive needs memcpy and memset, and keeps nothing: it has no data of its own but constants.

@@ -90,6 +90,17 @@ fn shown_from_the_table() {
 }
 
 #[test]
+fn cards_judged() {
+    assert_eq!(judge_card(&A, &A_CARD), Ok(()));
+    assert_eq!(judge_card(&C, &C_CARD), Ok(()));
+    assert_eq!(refused(judge_card(&A, &with(A_CARD, 2, 0xA0000005))), (Refusal::UNCERTIFIED, 2));
+    assert_eq!(refused(judge_card(&B, &A_CARD)), (Refusal::UNCERTIFIED, 1));
+    assert_eq!(refused(judge_card(&C, &A_CARD)), (Refusal::OTHER_TABLE, 0));
+    assert_eq!(refused(judge_card(&C, &A_CARD[..5])), (Refusal::CARD, 5));
+    assert_eq!(refused(judge_card(&A[..9], &[])), (Refusal::LENGTH, 9));
+}
+
+#[test]
 fn checks() {
     assert_eq!(check_table(&A), Ok(()));
     assert_eq!(check_card(&C_CARD), Ok(CardSize { cells: 2, observations: 2 }));

@@ -1,6 +1,7 @@
 //! Independent checkers of verdicts, straight from plays and strategies.
 
 use crate::game::{members, Game};
+use crate::oracle::Card;
 use std::collections::{HashMap, HashSet};
 
 /// What moves a play on: opening with the first observation, then one step for each later one.
@@ -24,6 +25,11 @@ fn survived(game: &Game, state: usize, action: u32) -> bool {
 /// step refused. Whether a round is survived depends on state and cell alone, so each pair is
 /// looked at once.
 pub fn keeps_clear(game: &Game, runner: &mut impl Runner) -> Result<(), String> {
+    keeps_within(game, runner, |_| u32::MAX)
+}
+
+/// The same, and on every play the state is in the set of the cell that the runner is in.
+pub fn keeps_within(game: &Game, runner: &mut impl Runner, set: impl Fn(u32) -> u32) -> Result<(), String> {
     let mut seen = HashSet::new();
     let mut waiting = Vec::new();
     for state in members(game.start) {
@@ -39,6 +45,9 @@ pub fn keeps_clear(game: &Game, runner: &mut impl Runner) -> Result<(), String> 
         if !survived(game, state, action) {
             return Err(format!("state {state} in cell {cell} does not survive action {action}"));
         }
+        if set(cell) >> state & 1 == 0 {
+            return Err(format!("state {state} is not in the set of cell {cell}"));
+        }
         for successor in members(game.moves[action as usize][state]) {
             for r in shown(game, successor) {
                 let refusal = || format!("cell {cell} refuses observation {r}");
@@ -47,6 +56,23 @@ pub fn keeps_clear(game: &Game, runner: &mut impl Runner) -> Result<(), String> 
         }
     }
     Ok(())
+}
+
+/// The judge of cards state by state: each state that may come first is in the cell entered, whatever it
+/// shows; and from each state of each cell's set the round is survived and each successor is in the
+/// cell entered, whatever it shows.
+pub fn holds_by_states(game: &Game, card: &Card) -> bool {
+    let entered = |cells: &[Option<usize>], state: usize| {
+        shown(game, state).all(|r| cells[r].is_some_and(|cell| card.cells[cell].mask >> state & 1 == 1))
+    };
+    members(game.start).all(|state| entered(&card.first, state))
+        && card.cells.iter().all(|cell| {
+            members(cell.mask).all(|state| {
+                state < game.n
+                    && survived(game, state, cell.action as u32)
+                    && members(game.moves[cell.action][state]).all(|successor| entered(&cell.next, successor))
+            })
+        })
 }
 
 /// Plays every play of at most `rounds` rounds one by one, with nothing remembered.

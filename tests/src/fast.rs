@@ -1,4 +1,4 @@
-//! A quick independent solver, for the benchmark, with two searches; lists, judge and runner as well.
+//! A quick independent solver, for the benchmark, with two searches; lists, judges and runner as well.
 //!
 //! - Boundary: families of sets, 64 sets to a machine word. A set that is good settles all its
 //!   subsets, so a pass tests little more than the sets that fall and the maximal ones that stay.
@@ -67,6 +67,18 @@ impl Layout {
 
     /// The table checks in their order.
     fn read(&mut self, table: &[u32]) -> Result<(), (u32, usize)> {
+        let shown = self.read_front(table)?;
+        for c in 0..self.a {
+            self.read_action(table, c)?;
+        }
+        self.check_sets(shown)?;
+        self.find_widest();
+        Ok(())
+    }
+
+    /// The numbers and the masks in front of the moves; the states that show anything.
+    #[inline(always)]
+    fn read_front(&mut self, table: &[u32]) -> Result<u16, (u32, usize)> {
         let &head = table.first().ok_or((1, 0))?;
         let [n, a, o, top] = head.to_le_bytes().map(usize::from);
         let fits = top == 0x10 && n.wrapping_sub(1) < 12 && a.wrapping_sub(1) < 8 && o.wrapping_sub(1) < 8;
@@ -84,16 +96,18 @@ impl Layout {
             self.shows[r] = self.mask(table, 3 + r, 0x4000 | r as u32)?;
             shown |= self.shows[r];
         }
-        for c in 0..a {
-            self.read_action(table, c)?;
-        }
+        Ok(shown)
+    }
+
+    /// What comes after all words: 6 and 7.
+    #[inline(always)]
+    fn check_sets(&self, shown: u16) -> Result<(), (u32, usize)> {
         if self.start == 0 {
             return Err((6, 1));
         }
-        if shown != full(n) {
+        if shown != full(self.n) {
             return Err((7, shown.trailing_ones() as usize));
         }
-        self.find_widest();
         Ok(())
     }
 
@@ -109,14 +123,21 @@ impl Layout {
         Ok(word as u16)
     }
 
-    fn read_action(&mut self, table: &[u32], c: usize) -> Result<(), (u32, usize)> {
-        let mut row = [0u16; 12];
-        self.enabled[c] = 0;
+    /// The successors of each state under an action, and the states where it is open.
+    #[inline(always)]
+    fn read_row(&self, table: &[u32], c: usize) -> Result<([u16; 12], u16), (u32, usize)> {
+        let (mut row, mut enabled) = ([0; 12], 0);
         for state in 0..self.n {
             let place = 3 + self.o + c * self.n + state;
             row[state] = self.mask(table, place, 0x5000 | (c as u32) << 4 | state as u32)?;
-            self.enabled[c] |= u16::from(row[state] != 0) << state;
+            enabled |= u16::from(row[state] != 0) << state;
         }
+        Ok((row, enabled))
+    }
+
+    fn read_action(&mut self, table: &[u32], c: usize) -> Result<(), (u32, usize)> {
+        let (row, enabled) = self.read_row(table, c)?;
+        self.enabled[c] = enabled;
         for half in 1..64usize {
             let (rest, lowest) = (half & (half - 1), half.trailing_zeros() as usize);
             self.low[c][half] = self.low[c][rest] | row[lowest];
@@ -596,8 +617,9 @@ struct Rows<'c> {
 }
 
 impl Rows<'_> {
-    /// Refusal 13: head, length, then the words in order.
-    fn check(words: &[u32]) -> Result<Rows<'_>, (u32, usize)> {
+    /// Refusal 13 of head and length; the numbers of cells, observations and actions.
+    #[inline(always)]
+    fn head(words: &[u32]) -> Result<(usize, usize, u32), (u32, usize)> {
         let head = words.first().copied().unwrap_or(0);
         let (cells, o, a) = (head as usize & 0xFFFF, head as usize >> 16 & 15, head >> 20 & 15);
         let fits = head >> 24 == 0x80
@@ -610,6 +632,12 @@ impl Rows<'_> {
         if words.len() != (1 + cells) * (1 + o) {
             return Err((13, words.len()));
         }
+        Ok((cells, o, a))
+    }
+
+    /// Refusal 13: head, length, then the words in order.
+    fn check(words: &[u32]) -> Result<Rows<'_>, (u32, usize)> {
+        let (cells, o, a) = Rows::head(words)?;
         let (front, rows) = words.split_at(1 + o);
         if let Some(place) = wrong_target(&front[1..], 0x9000_0000, cells) {
             return Err((13, 1 + place));
@@ -712,4 +740,166 @@ pub fn drive(card: &[u32], [first, second, third]: [u32; 3]) -> Moved {
     let (mut runner, _) = Runner::open(card, first);
     let _ = runner.advance(second);
     runner.advance(third)
+}
+
+// ---- The judge of cards ------------------------------------------------------------------------
+
+/// For cards of more cells the successors of a set are looked up; in others its members are walked.
+const FEW_CELLS: usize = 16;
+
+/// Judges cards against tables, with arrays made once and used for many.
+pub struct CardJudge {
+    layout: Layout,
+    /// For each action the successors of each state, and the states that are lost under it.
+    moves: [[u16; 12]; 8],
+    lost: [u16; 8],
+    /// For each action the successors of a set of the states 0 to 3, of 4 to 7 and of 8 to 11.
+    thirds: [[[u16; 16]; 3]; 8],
+    /// The sets of the cells, and behind them the empty set, for "cannot occur". Twice as long as it need
+    /// be, so that a masked number is always in it.
+    sets: [u16; 2 * SETS],
+}
+
+impl Default for CardJudge {
+    fn default() -> CardJudge {
+        CardJudge::new()
+    }
+}
+
+impl CardJudge {
+    pub fn new() -> CardJudge {
+        CardJudge {
+            layout: Layout::new(),
+            moves: [[0; 12]; 8],
+            lost: [0; 8],
+            thirds: [[[0; 16]; 3]; 8],
+            sets: [0; 2 * SETS],
+        }
+    }
+
+    /// Whether the card is accepted, or number and place of a refusal.
+    pub fn judge(&mut self, table: &[u32], card: &[u32]) -> Result<(), (u32, usize)> {
+        let shown = self.layout.read_front(table)?;
+        for c in 0..self.layout.a {
+            let (row, enabled) = self.layout.read_row(table, c)?;
+            (self.moves[c], self.lost[c]) = (row, self.layout.bad | !enabled);
+        }
+        self.layout.check_sets(shown)?;
+        let (cells, o, a) = Rows::head(card)?;
+        if (a as usize, o) != (self.layout.a, self.layout.o) {
+            Rows::check(card)?;
+            return Err((16, 0));
+        }
+        if cells > FEW_CELLS {
+            self.fill_thirds();
+        }
+        // The length of a row is known in each: its words are tested together.
+        match o {
+            1 => self.judge_rows::<2>(card, cells),
+            2 => self.judge_rows::<3>(card, cells),
+            3 => self.judge_rows::<4>(card, cells),
+            4 => self.judge_rows::<5>(card, cells),
+            5 => self.judge_rows::<6>(card, cells),
+            6 => self.judge_rows::<7>(card, cells),
+            7 => self.judge_rows::<8>(card, cells),
+            _ => self.judge_rows::<9>(card, cells),
+        }
+    }
+
+    fn fill_thirds(&mut self) {
+        for (thirds, moves) in self.thirds.iter_mut().zip(&self.moves).take(self.layout.a) {
+            for (third, four) in thirds.iter_mut().zip(moves.chunks_exact(4)) {
+                for (i, successors) in four.iter().enumerate() {
+                    (0..1 << i).for_each(|rest| third[1 << i | rest] = third[rest] | successors);
+                }
+            }
+        }
+    }
+
+    /// 13 and 18 in one pass over the rows. From a word at fault on, only 13 is left to look for.
+    fn judge_rows<const PART: usize>(&mut self, card: &[u32], cells: usize) -> Result<(), (u32, usize)> {
+        let (rows, _) = card.as_chunks::<PART>();
+        let (front, rows) = rows.split_first().expect("a card has a front");
+        self.sets.iter_mut().zip(rows).for_each(|(set, row)| *set = row[0] as u16);
+        self.sets[cells] = 0;
+        if let Some(place) = wrong_target(&front[1..], 0x9000_0000, cells) {
+            return Err((13, 1 + place));
+        }
+        let a = self.layout.a;
+        let shaped = |i: usize, row: &[u32; PART]| match wrong_word(row, cells, a) {
+            Some(place) => Err((13, (1 + i) * PART + place)),
+            None => Ok(()),
+        };
+        let mut fault = self.fault(0, self.layout.start, front, cells);
+        let mut rows = rows.iter().enumerate();
+        while fault.is_none() {
+            let Some((i, row)) = rows.next() else { return Ok(()) };
+            shaped(i, row)?;
+            fault = self.row_fault(row, cells).map(|place| (1 + i) * PART + place);
+        }
+        for (i, row) in rows {
+            shaped(i, row)?;
+        }
+        fault.map_or(Ok(()), |place| Err((18, place)))
+    }
+
+    /// The lowest word of a cell's row that is at fault.
+    #[inline(always)]
+    fn row_fault<const PART: usize>(&self, row: &[u32; PART], cells: usize) -> Option<usize> {
+        let (set, c) = (row[0] as u16 & 0xFFF, row[0] as usize >> 20 & 7);
+        let lost = set & self.lost[c];
+        let post = match cells > FEW_CELLS {
+            true => self.looked_up(c, set),
+            false => self.walked(c, set),
+        };
+        self.fault(lost, post, row, cells)
+    }
+
+    #[inline(always)]
+    fn looked_up(&self, c: usize, set: u16) -> u16 {
+        let [low, middle, high] = &self.thirds[c];
+        low[(set & 15) as usize] | middle[(set >> 4 & 15) as usize] | high[(set >> 8 & 15) as usize]
+    }
+
+    #[inline(always)]
+    fn walked(&self, c: usize, mut set: u16) -> u16 {
+        let mut post = 0;
+        while set != 0 {
+            post |= self.moves[c][set.trailing_zeros() as usize];
+            set &= set - 1;
+        }
+        post
+    }
+
+    /// The lowest word of a row that is at fault: the first where a state is lost, or one that names a cell
+    /// without all the states that show its observation. All words together first: mostly none is.
+    #[inline(always)]
+    fn fault<const PART: usize>(&self, lost: u16, set: u16, row: &[u32; PART], cells: usize) -> Option<usize> {
+        let missing = |r: usize| {
+            let cell = (row[r] & 0xFFFF).min(cells as u32);
+            set & self.layout.shows[r - 1] & !self.sets[cell as usize & (2 * SETS - 1)]
+        };
+        match (1..PART).fold(lost, |any, r| any | missing(r)) {
+            0 => None,
+            _ if lost != 0 => Some(0),
+            _ => (1..PART).find(|&r| missing(r) != 0),
+        }
+    }
+}
+
+/// The lowest word of a cell's row that is not a card's, likewise.
+#[inline(always)]
+fn wrong_word<const PART: usize>(row: &[u32; PART], cells: usize, a: usize) -> Option<usize> {
+    let cell = row[0] ^ 0xA000_0000;
+    let wrong_cell = (cell & !0x00F0_0FFF != 0) | (cell >> 20 >= a as u32);
+    let wrong = |r: usize| {
+        let cell = row[r] ^ (0xB000_0000 | (r as u32 - 1) << 16);
+        (cell >= cells as u32) & (cell != NO_CELL)
+    };
+    let any = (1..PART).fold(wrong_cell, |any, r| any | wrong(r));
+    match any {
+        false => None,
+        true if wrong_cell => Some(0),
+        true => (1..PART).find(|&r| wrong(r)),
+    }
 }

@@ -1,7 +1,7 @@
 //! Random numbers, tables of several shapes, lists, cards, plays, and damage to words.
 
-use crate::game::{members, Game};
-use crate::oracle::{card_words, table_words, Card, Cell, Fields, NO_CELL};
+use crate::game::{members, subset, Game};
+use crate::oracle::{card_words, table_words, Card, Cell, Fields, MAX_CELLS, MAX_STATES, NO_CELL};
 
 /// splitmix64.
 #[derive(Clone)]
@@ -244,6 +244,19 @@ pub fn ring(n: usize, blocked: &[u32], o: usize) -> Game {
 /// Blocked sets found by search for which the ring of twelve states settles at 498 cells.
 pub const WIDE_RING: [u32; 8] = [0x044, 0x089, 0xE00, 0x500, 0x024, 0x070, 0x202, 0x811];
 
+/// The game with one state put into one of its masks, or taken out of it; it may be no table's any more.
+pub fn changed(rng: &mut Rng, game: &Game) -> Game {
+    let (mut game, state) = (game.clone(), 1 << rng.below(game.n));
+    let (action, from, r) = (rng.below(game.a), rng.below(game.n), rng.below(game.o));
+    match rng.below(6) {
+        0 => game.start ^= state,
+        1 => game.bad ^= state,
+        2 => game.shows[r] ^= state,
+        _ => game.moves[action][from] ^= state,
+    }
+    game
+}
+
 /// The words of a random table with up to these numbers of states, actions and observations.
 pub fn table(rng: &mut Rng, shape: Shape, n: usize, a: usize, o: usize) -> Vec<u32> {
     table_words(&game(rng, shape, n, a, o))
@@ -263,6 +276,145 @@ pub fn card(rng: &mut Rng, cells: usize, a: usize, o: usize) -> Vec<u32> {
     let first = targets(rng);
     let mut cell = |_| Cell { mask: rng.set(12, 40), action: rng.below(a), next: targets(rng) };
     card_words(&Card { a, o, first, cells: (0..cells).map(&mut cell).collect() })
+}
+
+/// A card as a person would draw it: sets that survive their action, and words that name a cell with the
+/// states in question, where there is one.
+pub fn drawn(rng: &mut Rng, game: &Game, cells: usize) -> Card {
+    let share = rng.pick(&[20, 50, 100]);
+    let cell = |rng: &mut Rng| {
+        let action = rng.below(game.a);
+        let survives = |state: &usize| !game.is_bad(*state) && game.open(action, *state);
+        let survivors = (0..game.n).filter(survives).fold(0, |set, state| set | 1 << state);
+        (survivors & rng.set(game.n, share), action)
+    };
+    let cells: Vec<(u32, usize)> = (0..cells).map(|_| cell(rng)).collect();
+    let mut named = |states: u32| {
+        let holding: Vec<usize> = (0..cells.len()).filter(|&cell| subset(states, cells[cell].0)).collect();
+        match holding.len() {
+            _ if states == 0 && rng.percent(80) => None,
+            0 => Some(rng.below(cells.len())),
+            _ => Some(rng.pick(&holding)),
+        }
+    };
+    let first = game.start_sets().into_iter().map(&mut named).collect();
+    let next = cells.iter().map(|&(mask, action)| game.after(action, mask).into_iter().map(&mut named).collect());
+    let next: Vec<Vec<Option<usize>>> = next.collect();
+    let cells = cells.iter().zip(next).map(|(&(mask, action), next)| Cell { mask, action, next }).collect();
+    Card { a: game.a, o: game.o, first, cells }
+}
+
+/// The card with a cell for each pair of its cells and what is known there in a play, so that no set says
+/// more than it must. Nothing where there are too many.
+pub fn tightest(game: &Game, card: &Card, most: usize) -> Option<Card> {
+    let mut pairs = Vec::new();
+    let first = numbered(&mut pairs, &card.first, game.start_sets());
+    let mut cells = Vec::new();
+    while let Some(&(cell, mask)) = pairs.get(cells.len()) {
+        let Cell { action, ref next, .. } = card.cells[cell];
+        let next = numbered(&mut pairs, next, game.after(action, mask));
+        cells.push(Cell { mask, action, next });
+        if pairs.len() > most {
+            return None;
+        }
+    }
+    Some(Card { a: card.a, o: card.o, first, cells })
+}
+
+/// The numbers of the pairs of a cell named and the states in question, new ones added.
+fn numbered(pairs: &mut Vec<(usize, u32)>, named: &[Option<usize>], sets: Vec<u32>) -> Vec<Option<usize>> {
+    let mut number = |pair| match pairs.iter().position(|&other| other == pair) {
+        Some(number) => number,
+        None => {
+            pairs.push(pair);
+            pairs.len() - 1
+        }
+    };
+    let in_question = |(&cell, set): (&Option<usize>, u32)| (set != 0).then(|| (cell.expect("it can occur"), set));
+    named.iter().zip(sets).map(in_question).map(|pair| pair.map(&mut number)).collect()
+}
+
+/// A game in which every set of states is good: nothing is bad, and action 0 is never blocked.
+pub fn open_game(rng: &mut Rng, n: usize, a: usize, o: usize) -> Game {
+    let mut game = game(rng, Shape::Sparse, n, a, o);
+    game.moves[0].iter_mut().filter(|set| **set == 0).for_each(|set| *set = 1);
+    Game { bad: 0, ..game }
+}
+
+/// The card of such a game with a cell for every set: the number of the cell is its mask.
+pub fn card_of_all_sets(rng: &mut Rng, game: &Game) -> Card {
+    let named = |set: u32| (set != 0).then_some(set as usize);
+    let mut cell = |mask| {
+        let enabled: Vec<usize> = (0..game.a).filter(|&action| game.enabled(action, mask)).collect();
+        let action = rng.pick(&enabled);
+        Cell { mask, action, next: game.after(action, mask).into_iter().map(named).collect() }
+    };
+    let cells = (0..1 << game.n).map(&mut cell).collect();
+    Card { a: game.a, o: game.o, first: game.start_sets().into_iter().map(named).collect(), cells }
+}
+
+/// Changes a card of the game in one place, as a person would; some changes leave it right.
+pub fn redraw(rng: &mut Rng, game: &Game, card: &mut Card) {
+    let m = card.cells.len();
+    let (cell, other, r) = (rng.below(m), rng.below(m), rng.below(card.o));
+    let any = (!rng.percent(30)).then_some(other);
+    match rng.below(11) {
+        // A set shrunk, grown, and with a state from n up.
+        0 => card.cells[cell].mask &= !(1 << rng.below(game.n)),
+        1 => card.cells[cell].mask |= 1 << rng.below(game.n),
+        2 => card.cells[cell].mask |= 1 << rng.within(game.n.min(MAX_STATES - 1), MAX_STATES - 1),
+        // Two cells that change places, in name too; and their sets alone.
+        3 => {
+            card.cells.swap(cell, other);
+            rename(card, |named| match named {
+                _ if named == cell => other,
+                _ if named == other => cell,
+                _ => named,
+            });
+        }
+        4 => (card.cells[cell].mask, card.cells[other].mask) = (card.cells[other].mask, card.cells[cell].mask),
+        // A cell doubled and named now by the one, now by the other number.
+        5 if m < MAX_CELLS => {
+            card.cells.push(card.cells[cell].clone());
+            rename(card, |named| if named == cell && rng.percent(50) { m } else { named });
+        }
+        // A cell that is never entered.
+        6 if m < MAX_CELLS => {
+            let mask = if rng.percent(50) { 0 } else { rng.set(game.n, 30) };
+            card.cells.push(Cell { mask, action: rng.below(card.a), next: vec![any; card.o] });
+        }
+        7 => card.cells[cell].action = rng.below(card.a),
+        8 => card.cells[cell].next[r] = any,
+        9 => card.first[r] = any,
+        // A cell named wherever it was said that it cannot occur.
+        _ => all_named(card).for_each(|named| *named = named.or(Some(other))),
+    }
+}
+
+/// What the first and next words name.
+fn all_named(card: &mut Card) -> impl Iterator<Item = &mut Option<usize>> {
+    card.first.iter_mut().chain(card.cells.iter_mut().flat_map(|cell| &mut cell.next))
+}
+
+/// Gives each cell that is named another number.
+fn rename(card: &mut Card, mut number: impl FnMut(usize) -> usize) {
+    all_named(card).for_each(|named| *named = named.map(&mut number));
+}
+
+/// The words of a card for the game: where there is the solver's, mostly that one redrawn or the tightest;
+/// otherwise one drawn by hand, or any at all.
+pub fn card_for(rng: &mut Rng, game: &Game, solved: Option<&Card>) -> Vec<u32> {
+    let cells = rng.within(1, 6);
+    match (rng.below(8), solved) {
+        (0..=3, Some(card)) => {
+            let mut card = card.clone();
+            (0..rng.within(1, 3)).for_each(|_| redraw(rng, game, &mut card));
+            card_words(&card)
+        }
+        (4, Some(card)) => card_words(&tightest(game, card, 200).unwrap_or_else(|| card.clone())),
+        (5, _) => card(rng, cells, game.a, game.o),
+        _ => card_words(&drawn(rng, game, cells)),
+    }
 }
 
 /// The observations of a random play under the card of its game.

@@ -114,7 +114,9 @@ impl Buffers {
                 Buffers::new(rng, &[card], 0, 0)
             }
             Call::Run { card, observations, out } => Buffers::new(rng, &[card, observations], 0, out),
-            Call::Show { table, card, .. } => Buffers::new(rng, &[table, card], 0, 0),
+            Call::Show { table, card, .. } | Call::JudgeCard { table, card } => {
+                Buffers::new(rng, &[table, card], 0, 0)
+            }
         }
     }
 
@@ -138,6 +140,7 @@ impl Buffers {
             Call::Run { .. } => archive::run(input(0), input(1), out, answer),
             Call::Drive { observations, .. } => archive::drive(input(0), observations, answer),
             Call::Show { cell, .. } => archive::show(input(0), input(1), cell, answer),
+            Call::JudgeCard { .. } => archive::judge_card(input(0), input(1), answer),
         }
     }
 

@@ -1,10 +1,11 @@
-//! The independent second opinion on Kirdanzug, written from document 01 and not from the proved code.
+//! The independent second opinion on Kirdanzug, written from documents 01 and 02 and not from the proved
+//! code.
 //!
 //! - `game`, `oracle`: the game, the words, the entries and their refusals, as plain as can be;
 //! - `check`: checkers of verdicts by playing and by searching for strategies;
-//! - `fast`: a quick solver, lists, judge and runner for the benchmark;
+//! - `fast`: a quick solver, lists, judges and runner for the benchmark;
 //! - `gen`: random tables, lists, cards, plays and damage;
-//! - `stations`: the inputs and answers that document 01 itself gives;
+//! - `stations`: the inputs and answers that document 01 itself gives, and judged cards;
 //! - `archive`, `guard`, `stack` (only with the feature `archive`): the proved archive by the raw layer
 //!   of the crate in `rust/`, called with guard words around every buffer, and its stack measured.
 

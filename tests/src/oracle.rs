@@ -1,5 +1,5 @@
-//! The entries of document 01 as a plain independent model: words, checks, refusals in their order,
-//! and what becomes of every lent word.
+//! The entries of document 01 and of document 02's change 1 as a plain independent model: words, checks,
+//! refusals in their order, and what becomes of every lent word.
 
 use crate::game::{self, members, subset, Game};
 use std::fmt;
@@ -326,16 +326,77 @@ pub fn drive(words: &[u32], [first, second, third]: [u32; 3]) -> Result<Move, Re
     step(words, moved, third)
 }
 
-/// Show: offset and length of the part of the table's words with the moves of a cell's action.
-pub fn show(table: &[u32], card: &[u32], cell: u32) -> Result<(usize, usize), Refusal> {
+/// A table and a card together: the table checks, 13, 16.
+fn read_pair(table: &[u32], card: &[u32]) -> Result<(Game, Card), Refusal> {
     let game = read_table(table)?;
     let card = read_card(card)?;
     if (card.a, card.o) != (game.a, game.o) {
         return refuse(16, 0);
     }
+    Ok((game, card))
+}
+
+/// Show: offset and length of the part of the table's words with the moves of a cell's action.
+pub fn show(table: &[u32], card: &[u32], cell: u32) -> Result<(usize, usize), Refusal> {
+    let (game, card) = read_pair(table, card)?;
     match card.cells.get(cell as usize) {
         Some(cell) => Ok((3 + game.o + cell.action * game.n, game.n)),
         None => refuse(12, cell as usize),
+    }
+}
+
+// ---- The judge of cards (document 02, change 1) ------------------------------------------------
+
+/// What a word of a card is.
+#[derive(Clone, Copy, PartialEq, Eq, Debug)]
+pub enum Spot {
+    Head,
+    First { observation: usize },
+    Cell { cell: usize },
+    Next { cell: usize, observation: usize },
+}
+
+/// The word at a place of a card for o observations.
+pub fn spot(o: usize, place: usize) -> Spot {
+    match (place / (1 + o), place % (1 + o)) {
+        (0, 0) => Spot::Head,
+        (0, column) => Spot::First { observation: column - 1 },
+        (row, 0) => Spot::Cell { cell: row - 1 },
+        (row, column) => Spot::Next { cell: row - 1, observation: column - 1 },
+    }
+}
+
+/// The table checks, 13, 16, and 18 at the lowest word at fault.
+pub fn judge_card(table: &[u32], words: &[u32]) -> Result<(), Refusal> {
+    let (game, card) = read_pair(table, words)?;
+    match (0..words.len()).find(|&place| !holds(&game, &card, spot(card.o, place))) {
+        Some(place) => refuse(18, place),
+        None => Ok(()),
+    }
+}
+
+/// The condition on a word. A cell's word comes before its next words, so these are only asked of a set
+/// without a state from n up.
+fn holds(game: &Game, card: &Card, spot: Spot) -> bool {
+    match spot {
+        Spot::Head => true,
+        Spot::First { observation } => lie(card, game.start_sets()[observation], card.first[observation]),
+        Spot::Cell { cell } => {
+            let Cell { mask, action, .. } = card.cells[cell];
+            members(mask).all(|state| state < game.n && !game.is_bad(state) && game.open(action, state))
+        }
+        Spot::Next { cell, observation } => {
+            let Cell { mask, action, ref next } = card.cells[cell];
+            lie(card, game.after(action, mask)[observation], next[observation])
+        }
+    }
+}
+
+/// The states lie in the cell named; there are none where it cannot occur.
+fn lie(card: &Card, states: u32, named: Option<usize>) -> bool {
+    match named {
+        Some(cell) => subset(states, card.cells[cell].mask),
+        None => states == 0,
     }
 }
 
@@ -498,6 +559,7 @@ pub enum Call<'a> {
     Run { card: &'a [u32], observations: &'a [u32], out: usize },
     Drive { card: &'a [u32], observations: [u32; 3] },
     Show { table: &'a [u32], card: &'a [u32], cell: u32 },
+    JudgeCard { table: &'a [u32], card: &'a [u32] },
 }
 
 /// What a call must leave: the answer, and the front of the buffers. All other words stay.
@@ -547,7 +609,7 @@ pub fn solve_outcome(decided: &Decided, work: usize, room: usize) -> Outcome {
     Outcome { answer, zeroed, written }
 }
 
-/// The outcome that document 01 gives to a call.
+/// The outcome that the documents give to a call.
 pub fn outcome(call: &Call) -> Outcome {
     let result = match *call {
         Call::Solve { table, work, card } => Ok(solve_outcome(&decided(table), work, card)),
@@ -567,6 +629,7 @@ pub fn outcome(call: &Call) -> Outcome {
         Call::Show { table, card, cell } => {
             show(table, card, cell).map(|(offset, length)| Outcome::done(offset as u64, length as u64))
         }
+        Call::JudgeCard { table, card } => judge_card(table, card).map(|()| Outcome::done(0, 0)),
     };
     result.unwrap_or_else(|refusal| Outcome::refused(refusal.number, refusal.place))
 }
@@ -612,6 +675,7 @@ impl fmt::Debug for Call<'_> {
             Call::Show { table, card, cell } => {
                 write!(f, "show, cell {cell}, table {}, card {}", hex(table), hex(card))
             }
+            Call::JudgeCard { table, card } => write!(f, "judge a card, table {}, card {}", hex(table), hex(card)),
         }
     }
 }

@@ -116,6 +116,7 @@ fn machine(call: &Call, rooms: &mut Rooms) -> Option<Machine> {
         Call::Show { table, card, cell } => {
             machine!(kirdanzug_show, pair(table), pair(card), numbers(&[cell]), answer)
         }
+        Call::JudgeCard { table, card } => machine!(kirdanzug_judge_card, pair(table), pair(card), answer),
         Call::Drive { .. } => return None,
     })
 }
@@ -161,6 +162,7 @@ impl Measured {
 
     fn card(&mut self, rng: &mut Rng, table: &[u32], card: &[u32]) {
         self.call(Call::CheckCard { card });
+        self.call(Call::JudgeCard { table, card });
         for observation in 0..=8 {
             let observations = &vec![observation; rng.within(0, 20)];
             self.call(Call::Open { card, observation });

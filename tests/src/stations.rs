@@ -1,6 +1,7 @@
 //! What document 01 itself gives: its stations with their answers, and every row of the table of
 //! refusals with its small input. The answers here are copied from the document, not computed. Runs
-//! over lists of observations are done by hand on its cards.
+//! over lists of observations are done by hand on its cards, and so are the judged cards of document
+//! 02's change 1.
 
 use crate::oracle::{Call, Fields, Outcome};
 
@@ -105,7 +106,7 @@ const A_SLOT_MASK: Fields = Fields { start: 8, ..A_SHOWN_SLOT };
 const A_STARTLESS_MASK: Fields = Fields { start: 0, ..A_LAST_MASK };
 const A_STARTLESS_HIDDEN: Fields = Fields { start: 0, ..A_HIDDEN };
 
-/// A call and the outcome that document 01 gives it.
+/// A call and the outcome that the documents give it.
 pub struct Row {
     pub name: &'static str,
     pub call: Call<'static>,
@@ -288,7 +289,85 @@ pub fn checks() -> Vec<Row> {
 
 /// Every row.
 pub fn rows() -> impl Iterator<Item = Row> {
-    stations().into_iter().chain(refusals()).chain(runs()).chain(checks())
+    stations().into_iter().chain(refusals()).chain(runs()).chain(checks()).chain(judged())
+}
+
+// A's card, redrawn.
+const A_CARD_NO_FIRST: [u32; 6] = with(A_CARD, 1, 0x9000FFFF);
+const A_CARD_OTHER_FIRST: [u32; 6] = with(A_CARD, 1, 0x90000001);
+const A_CARD_BAD: [u32; 6] = with(A_CARD, 2, 0xA0000005);
+const A_CARD_BEYOND: [u32; 6] = with(A_CARD, 2, 0xA0000009);
+const A_CARD_HIGHEST: [u32; 6] = with(A_CARD, 2, 0xA0000801);
+const A_CARD_DOSING: [u32; 6] = with(A_CARD, 2, 0xA0100001);
+const A_CARD_NO_NEXT: [u32; 6] = with(A_CARD, 3, 0xB000FFFF);
+const A_CARD_STAYING: [u32; 6] = with(A_CARD, 3, 0xB0000000);
+const A_CARD_BLOCKED: [u32; 6] = with(A_CARD, 4, 0xA0000002);
+const A_CARD_BACK: [u32; 6] = with(A_CARD, 5, 0xB0000001);
+/// Cell 1 is entered in state 1, and its action is right there, but its set says that it never is: a card
+/// that keeps every play clear and is not accepted.
+pub const A_CARD_SILENT: [u32; 6] = with(A_CARD, 4, 0xA0100000);
+/// Both cells in the other order.
+const A_CARD_SWAPPED: [u32; 6] = [0x80210002, 0x90000001, 0xA0100002, 0xB0000001, 0xA0000001, 0xB0000000];
+/// A third cell that is never entered: it must hold all the same, and the empty set does.
+const A_CARD_IDLE: [u32; 8] = [
+    0x80210003, 0x90000000, 0xA0000001, 0xB0000001, 0xA0100002, 0xB0000000, 0xA0000000, 0xB000FFFF,
+];
+const A_CARD_IDLE_BAD: [u32; 8] = with(A_CARD_IDLE, 6, 0xA0000004);
+const A_CARD_IDLE_NEXT: [u32; 8] = with(A_CARD_IDLE, 6, 0xA0000001);
+// Two words at fault, and a word at fault with a refusal before it.
+const A_CARD_NEXT_AND_CELL: [u32; 6] = with(A_CARD_NO_NEXT, 4, 0xA0000002);
+const A_CARD_FIRST_AND_CELL: [u32; 6] = with(A_CARD_NO_FIRST, 2, 0xA0000005);
+const A_CARD_BAD_AND_SPARE: [u32; 6] = with(A_CARD_BAD, 5, 0xB1000000);
+/// C's card where observation 0 cannot occur in cell 1, though it does.
+const C_CARD_NO_NEXT: [u32; 9] = with(C_CARD, 7, 0xB000FFFF);
+/// C's card where a cell is named for what cannot occur: nothing is wrong with that.
+const C_CARD_NAMED: [u32; 9] = with(with(C_CARD, 4, 0xB0000000), 8, 0xB0010001);
+/// A's card for three actions.
+const A_CARD_THREE: [u32; 6] = with(A_CARD, 0, 0x80310002);
+
+/// Cards judged, the stations' and redrawn ones.
+pub fn judged() -> Vec<Row> {
+    let judge = |table, card| Call::JudgeCard { table, card };
+    let accepted = || Outcome::done(0, 0);
+    vec![
+        row("A's card judged", judge(&A, &A_CARD), accepted()),
+        row("C's card judged", judge(&C, &C_CARD), accepted()),
+        row("F's card judged", judge(&F, &F_CARD), accepted()),
+        row("n 12's card judged", judge(&TWELVE, &TWELVE_CARD), accepted()),
+        row("cells in the other order", judge(&A, &A_CARD_SWAPPED), accepted()),
+        row("a cell that is never entered", judge(&A, &A_CARD_IDLE), accepted()),
+        row("a cell named for what cannot occur", judge(&C, &C_CARD_NAMED), accepted()),
+        row("18, first word", judge(&B, &A_CARD), refused(18, 1)),
+        row("18, first word, cannot occur", judge(&A, &A_CARD_NO_FIRST), refused(18, 1)),
+        row("18, first word, another cell", judge(&A, &A_CARD_OTHER_FIRST), refused(18, 1)),
+        row("18, the second first word", judge(&C, &C_CARD_FIRST), refused(18, 2)),
+        row("18", judge(&A, &A_CARD_BAD), refused(18, 2)),
+        row("18, a bad state alone", judge(&D, &F_CARD), refused(18, 2)),
+        row("18, blocked", judge(&A, &A_CARD_BLOCKED), refused(18, 4)),
+        row("18, blocked alone", judge(&E, &F_CARD), refused(18, 2)),
+        row("18, a state from n up", judge(&A, &A_CARD_BEYOND), refused(18, 2)),
+        row("18, state 11", judge(&A, &A_CARD_HIGHEST), refused(18, 2)),
+        row("18, next word, cannot occur", judge(&A, &A_CARD_NO_NEXT), refused(18, 3)),
+        row("18, next word, another cell", judge(&A, &A_CARD_STAYING), refused(18, 3)),
+        row("18, next word, by the action", judge(&A, &A_CARD_DOSING), refused(18, 3)),
+        row("18, the last word", judge(&A, &A_CARD_BACK), refused(18, 5)),
+        row("18, the first of two observations", judge(&C, &C_CARD_NO_NEXT), refused(18, 7)),
+        row("18, a set that says too little", judge(&A, &A_CARD_SILENT), refused(18, 3)),
+        row("18, a bad state in a cell that is never entered", judge(&A, &A_CARD_IDLE_BAD), refused(18, 6)),
+        row("18, the next of a cell that is never entered", judge(&A, &A_CARD_IDLE_NEXT), refused(18, 7)),
+        row("18, the lowest of a first and a cell word", judge(&A, &A_CARD_FIRST_AND_CELL), refused(18, 1)),
+        row("18, the lowest of a next and a cell word", judge(&A, &A_CARD_NEXT_AND_CELL), refused(18, 3)),
+        row("16", judge(&C, &A_CARD), refused(16, 0)),
+        row("16, other actions", judge(&A, &A_CARD_THREE), refused(16, 0)),
+        row("13", judge(&A, &A_CARD_HEAD), refused(13, 6)),
+        row("13, no words", judge(&A, &[]), refused(13, 0)),
+        row("order: table before 13", judge(&A_MASK, &[]), refused(5, 2)),
+        row("order: 7 before 13", judge(&A_UNSHOWN, &A_CARD_HEAD), refused(7, 2)),
+        row("order: 13 before 16", judge(&C, &A_CARD_SPARE), refused(13, 5)),
+        row("order: 13 before 18", judge(&A, &A_CARD_BAD_AND_SPARE), refused(13, 5)),
+        row("order: 16 before 18", judge(&C, &A_CARD_BAD), refused(16, 0)),
+        row("1", judge(&[], &A_CARD), refused(1, 0)),
+    ]
 }
 
 /// Runs of the stations' cards over lists of observations, and runners driven by three.

@@ -1,17 +1,22 @@
 //! The proved archive against the models, every entry, with guard words around every buffer.
 #![cfg(feature = "archive")]
 
-use kirdanzug_tests::check::{keeps_clear, lasts_played, no_holds};
-use kirdanzug_tests::game::Game;
+use kirdanzug_tests::check::{keeps_clear, keeps_within, lasts_played, no_holds};
+use kirdanzug_tests::game::{subset, Game};
 use kirdanzug_tests::gen::{self, Rng, SHAPES};
 use kirdanzug_tests::guard::{compare, ArchiveRunner};
-use kirdanzug_tests::oracle::{self, card_length, work_length, Call, Card, Decided, Fields, Outcome, Verdict, NO_CELL};
+use kirdanzug_tests::oracle::{
+    self, card_length, work_length, Call, Card, Cell, Decided, Fields, Outcome, Spot, Verdict, NO_CELL,
+};
 use kirdanzug_tests::run::{count, report, seed, spread};
 use kirdanzug_tests::stack;
 use kirdanzug_tests::stations;
 
 /// How many random inputs are enough for every verdict and refusal to come up.
 const ENOUGH: u64 = 1000;
+
+/// The numbers of refusals, and 0.
+const NUMBERS: usize = 19;
 
 /// What the comparisons came by: how often each verdict and each refusal was the right answer.
 #[derive(Default, Clone)]
@@ -21,9 +26,10 @@ struct Tally {
     no: u64,
     longest: u64,
     most_cells: u64,
-    refusals: [u64; 18],
+    refusals: [u64; NUMBERS],
     runs: Runs,
     checks: Checks,
+    judged: Judged,
 }
 
 impl Tally {
@@ -34,6 +40,7 @@ impl Tally {
             Call::CheckTable { .. } | Call::CheckCard { .. } | Call::Write { .. } => {
                 return self.checks.add_call(call, outcome)
             }
+            Call::JudgeCard { card, .. } => return self.judged.add_call(card, outcome),
             _ => self.calls += 1,
         }
         let [tag, first, second] = outcome.answer;
@@ -61,12 +68,13 @@ impl Tally {
             add_each(&mut sum.refusals, &part.refusals);
             sum.runs.add(&part.runs);
             sum.checks.add(&part.checks);
+            sum.judged.add(&part.judged);
             sum
         })
     }
 
     fn report(&self, name: &str, tried: u64) {
-        let Tally { calls, yes, no, longest, most_cells, refusals, runs, checks } = self;
+        let Tally { calls, yes, no, longest, most_cells, refusals, runs, checks, judged } = self;
         report(&format!(
             "{name}: seed {}, {tried} inputs, {calls} calls, solve yes {yes} (up to {most_cells} cells), \
              no {no} (up to {longest} rounds), refusals {}",
@@ -75,6 +83,7 @@ impl Tally {
         ));
         runs.report(name);
         checks.report(name);
+        judged.report(name);
     }
 
     /// The same where so many random inputs were tried that each number must have come up.
@@ -98,6 +107,14 @@ impl Tally {
         }
     }
 
+    /// The same for the judge of cards.
+    fn must_have_judged_of(&self, tried: u64) {
+        if tried >= ENOUGH {
+            self.judged.must_have(&[0, 1, 2, 3, 4, 5, 6, 7, 13, 16, 18]);
+            self.judged.must_have_drawn(tried / 4, tried / 10);
+        }
+    }
+
     fn must_have(&self, numbers: &[usize]) {
         for &number in numbers {
             assert!(self.refusals[number] > 0, "refusal {number} never came up");
@@ -105,14 +122,14 @@ impl Tally {
     }
 }
 
-fn add_each(sum: &mut [u64; 18], part: &[u64; 18]) {
+fn add_each(sum: &mut [u64; NUMBERS], part: &[u64; NUMBERS]) {
     sum.iter_mut().zip(part).for_each(|(mine, theirs)| *mine += theirs);
 }
 
 /// How often each refusal came up.
-fn listed(refusals: &[u64; 18]) -> String {
+fn listed(refusals: &[u64; NUMBERS]) -> String {
     let some: Vec<String> =
-        (1..18).filter(|&i| refusals[i] > 0).map(|i| format!("{i}: {}", refusals[i])).collect();
+        (1..NUMBERS).filter(|&i| refusals[i] > 0).map(|i| format!("{i}: {}", refusals[i])).collect();
     format!("{{{}}}", some.join(", "))
 }
 
@@ -120,8 +137,8 @@ fn listed(refusals: &[u64; 18]) -> String {
 /// number at 0 counts the calls that were not refused.
 #[derive(Default, Clone)]
 struct Runs {
-    run: [u64; 18],
-    driven: [u64; 18],
+    run: [u64; NUMBERS],
+    driven: [u64; NUMBERS],
     /// The most observations that a run took.
     longest: usize,
     /// Runs refused by 12 or 14 for which the room was short too.
@@ -200,9 +217,9 @@ impl Runs {
 /// refused.
 #[derive(Default, Clone)]
 struct Checks {
-    table: [u64; 18],
-    card: [u64; 18],
-    write: [u64; 18],
+    table: [u64; NUMBERS],
+    card: [u64; NUMBERS],
+    write: [u64; NUMBERS],
 }
 
 impl Checks {
@@ -259,6 +276,76 @@ impl Checks {
     }
 }
 
+/// What the judge of cards came by. The number at 0 counts the cards that were accepted.
+#[derive(Default, Clone)]
+struct Judged {
+    numbers: [u64; NUMBERS],
+    /// Cards refused by 18 at a first word, a cell word, a next word.
+    spots: [u64; 3],
+    /// Accepted cards that are not the solver's.
+    by_hand: u64,
+    /// Cards that keep every play clear, but are refused by 18.
+    safe: u64,
+    /// The most cells of an accepted card, and the highest word at fault.
+    most_cells: u64,
+    highest: u64,
+}
+
+impl Judged {
+    fn add_call(&mut self, card: &[u32], outcome: &Outcome) {
+        self.numbers[number_of(outcome)] += 1;
+        match outcome.answer {
+            [2, 18, place] => {
+                let spot = match oracle::spot((card[0] >> 16 & 15) as usize, place as usize) {
+                    Spot::Head => panic!("nothing is asked of the head: {card:x?}"),
+                    Spot::First { .. } => 0,
+                    Spot::Cell { .. } => 1,
+                    Spot::Next { .. } => 2,
+                };
+                self.spots[spot] += 1;
+                self.highest = self.highest.max(place);
+            }
+            [2, ..] => (),
+            _ => self.most_cells = self.most_cells.max(u64::from(card[0] & 0xFFFF)),
+        }
+    }
+
+    fn add(&mut self, part: &Judged) {
+        add_each(&mut self.numbers, &part.numbers);
+        self.spots.iter_mut().zip(part.spots).for_each(|(mine, theirs)| *mine += theirs);
+        self.by_hand += part.by_hand;
+        self.safe += part.safe;
+        self.most_cells = self.most_cells.max(part.most_cells);
+        self.highest = self.highest.max(part.highest);
+    }
+
+    fn report(&self, name: &str) {
+        let Judged { numbers, spots, by_hand, safe, most_cells, highest } = self;
+        if numbers.iter().all(|&times| times == 0) {
+            return;
+        }
+        report(&format!(
+            "{name}, cards judged: seed {}, accepted {} (up to {most_cells} cells; {by_hand} not the solver's), \
+             refusals {}, by 18 at a first, cell, next word {spots:?} (up to word {highest}), though safe {safe}",
+            seed(),
+            numbers[0],
+            listed(numbers)
+        ));
+    }
+
+    /// Each of these numbers came up, and 18 at each sort of word.
+    fn must_have(&self, numbers: &[usize]) {
+        numbers.iter().for_each(|&number| assert!(self.numbers[number] > 0, "{number} never came up in a judged card"));
+        assert!(self.spots.iter().all(|&times| times > 0), "18 at a first, cell, next word: {:?}", self.spots);
+    }
+
+    /// So many cards were accepted that are not the solver's, and so many safe ones refused.
+    fn must_have_drawn(&self, by_hand: u64, safe: u64) {
+        assert!(self.by_hand >= by_hand, "{} cards by hand were accepted", self.by_hand);
+        assert!(self.safe >= safe, "{} safe cards were refused", self.safe);
+    }
+}
+
 /// Compares one call with the oracle.
 fn try_call(rng: &mut Rng, tally: &mut Tally, call: Call) {
     let expected = oracle::outcome(&call);
@@ -280,8 +367,19 @@ fn try_solve(rng: &mut Rng, tally: &mut Tally, table: &[u32]) {
     try_decided(rng, tally, table, &oracle::decided(table));
 }
 
-/// Solve with short, exact and long work and card buffers, on a table already decided.
+/// The card of a yes is accepted against its table, whatever the model says.
+fn accepts(rng: &Rng, tally: &mut Tally, table: &[u32], card: &[u32]) {
+    let (call, accepted) = (Call::JudgeCard { table, card }, Outcome::done(0, 0));
+    compare(&mut rng.clone(), &call, &accepted);
+    tally.add(&call, &accepted);
+}
+
+/// Solve with short, exact and long work and card buffers, on a table already decided. Where it is a yes, the
+/// card is judged.
 fn try_decided(rng: &mut Rng, tally: &mut Tally, table: &[u32], decided: &Decided) {
+    if let Ok((_, Verdict::Yes { card, .. })) = decided {
+        accepts(rng, tally, table, &oracle::card_words(card));
+    }
     let (work, card) = match decided {
         Ok((n, Verdict::Yes { card, .. })) => (work_length(*n), card_length(card.cells.len(), card.o)),
         Ok((n, Verdict::No { .. })) => (work_length(*n), 16),
@@ -338,6 +436,7 @@ fn try_card(rng: &mut Rng, tally: &mut Tally, table: &[u32], card: &[u32], calls
     let head = card.first().copied().unwrap_or(0);
     let (m, o) = ((head & 0xFFFF).max(1) as usize, (head >> 16 & 15).max(1) as usize);
     try_check(rng, tally, Call::CheckCard { card });
+    try_check(rng, tally, Call::JudgeCard { table, card });
     for _ in 0..calls {
         let (cell, observation) = (some_cell(rng, m), some_observation(rng, o));
         try_call(rng, tally, Call::Open { card, observation });
@@ -374,7 +473,7 @@ fn some_observations(rng: &mut Rng, card: &[u32], o: usize, longest: usize) -> V
     observations
 }
 
-/// A check by itself. It draws from a copy of the generator, as the runs do.
+/// A check by itself, or a judged card. It draws from a copy of the generator, as the runs do.
 fn try_check(rng: &Rng, tally: &mut Tally, call: Call) {
     try_call(&mut rng.clone(), tally, call);
 }
@@ -433,6 +532,7 @@ fn try_table(rng: &mut Rng, tally: &mut Tally, table: &[u32]) {
     }
     try_check(rng, tally, Call::CheckTable { table });
     try_write(rng, tally, table);
+    try_drawn(rng, tally, &Station { table, game: &game, solved: solved(verdict) }, 3);
     if let Verdict::Yes { card, .. } = verdict {
         try_play(rng, tally, &game, card);
         let mut card = oracle::card_words(card);
@@ -454,6 +554,229 @@ fn try_damaged(rng: &mut Rng, tally: &mut Tally, table: &[u32]) {
     try_call(rng, tally, Call::Rewrite { table: &damaged, out: table.len() });
     let card = gen::card(rng, 2, 2, 2);
     try_call(rng, tally, Call::Show { table: &damaged, card: &card, cell: 1 });
+    let mut wrong = card.clone();
+    gen::damage(&mut rng.clone(), &mut wrong);
+    for card in [&card, &wrong] {
+        try_check(rng, tally, Call::JudgeCard { table: &damaged, card });
+    }
+}
+
+// ---- Cards judged ------------------------------------------------------------------------------
+
+/// An accepted table, its game, and the solver's card where it has one.
+struct Station<'a> {
+    table: &'a [u32],
+    game: &'a Game,
+    solved: Option<&'a Card>,
+}
+
+fn solved(verdict: &Verdict) -> Option<&Card> {
+    match verdict {
+        Verdict::Yes { card, .. } => Some(card),
+        Verdict::No { .. } => None,
+    }
+}
+
+/// Some cards for the station: the solver's redrawn, drawn by hand, any. They are drawn from a copy of the
+/// generator, as the runs are.
+fn try_drawn(rng: &Rng, tally: &mut Tally, station: &Station, cards: usize) {
+    let rng = &mut rng.clone();
+    for _ in 0..cards {
+        let card = gen::card_for(rng, station.game, station.solved);
+        try_judged(rng, tally, station, &card);
+    }
+}
+
+/// A card judged, and played on the archive's runner. What is accepted keeps every play clear, and the state
+/// is always in the set of the cell; so the table is a yes, and each set lies in one of the solver's cells.
+fn try_judged(rng: &mut Rng, tally: &mut Tally, station: &Station, words: &[u32]) {
+    let &Station { table, game, solved } = station;
+    let call = Call::JudgeCard { table, card: words };
+    let expected = oracle::outcome(&call);
+    compare(rng, &call, &expected);
+    tally.add(&call, &expected);
+    let mut runner = ArchiveRunner { card: words };
+    match number_of(&expected) {
+        0 => {
+            let card = oracle::read_card(words).expect("what is accepted is a card");
+            let set = |cell: u32| card.cells[cell as usize].mask;
+            assert_eq!(keeps_within(game, &mut runner, set), Ok(()), "{call:?}");
+            let largest = solved.unwrap_or_else(|| panic!("a card is accepted where there is none: {call:?}"));
+            let held = |cell: &Cell| largest.cells.iter().any(|large| subset(cell.mask, large.mask));
+            assert!(card.cells.iter().all(held), "{call:?}");
+            tally.judged.by_hand += u64::from(card != *largest);
+        }
+        18 => tally.judged.safe += u64::from(keeps_clear(game, &mut runner).is_ok()),
+        _ => (),
+    }
+}
+
+/// A number taken apart, digit by digit.
+struct Digits(u64);
+
+impl Digits {
+    fn next(&mut self, base: usize) -> usize {
+        let digit = self.0 % base as u64;
+        self.0 /= base as u64;
+        digit as usize
+    }
+
+    /// What the words of o observations name, of m cells or none.
+    fn named(&mut self, m: usize, o: usize) -> Vec<Option<usize>> {
+        (0..o).map(|_| self.next(m + 1)).map(|cell| (cell < m).then_some(cell)).collect()
+    }
+}
+
+/// The cards of m cells with masks below a bound, by number.
+struct Cards {
+    a: usize,
+    o: usize,
+    m: usize,
+    masks: usize,
+}
+
+impl Cards {
+    fn count(&self) -> u64 {
+        let named = (self.m as u64 + 1).pow(self.o as u32);
+        named * ((self.masks * self.a) as u64 * named).pow(self.m as u32)
+    }
+
+    fn words(&self, number: u64) -> Vec<u32> {
+        let &Cards { a, o, m, masks } = self;
+        let mut digits = Digits(number);
+        let first = digits.named(m, o);
+        let mut cell =
+            |_| Cell { mask: digits.next(masks) as u32, action: digits.next(a), next: digits.named(m, o) };
+        oracle::card_words(&Card { a, o, first, cells: (0..m).map(&mut cell).collect() })
+    }
+}
+
+/// All cards of one, two or three cells against all tables of one or two states, with a state from n up in
+/// their sets too (alone, where there are many cards).
+#[test]
+fn all_small_cards() {
+    // States, actions, observations, cells, and how many masks.
+    let families = [
+        (1, 1, 1, 3, 4),
+        (1, 1, 2, 2, 4),
+        (1, 2, 1, 2, 4),
+        (1, 2, 2, 2, 4),
+        (2, 1, 1, 2, 8),
+        (2, 1, 2, 1, 8),
+        (2, 2, 1, 1, 8),
+        (2, 2, 1, 2, 5),
+        (2, 2, 2, 1, 5),
+    ];
+    for (n, a, o, m, masks) in families {
+        let cards = Cards { a, o, m, masks };
+        let tables = 1u64 << (n * (2 + o + a * n));
+        let work = |number: u64, tally: &mut Tally| {
+            let all = (0..cards.count()).map(|number| cards.words(number));
+            try_cards(&mut Rng::new(seed(), number), tally, &small_game(n, a, o, number), all);
+        };
+        let tally = Tally::sum(spread(tables, work));
+        tally.judged.report(&format!("all cards of {m} cells, tables of n {n}, a {a}, o {o}"));
+        tally.judged.must_have(&[0, 6, 7, 18]);
+        tally.judged.must_have_drawn(90, 1000);
+    }
+}
+
+/// The cards judged against the game's table, the solver's too where it has one. One of them is enough where the
+/// table is refused.
+fn try_cards(rng: &mut Rng, tally: &mut Tally, game: &Game, cards: impl Iterator<Item = Vec<u32>>) {
+    let table = &oracle::table_words(game);
+    let Ok((_, verdict)) = oracle::decided(table) else {
+        return cards.take(1).for_each(|card| try_call(rng, tally, Call::JudgeCard { table, card: &card }));
+    };
+    let station = Station { table, game, solved: solved(&verdict) };
+    if let Some(card) = station.solved {
+        accepts(rng, tally, table, &oracle::card_words(card));
+    }
+    cards.for_each(|card| try_judged(rng, tally, &station, &card));
+}
+
+/// The solver's card of one table judged against another: with one state more or less in one mask, and any
+/// of these numbers of actions and observations.
+#[test]
+fn cards_of_other_tables() {
+    let work = |i: u64, tally: &mut Tally| {
+        let mut rng = Rng::new(seed(), i);
+        let (n, a, o) = (rng.within(1, 6), rng.within(1, 4), rng.within(1, 4));
+        let game = gen::game(&mut rng, SHAPES[i as usize % SHAPES.len()], n, a, o);
+        let Verdict::Yes { card, .. } = oracle::decide(&game) else { return };
+        let card = oracle::card_words(&card);
+        accepts(&rng, tally, &oracle::table_words(&game), &card);
+        let (shape, n) = (rng.pick(&SHAPES), rng.within(1, 6));
+        for other in [gen::changed(&mut rng, &game), gen::game(&mut rng, shape, n, a, o)] {
+            try_cards(&mut rng, tally, &other, [card.clone()].into_iter());
+        }
+    };
+    let tables = count(4);
+    let tally = Tally::sum(spread(tables, work));
+    tally.judged.report("cards of other tables");
+    if tables >= ENOUGH {
+        tally.judged.must_have(&[0, 6, 7, 16, 18]);
+        tally.judged.must_have_drawn(tables / 50, tables / 20);
+    }
+}
+
+/// Cards of every number of cells up to 130, drawn by hand where every set is good, and redrawn.
+#[test]
+fn cards_of_every_length() {
+    let work = |i: u64, tally: &mut Tally| {
+        let mut rng = Rng::new(seed(), i);
+        let (n, a, o) = (rng.within(1, 7), rng.within(1, 8), rng.within(1, 8));
+        let game = gen::open_game(&mut rng, n, a, o);
+        let card = gen::drawn(&mut rng, &game, 1 + i as usize % 130);
+        let mut redrawn = card.clone();
+        gen::redraw(&mut rng, &game, &mut redrawn);
+        let cards = [card, redrawn].map(|card| oracle::card_words(&card));
+        try_cards(&mut rng, tally, &game, cards.into_iter());
+    };
+    let tally = Tally::sum(spread(130 * 10, work));
+    tally.judged.report("cards of every length");
+    tally.judged.must_have(&[0, 18]);
+    tally.judged.must_have_drawn(500, 50);
+}
+
+/// Cards of 4,096 cells, one for every set of twelve states: as they are, where a first word and the last word
+/// say that it cannot occur, and with a bit changed of a first word, of a cell's set or action, of a next word.
+#[test]
+fn long_cards_judged() {
+    let mut rng = Rng::new(seed(), 10);
+    let mut tally = Tally::default();
+    for o in [1, 3, 8] {
+        let game = gen::open_game(&mut rng, 12, 8, o);
+        let card = oracle::card_words(&gen::card_of_all_sets(&mut rng, &game));
+        try_cards(&mut rng, &mut tally, &game, [card.clone()].into_iter());
+        let first = (1..=o).find(|&place| card[place] & 0xFFFF != NO_CELL).expect("something is shown first");
+        let mut words: Vec<(usize, u32)> = [first, card.len() - 1].map(|place| (place, card[place] | NO_CELL)).into();
+        for _ in 0..20 {
+            let row = rng.within(1, 4096) * (1 + o);
+            let (first, next) = (rng.within(1, o), row + rng.within(1, o));
+            words.extend([first, row, next].map(|place| (place, card[place] ^ 1 << rng.below(12))));
+            words.push((row, card[row] ^ 1 << rng.within(20, 22)));
+        }
+        for (place, word) in words {
+            let (mut changed, table) = (card.clone(), &oracle::table_words(&game));
+            changed[place] = word;
+            try_call(&mut rng, &mut tally, Call::JudgeCard { table, card: &changed });
+        }
+    }
+    tally.judged.report("long cards");
+    tally.judged.must_have(&[0, 18]);
+    // With one observation the last word is at fault where it says that it cannot occur.
+    assert!(tally.judged.most_cells == 4096 && tally.judged.highest > 4096 * 2);
+    assert_eq!(tally.judged.by_hand, 3);
+}
+
+/// A card that is safe and not accepted: cell 1 is entered, though its set says that it never is.
+#[test]
+fn a_safe_card_that_is_refused() {
+    let (table, card) = (&stations::A, &stations::A_CARD_SILENT);
+    let game = oracle::read_table(table).expect("the table is accepted");
+    compare(&mut Rng::new(seed(), 0), &Call::JudgeCard { table, card }, &Outcome::refused(18, 3));
+    assert_eq!(keeps_clear(&game, &mut ArchiveRunner { card }), Ok(()));
 }
 
 #[test]
@@ -475,12 +798,7 @@ fn all_small_tables() {
         let masks = 2 + o + a * n;
         let tables = 1u64 << (n * masks);
         let work = |number: u64, tally: &mut Tally| {
-            let mut rng = Rng::new(seed(), number);
-            let digit = |i: usize| (number >> (i * n) & ((1 << n) - 1)) as u32;
-            let moves = (0..a).map(|c| (0..n).map(|state| digit(2 + o + c * n + state)).collect()).collect();
-            let shows = (0..o).map(|r| digit(2 + r)).collect();
-            let game = Game { n, a, o, start: digit(0), bad: digit(1), shows, moves };
-            try_whole(&mut rng, tally, &game);
+            try_whole(&mut Rng::new(seed(), number), tally, &small_game(n, a, o, number));
         };
         let tally = Tally::sum(spread(tables, work));
         tally.report(&format!("all tables of n {n}, a {a}, o {o}"), tables);
@@ -491,6 +809,14 @@ fn all_small_tables() {
         tally.checks.must_have_writes(&[0, 5, 6, 7, 10, 11]);
         assert!(tally.checks.card[0] > 0);
     }
+}
+
+/// A game by its number: n bits for each mask.
+fn small_game(n: usize, a: usize, o: usize, number: u64) -> Game {
+    let digit = |i: usize| (number >> (i * n) & ((1 << n) - 1)) as u32;
+    let moves = (0..a).map(|c| (0..n).map(|state| digit(2 + o + c * n + state)).collect()).collect();
+    let shows = (0..o).map(|r| digit(2 + r)).collect();
+    Game { n, a, o, start: digit(0), bad: digit(1), shows, moves }
 }
 
 /// The game's fields with every room about the length, with one state from n up in each mask, and with
@@ -592,6 +918,7 @@ fn random_tables_up_to_six_states() {
     tally.must_have_of(count(1), &[1, 2, 3, 4, 5, 6, 7, 8, 9, 10, 12, 13, 14, 16, 17]);
     tally.must_have_runs_of(count(1));
     tally.must_have_checks_of(count(1));
+    tally.must_have_judged_of(count(1));
 }
 
 /// The largest games known to us: long counters and wide rings, with every entry.
@@ -628,6 +955,9 @@ fn every_single_damage_to_the_stations() {
             try_call(&mut rng, &mut tally, Call::Judge { table: &damaged, mask: 1, k: 2 });
             try_call(&mut rng, &mut tally, Call::Rewrite { table: &damaged, out: table.len() });
             try_call(&mut rng, &mut tally, Call::Show { table: &damaged, card: &stations::A_CARD, cell: 1 });
+            for card in [&stations::A_CARD[..], &stations::C_CARD, &stations::F_CARD] {
+                try_check(&rng, &mut tally, Call::JudgeCard { table: &damaged, card });
+            }
         }
     }
     let cards: [(&[u32], &[u32]); 3] =
@@ -635,6 +965,7 @@ fn every_single_damage_to_the_stations() {
     for (table, card) in cards {
         for damaged in all_damages(card) {
             try_check(&rng, &mut tally, Call::CheckCard { card: &damaged });
+            try_check(&rng, &mut tally, Call::JudgeCard { table, card: &damaged });
             for observation in 0..2 {
                 try_call(&mut rng, &mut tally, Call::Open { card: &damaged, observation });
                 try_call(&mut rng, &mut tally, Call::Step { card: &damaged, cell: observation, observation: 0 });
@@ -648,6 +979,7 @@ fn every_single_damage_to_the_stations() {
     tally.runs.must_have_all();
     tally.checks.must_have_tables(&[0, 1, 2, 3, 4, 5, 6, 7]);
     tally.checks.must_have_cards();
+    tally.judged.must_have(&[0, 1, 2, 3, 4, 5, 6, 7, 13, 16, 18]);
 }
 
 /// Every bit of every number, mask and slot of the stations' fields flipped, with exact and no room.
@@ -754,6 +1086,7 @@ fn cards_at_the_limits() {
     over[0] += 1;
     over.extend([0xA000_0000, 0xB000_0000]);
     try_check(&rng, &mut tally, Call::CheckCard { card: &over });
+    try_check(&rng, &mut tally, Call::JudgeCard { table: &stations::A, card: &over });
     try_call(&mut rng, &mut tally, Call::Open { card: &over, observation: 0 });
     try_all_runs(&rng, &mut tally, &over, 1);
     tally.report("cards at the limits", 4);
@@ -988,7 +1321,7 @@ fn stack_fits<'a>(most: impl Iterator<Item = &'a usize>, figure: usize) {
 fn stack_as_it_is_said() {
     let most = stack::measure(&mut Rng::new(seed(), 8));
     report(&format!("stack in bytes: {most:?}"));
-    assert_eq!(most.len(), 12, "a function was not measured");
+    assert_eq!(most.len(), 13, "a function was not measured");
     stack_fits(most.values(), kirdanzug::STACK_BYTES);
     let running = ["check_card", "open", "step", "run", "show"];
     stack_fits(running.iter().map(|name| &most[format!("kirdanzug_{name}").as_str()]), kirdanzug::RUN_STACK_BYTES);

@@ -1,11 +1,11 @@
 //! The models against each other, without the archive: knowledge sets, families, literal strategies,
 //! the checkers and the fast solver.
 
-use kirdanzug_tests::check::{self, keeps_clear, lasts_played, literal, no_holds, Runner};
+use kirdanzug_tests::check::{self, holds_by_states, keeps_clear, keeps_within, lasts_played, literal, no_holds, Runner};
 use kirdanzug_tests::fast::{self, Search};
 use kirdanzug_tests::game::{self, Game};
 use kirdanzug_tests::gen::{self, Rng, SHAPES};
-use kirdanzug_tests::oracle::{self, Card, Verdict};
+use kirdanzug_tests::oracle::{self, Card, Refusal, Verdict};
 use kirdanzug_tests::run::{count, report, seed, spread};
 
 /// A runner over a card as the oracle has it.
@@ -276,7 +276,7 @@ fn judges_and_refusals_agree() {
     let seed = seed();
     let mut judge = fast::Judge::new();
     let mut solver = fast::Solver::new(Search::Flat);
-    let (mut good, mut refused) = (0, 0);
+    let (mut good, mut tables_refused) = (0, 0);
     for i in 0..count(20) {
         let mut rng = Rng::new(seed, i);
         let shape = SHAPES[i as usize % SHAPES.len()];
@@ -288,16 +288,20 @@ fn judges_and_refusals_agree() {
         }
         let expected = oracle::judge(&table, mask, k);
         let found = judge.judge(&table, mask, k);
-        assert_eq!(found, expected.map_err(|refusal| (refusal.number, refusal.place as usize)), "{table:x?}");
+        assert_eq!(found, expected.map_err(refused), "{table:x?}");
         good += u32::from(found == Ok(true));
         if let Err(refusal) = oracle::read_table(&table) {
             let expected = fast::Verdict::Refused { number: refusal.number, place: refusal.place as usize };
             assert_eq!(solver.solve(&table, &mut [], &mut []), expected, "{table:x?}");
-            refused += 1;
+            tables_refused += 1;
         }
     }
-    report(&format!("judges: seed {seed}, {good} good, {refused} tables refused"));
-    assert!(count(20) < 1000 || good > 100 && refused > 100);
+    report(&format!("judges: seed {seed}, {good} good, {tables_refused} tables refused"));
+    assert!(count(20) < 1000 || good > 100 && tables_refused > 100);
+}
+
+fn refused(refusal: Refusal) -> (u32, usize) {
+    (refusal.number, refusal.place as usize)
 }
 
 /// Runs, moves and driven runners of the fast model, on right and on damaged cards. A refused run
@@ -310,7 +314,6 @@ fn runs_agree() {
         let mut rng = Rng::new(seed, i);
         let (words, observations) = card_and_observations(&mut rng);
         let cell = rng.below(20) as u32;
-        let refused = |refusal: oracle::Refusal| (refusal.number, refusal.place as usize);
         for &observation in observations.iter().take(3) {
             assert_eq!(fast::open(&words, observation), oracle::open(&words, observation).map_err(refused));
             assert_eq!(fast::step(&words, cell, observation), oracle::step(&words, cell, observation).map_err(refused));
@@ -346,6 +349,95 @@ fn card_and_observations(rng: &mut Rng) -> (Vec<u32>, Vec<u32>) {
         gen::damage(rng, &mut words);
     }
     (words, observations)
+}
+
+/// The judges of cards: the oracle's, the fast one, and the one by states. What is accepted keeps every play
+/// clear, in cells whose sets hold the state. The solver's card is accepted, and so is the tightest.
+#[test]
+fn card_judges_agree() {
+    let seed = seed();
+    let mut judge = fast::CardJudge::new();
+    let mut answers = [0; 19];
+    for i in 0..count(2) {
+        let mut rng = Rng::new(seed, i);
+        let (n, a, o) = (rng.within(1, 6), rng.within(1, 8), rng.within(1, 8));
+        let game = gen::game(&mut rng, SHAPES[i as usize % SHAPES.len()], n, a, o);
+        let (mut table, solved) = (oracle::table_words(&game), solved(&game));
+        if let Some(card) = &solved {
+            for card in [card.clone()].into_iter().chain(gen::tightest(&game, card, 200)) {
+                assert_eq!(judge.judge(&table, &oracle::card_words(&card)), Ok(()), "{game:?}");
+            }
+        }
+        let mut words = gen::card_for(&mut rng, &game, solved.as_ref());
+        match rng.below(10) {
+            0 => gen::damage(&mut rng, &mut table),
+            1 => gen::damage(&mut rng, &mut words),
+            _ => (),
+        }
+        let expected = oracle::judge_card(&table, &words);
+        assert_eq!(judge.judge(&table, &words), expected.map_err(refused), "{table:x?} {words:x?}");
+        let number = expected.map_or_else(|refusal| refusal.number as usize, |()| 0);
+        answers[number] += 1;
+        if let (0 | 18, Ok(game), Ok(card)) = (number, oracle::read_table(&table), oracle::read_card(&words)) {
+            assert_eq!(holds_by_states(&game, &card), expected.is_ok(), "{game:?} {card:?}");
+            if expected.is_ok() {
+                let set = |cell: u32| card.cells[cell as usize].mask;
+                assert_eq!(keeps_within(&game, &mut CardRunner(&card), set), Ok(()), "{game:?} {card:?}");
+            }
+        }
+    }
+    report(&format!("judges of cards: seed {seed}, accepted {}, refused by 1 to 18: {:?}", answers[0], &answers[1..]));
+    let numbers = [0, 1, 2, 3, 4, 5, 6, 7, 13, 16, 18];
+    assert!(count(2) < 50_000 || numbers.iter().all(|&number: &usize| answers[number] > 0));
+    assert!(count(2) < 1000 || answers[0] * 10 > count(2) && answers[18] * 10 > count(2));
+}
+
+/// The solver's card of a game, where it has one.
+fn solved(game: &Game) -> Option<Card> {
+    match oracle::decide(game) {
+        Verdict::Yes { card, .. } => Some(card),
+        Verdict::No { .. } => None,
+    }
+}
+
+/// Cards of every number of cells up to 40, drawn by hand and redrawn.
+#[test]
+fn card_judges_agree_on_every_length() {
+    let mut judge = fast::CardJudge::new();
+    let mut accepted = 0;
+    for i in 0..400 {
+        let mut rng = Rng::new(seed(), i);
+        let (n, a, o) = (rng.within(1, 12), rng.within(1, 8), rng.within(1, 8));
+        let game = gen::open_game(&mut rng, n, a, o);
+        let mut card = gen::drawn(&mut rng, &game, 1 + i as usize % 40);
+        for _ in 0..2 {
+            let (table, words) = (oracle::table_words(&game), oracle::card_words(&card));
+            let expected = oracle::judge_card(&table, &words).map_err(refused);
+            assert_eq!(judge.judge(&table, &words), expected, "{table:x?} {words:x?}");
+            accepted += u32::from(expected.is_ok());
+            gen::redraw(&mut rng, &game, &mut card);
+        }
+    }
+    assert!((100..700).contains(&accepted), "{accepted} of 800 accepted");
+}
+
+/// Cards of 4,096 cells, right and with a word changed anywhere.
+#[test]
+fn card_judges_agree_on_long_cards() {
+    let mut rng = Rng::new(seed(), 1);
+    let mut judge = fast::CardJudge::new();
+    for o in 1..=8 {
+        let game = gen::open_game(&mut rng, 12, 8, o);
+        let table = oracle::table_words(&game);
+        let card = oracle::card_words(&gen::card_of_all_sets(&mut rng, &game));
+        assert_eq!(judge.judge(&table, &card), Ok(()), "{game:?}");
+        for _ in 0..20 {
+            let (mut words, place) = (card.clone(), rng.below(card.len()));
+            words[place] ^= 1 << rng.below(13);
+            let expected = oracle::judge_card(&table, &words).map_err(refused);
+            assert_eq!(judge.judge(&table, &words), expected, "word {place}: {:x}, {game:?}", words[place]);
+        }
+    }
 }
 
 /// Searching for a strategy and the families tell the same of every number of rounds.

@@ -1,6 +1,6 @@
 //! The models against what document 01 itself says: stations, refusals, printed text.
 
-use kirdanzug_tests::check::{keeps_clear, no_holds, Runner};
+use kirdanzug_tests::check::{holds_by_states, keeps_clear, keeps_within, no_holds, Runner};
 use kirdanzug_tests::fast::{self, Search};
 use kirdanzug_tests::game::{self, Game};
 use kirdanzug_tests::oracle::{self, Call, Refusal};
@@ -33,10 +33,15 @@ fn oracle_gives_the_checks() {
 }
 
 #[test]
+fn oracle_gives_the_judged_cards() {
+    check(stations::judged());
+}
+
+#[test]
 fn every_number_has_a_row() {
     let answers = stations::rows().map(|row| row.outcome.answer);
     let numbers: Vec<u64> = answers.filter(|answer| answer[0] == 2).map(|answer| answer[1]).collect();
-    for number in 1..=17 {
+    for number in 1..=18 {
         assert!(numbers.contains(&number), "{number} has no row");
     }
 }
@@ -108,6 +113,7 @@ fn fast_models_give_the_stations() {
 fn fast_model_gives_the_stations(search: Search) {
     let mut solver = fast::Solver::new(search);
     let mut judge = fast::Judge::new();
+    let mut card_judge = fast::CardJudge::new();
     for Row { name, call, outcome } in stations::rows() {
         let mut out = vec![0; 64];
         let found = match call {
@@ -125,6 +131,7 @@ fn fast_model_gives_the_stations(search: Search) {
             Call::Step { card, cell, observation } => moved(fast::step(card, cell, observation)),
             Call::Run { card, observations, out: room } => answer(fast::run(card, observations, &mut out[..room])),
             Call::Drive { card, observations } => moved(fast::drive(card, observations)),
+            Call::JudgeCard { table, card } => answer(card_judge.judge(table, card).map(|()| 0)),
             // The benchmark has none of these.
             Call::Rewrite { .. }
             | Call::CheckTable { .. }
@@ -188,4 +195,16 @@ fn checkers_tell_right_from_wrong() {
     for k in 1..8 {
         assert!(no_holds(&game_of(&stations::A), k).is_err());
     }
+}
+
+/// A safe card need not be accepted: the set of cell 1 says that the cell is never entered, though it is.
+#[test]
+fn a_safe_card_whose_set_says_too_little() {
+    let (game, words) = (game_of(&stations::A), &stations::A_CARD_SILENT);
+    let card = oracle::read_card(words).unwrap();
+    let set = |cell: u32| card.cells[cell as usize].mask;
+    assert_eq!(keeps_clear(&game, &mut CardRunner(words)), Ok(()));
+    assert!(keeps_within(&game, &mut CardRunner(words), set).is_err());
+    assert!(!holds_by_states(&game, &card));
+    assert_eq!(oracle::judge_card(&stations::A, words), Err(Refusal { number: 18, place: 3 }));
 }

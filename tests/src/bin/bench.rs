@@ -5,14 +5,15 @@
 //! `cargo run --release --bin bench` prints a table of medians and ratios, and with a file named behind
 //! it (`bench PLOT.svg`) also writes a plot of time against n there. Both sides read the table's words, write
 //! the card and zero the lent work words, as document 01 says. Buffers are not cleared before a call.
-//! Both sides check a card once in a run, in a step and in each move of a runner.
+//! Both sides check a card once in a run, in a step and in each move of a runner. Both judges of cards read the
+//! table's and the card's words in each call.
 //! Answers are compared before anything is timed. What is measured is the
 //! processor time of the thread, the two sides in turn, so that a busy machine does little harm.
 
 use kirdanzug_tests::archive;
 use kirdanzug_tests::fast::{self, Search};
 use kirdanzug_tests::gen::{self, Rng, Shape, SHAPES};
-use kirdanzug_tests::oracle::{card_words, decide, read_table, table_words, Verdict};
+use kirdanzug_tests::oracle::{card_words, decide, read_table, table_words, Verdict, NO_CELL};
 use kirdanzug_tests::run::seed;
 use kirdanzug_tests::stations;
 use std::hint::black_box;
@@ -299,6 +300,61 @@ fn measure_drive(Played { card, cells, observations }: &Played) -> (Medians, Str
     (measure(1, &mut [&mut rattle, &mut rust]), format!("{cells} cells"))
 }
 
+/// A table and a card for it.
+type Pair = (Vec<u32>, Vec<u32>);
+
+/// Those of the tables that have a card, with the solver's.
+fn solved(tables: Vec<Vec<u32>>) -> Vec<Pair> {
+    let card = |table: &Vec<u32>| match decide(&read_table(table).expect("the table is accepted")) {
+        Verdict::Yes { card, .. } => Some(card_words(&card)),
+        Verdict::No { .. } => None,
+    };
+    tables.into_iter().filter_map(|table| card(&table).map(|card| (table, card))).collect()
+}
+
+/// A card drawn by hand with a cell for each of the 4,096 sets of twelve states.
+fn all_sets(o: usize) -> Pair {
+    let mut rng = Rng::new(seed(), 4);
+    let game = gen::open_game(&mut rng, 12, 8, o);
+    (table_words(&game), card_words(&gen::card_of_all_sets(&mut rng, &game)))
+}
+
+/// The card refused early: it says of every observation that it cannot occur first.
+fn refused_early((table, mut card): Pair, o: usize) -> Pair {
+    card[1..=o].iter_mut().for_each(|word| *word |= NO_CELL);
+    (table, card)
+}
+
+fn measure_card_judge(pairs: &[Pair]) -> (Medians, String) {
+    let mut judge = fast::CardJudge::new();
+    let (mut accepted, mut cells) = (0, 0);
+    for (table, card) in pairs {
+        let mut answer = [9; 3];
+        archive::judge_card(table, card, &mut answer);
+        let expected = match judge.judge(table, card) {
+            Ok(()) => [0, 0, 0],
+            Err((number, place)) => [2, number.into(), place as u64],
+        };
+        assert_eq!(answer, expected, "the judges of cards differ on {table:x?}, {card:x?}");
+        accepted += u32::from(answer[0] == 0);
+        cells = cells.max(card[0] & 0xFFFF);
+    }
+    let mut rattle = || {
+        for (table, card) in pairs {
+            let mut answer = [0; 3];
+            archive::judge_card(black_box(table), black_box(card), &mut answer);
+            black_box(answer);
+        }
+    };
+    let mut rust = || {
+        for (table, card) in pairs {
+            let _ = black_box(judge.judge(black_box(table), black_box(card)));
+        }
+    };
+    let what = format!("{accepted} of {} accepted, cells ≤ {cells}", pairs.len());
+    (measure(pairs.len(), &mut [&mut rattle, &mut rust]), what)
+}
+
 /// An antichain of so many random sets of six states.
 fn random_antichain(rng: &mut Rng, length: usize) -> Vec<u32> {
     let mut sets: Vec<u32> = (0..4096u32).filter(|set| set.count_ones() == 6).collect();
@@ -337,6 +393,7 @@ fn main() {
     print_lists();
     print_judges();
     print_cards();
+    print_card_judges();
     println!("\nMedian ratio of the solve rows: {:.2}\n", median(ratios));
     print_head();
     let curves = growth();
@@ -378,6 +435,20 @@ fn print_cards() {
         let few = played(table, 21);
         print_row(&format!("step: {name}"), &measure_step(&few));
         print_row(&format!("runner: {name}, 3 observations"), &measure_drive(&few));
+    }
+}
+
+fn print_card_judges() {
+    let row = |name: &str, pairs: &[Pair]| print_row(&format!("judge of cards: {name}"), &measure_card_judge(pairs));
+    row("station A", &[(stations::A.to_vec(), stations::A_CARD.to_vec())]);
+    row("random, mixed, n 12, a 8, o 8", &solved(mixed_tables(12, 5)));
+    row("rings, n 12, a 8, o 8", &solved(random_tables(Shape::Ring, 12, 20)));
+    for o in [1, 8] {
+        row(&format!("large antichain, n 12, o {o}"), &solved(wide_ring(o)));
+    }
+    for o in [1, 8] {
+        row(&format!("all sets, by hand, n 12, o {o}"), &[all_sets(o)]);
+        row(&format!("all sets, refused at a first word, o {o}"), &[refused_early(all_sets(o), o)]);
     }
 }
 
