@@ -4,17 +4,17 @@ use mathlib.Core.Path.{_≡_, sym, ap, subst, _∙_}
 use mathlib.Core.Logic.{_⊎_, inl, inr, ⊎-elim}
 use mathlib.Core.Bool.{Bool, true, false, not, _&&_, _||_}
 use mathlib.Core.List.{List}
-use Prim.Native.Nat.{ℕ, suc, _+_, _*_, _-_, _≤_, _<_}
+use Prim.Native.Nat.{ℕ, suc, _+_, _*_, _-_, _%_, _^_, _≤_, _<_}
 use native.Mathlib.Nat.{suc-mul, mul-le-mul-right}
 use native.Mathlib.Numerals.{add-one}
 use native.Mathlib.Omega.{arith}
 use lib.Dec.{eqb, ltb}
 use lib.ListN.{length, getD}
-use borrow.Author.Tests.{eq-eqb, ne-eqb, eqb-true, ltb-true, not-false}
+use borrow.Author.Tests.{eq-eqb, ne-eqb, eqb-true, ltb-true, lt-ltb, le-ltb, not-false}
 use Rattle.sets.specs.Bounded.{Found, first, atFound}
-use Rattle.sets.proofs.Logic.{and-left, and-right, or-cases}
+use Rattle.sets.proofs.Logic.{same-truth, and-left, and-right, and-four, and-intro, or-cases, lt-or-le}
 use Rattle.sets.proofs.Bounded.{first-nothing}
-use Rattle.games.specs.Format.{within, maxActions, maxObservations, maxSets, maxCells, kindFirst, kindCell, kindNext}
+use Rattle.games.specs.Format.{within, maxActions, maxObservations, maxSets, maxCells, lowValues, numberValues, actionAt, actionValues, kindValues, kindFirst, kindCell, kindNext}
 use Rattle.games.specs.Automaton.{noCell}
 use Rattle.games.specs.Fields.{lowField, numberField, actionField, word}
 use Rattle.games.specs.Words.{frontLength, partLength, cardLength, cardHead}
@@ -49,14 +49,50 @@ module _ (w : List ℕ) where
   pub word-next : (c j : ℕ) → j < o → wordFits w (nextPlace o c j) ≡ cellNamed kindNext (cardCells w) j (getD w (nextPlace o c j) 0)
   word-next c j l = at-spot w (nextPlace o c j) (atNext c j) (spot-next o c j l)
 
-pub named-told : (k m j x low y : ℕ) → low ≡ lowField x → y ≡ word k low j 0 → (eqb x y && (ltb low m || eqb low noCell)) ≡ cellNamed k m j x
+-- a word by how far it is above the frame of its kind and number: a cell's number where it has that frame, more than any else
+pub named-told : (k m j x d y : ℕ) → k < kindValues → m < lowValues → j < numberValues → d < 2 ^ 32 → y ≡ word k 0 j 0 → (d + y) % 2 ^ 32 ≡ x
+    → (ltb d m || eqb d noCell) ≡ cellNamed k m j x
 unfolding cellNamed
-named-told k m j x low y e f = rw (f, e)
+named-told k m j x d y kl ml jl dl e f =
+    ⊎-elim
+    (λ (l : d < lowValues).
+    let whole : x ≡ word k d j 0 = omega arith in
+    let low : lowField x ≡ d = omega arith in
+    rw (low, eq-eqb x (word k d j 0) whole))
+    (λ (l : lowValues ≤ d).
+    let other : x ≡ word k (lowField x) j 0 → ⊥ = λ h. omega arith in
+    rw (le-ltb d m (omega arith), ne-eqb d noCell (λ h. omega arith), ne-eqb x (word k (lowField x) j 0) other))
+    (lt-or-le d lowValues)
 
-pub cell-told : (a x low action y : ℕ) → low ≡ lowField x → action ≡ actionField x → y ≡ word kindCell low 0 action
-    → (eqb x y && ltb low maxSets && ltb action a) ≡ cellFits a x
+-- four in a row, by the place of the first
+pub four-told : (w : List ℕ) (k at j m : ℕ) → m ≡ cardCells w
+    → (cellNamed k m j (getD w (at + j) 0) && cellNamed k m (j + 1) (getD w (at + j + 1) 0)
+    && cellNamed k m (j + 2) (getD w (at + j + 2) 0) && cellNamed k m (j + 3) (getD w (at + j + 3) 0))
+    ≡ (names w k at j && names w k at (j + 1) && names w k at (j + 2) && names w k at (j + 3))
+four-told w k at j m e =
+    let one : at + j + 1 ≡ at + (j + 1) = omega arith in
+    let two : at + j + 2 ≡ at + (j + 2) = omega arith in
+    let three : at + j + 3 ≡ at + (j + 3) = omega arith in
+    rw (e, one, two, three)
+
+pub cell-told : (a x d y : ℕ) → a < actionValues → d < 2 ^ 32 → y ≡ word kindCell 0 0 0 → (d + y) % 2 ^ 32 ≡ x
+    → (ltb (d % actionAt) maxSets && ltb d (a * actionAt)) ≡ cellFits a x
 unfolding cellFits
-cell-told a x low action y e g f = rw (f, e, g)
+cell-told a x d y al dl e f =
+    let set = lowField x in
+    let action = actionField x in
+    let whole = word kindCell set 0 action in
+    same-truth (ltb (d % actionAt) maxSets && ltb d (a * actionAt)) (eqb x whole && ltb set maxSets && ltb action a)
+    (λ h.
+    let low : d % actionAt < maxSets = ltb-true (d % actionAt) maxSets (and-left (ltb (d % actionAt) maxSets) (ltb d (a * actionAt)) h) in
+    let most : d < a * actionAt = ltb-true d (a * actionAt) (and-right (ltb (d % actionAt) maxSets) (ltb d (a * actionAt)) h) in
+    and-intro (and-intro (eq-eqb x whole (omega arith)) (lt-ltb set maxSets (omega arith))) (lt-ltb action a (omega arith)))
+    (λ h.
+    let both = and-left (eqb x whole && ltb set maxSets) (ltb action a) h in
+    let shape : x ≡ whole = eqb-true x whole (and-left (eqb x whole) (ltb set maxSets) both) in
+    let low : set < maxSets = ltb-true set maxSets (and-right (eqb x whole) (ltb set maxSets) both) in
+    let most : action < a = ltb-true action a (and-right (eqb x whole && ltb set maxSets) (ltb action a) h) in
+    and-intro (lt-ltb (d % actionAt) maxSets (omega arith)) (lt-ltb d (a * actionAt) (omega arith)))
 
 pub head-told : (x low number action y : ℕ) (p q r : Bool) → low ≡ lowField x → number ≡ numberField x → action ≡ actionField x
     → y ≡ cardHead low number action → p ≡ within low maxCells → q ≡ within number maxObservations → r ≡ within action maxActions
@@ -144,17 +180,11 @@ pub record Headed (x : ℕ) : Type 0 where
   pub some-action : 1 ≤ actionField x
   pub actions : actionField x ≤ maxActions
 
-four-and : (a b c d : Bool) → (a && b && c && d) ≡ true → (a ≡ true) × (b ≡ true) × (c ≡ true) × (d ≡ true)
-four-and a b c d e =
-    let f = and-left (a && b && c) d e in
-    let g = and-left (a && b) c f in
-    (and-left a b g, and-right a b g, and-right (a && b) c f, and-right (a && b && c) d e)
-
 pub headed : (x : ℕ) → headFits x ≡ true → Headed x
 unfolding headFits
 headed x e =
     let made = cardHead (lowField x) (numberField x) (actionField x) in
-    let f = four-and (eqb x made) (within (lowField x) maxCells) (within (numberField x) maxObservations) (within (actionField x) maxActions) e in
+    let f = and-four (eqb x made) (within (lowField x) maxCells) (within (numberField x) maxObservations) (within (actionField x) maxActions) e in
     record {
       shape = eqb-true x made (f .0);
       some-cell = within-low (lowField x) maxCells (f .1);

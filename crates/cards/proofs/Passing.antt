@@ -2,13 +2,13 @@
 -- Assumes nothing.
 use mathlib.Core.Path.{_≡_, subst, _∙_}
 use mathlib.Core.Logic.{⊎-elim}
-use mathlib.Core.Bool.{Bool, true, false, not}
+use mathlib.Core.Bool.{Bool, true, false, not, _&&_}
 use Prim.Native.Nat.{ℕ, zero, suc, _+_, _-_, _≤_, _<_}
 use native.Mathlib.Omega.{arith}
 use lib.Dec.{ltb}
 use borrow.Author.Tests.{ltb-true, ltb-false}
 use Rattle.sets.specs.Bounded.{nothing, found, first}
-use Rattle.sets.proofs.Logic.{decided, true-not, false-not}
+use Rattle.sets.proofs.Logic.{decided, and-four, true-not, false-not}
 use Rattle.sets.proofs.Bounded.{first-is, first-none}
 use Rattle.cards.specs.Checking.{Pass, FirstWrong}
 
@@ -33,6 +33,15 @@ module _ (test : ℕ → Bool) (n : ℕ) where
   -- one more
   pub pass-more : (p : ℕ) → Pass test n p → p < n → test p ≡ true → Pass test n (p + 1)
   pass-more p h l e = pass-on p 1 h (omega arith) (λ i b. let z : p ≡ p + i = omega arith in subst (λ (q : ℕ). test q ≡ true) z e)
+
+  -- four more
+  pub pass-four : (p : ℕ) → Pass test n p → p + 4 ≤ n → (test p && test (p + 1) && test (p + 2) && test (p + 3)) ≡ true → Pass test n (p + 4)
+  pass-four p h room e =
+      let f = and-four (test p) (test (p + 1)) (test (p + 2)) (test (p + 3)) e in
+      let one = pass-more p h (omega arith) (f .0) in
+      let two = subst (Pass test n) (let z : p + 1 + 1 ≡ p + 2 = omega arith in z) (pass-more (p + 1) one (omega arith) (f .1)) in
+      let three = subst (Pass test n) (let z : p + 2 + 1 ≡ p + 3 = omega arith in z) (pass-more (p + 2) two (omega arith) (f .2)) in
+      subst (Pass test n) (let z : p + 3 + 1 ≡ p + 4 = omega arith in z) (pass-more (p + 3) three (omega arith) (f .3))
 
   -- the loop ends
   pub pass-end : (p : ℕ) → Pass test n p → (p < n → test p ≡ false) → FirstWrong test n p

@@ -4,13 +4,14 @@ use games::Cell;
 use games::Checked;
 use games::Observation;
 ghost use mathlib.Core.Path.{_≡_};
+ghost use mathlib.Core.Bool.{_&&_};
 ghost use Prim.Native.Nat.{_+_, _≤_, _<_};
 ghost use lib.ListN.{length, getD};
-ghost use Rattle.games.specs.Format.{lowValues, numberValues, actionValues, kindValues, kindCell};
+ghost use Rattle.games.specs.Format.{lowValues, numberValues, actionValues, kindValues, kindCell, kindNext};
 ghost use Rattle.games.specs.Fields.{word};
 ghost use Rattle.games.specs.Words.{frontLength, cardHead};
 ghost use Rattle.cards.specs.Card.{headFits, cellNamed, cellFits, wordsChecked, checked};
-ghost use Rattle.cards.specs.Checking.{Shaped, FitsBelow, RightNames};
+ghost use Rattle.cards.specs.Checking.{Shaped, Pass, FitsBelow, names, RightNames};
 ghost use Rattle.cards.specs.Card.{automaton, cardCells, cardObservations, cardActions, cellPlace, Named};
 ghost use Rattle.cards.specs.Run.{enters, begun, followed, opened, stepped, standsAfter, starts, advances};
 
@@ -62,31 +63,67 @@ fn head_fits(x: u32) -> bool
         & games::within(action, games::MAX_ACTIONS)
 }
 
-// A first or next word, by its kind, for observation j: it names a cell below m, or none.
+// A first or next word, by its kind, for observation j: it names a cell below m, or none. The cell is what the word has above the frame
+// of kind and number, so two comparisons do: a word with another frame is further above it.
 fn cell_named(kind: u32, m: u32, j: u32, x: u32) -> bool
-    requires { ⌜ (kind < kindValues) × (j < numberValues) ⌝ }
+    requires { ⌜ (kind < kindValues) × (m < lowValues) × (j < numberValues) ⌝ }
     ensures { λ r. ⌜ r ≡ cellNamed kind m j x ⌝ }
 {
-    let low = games::low_field(x);
-    (x == games::word(kind, low, j, 0)) & ((low < m) | (low == games::NO_CELL))
+    let cell = std::num::wrapping_sub_u32(x, games::word(kind, 0, j, 0));
+    (cell < m) | (cell == games::NO_CELL)
 }
 
-// A cell's own word: its set is below the limit, its action below a.
+// A cell's own word: its set is below the limit, its action below a. Both are above the frame of the kind.
 fn cell_fits(a: u32, x: u32) -> bool
+    requires { ⌜ a < actionValues ⌝ }
     ensures { λ r. ⌜ r ≡ cellFits a x ⌝ }
 {
-    let low = games::low_field(x);
-    let action = games::action_field(x);
-    (x == games::word(games::KIND_CELL, low, 0, action)) & (low < games::MAX_SETS) & (action < a)
+    let picked = std::num::wrapping_sub_u32(x, games::word(games::KIND_CELL, 0, 0, 0));
+    (picked % games::ACTION_AT < games::MAX_SETS) & (picked < a * games::ACTION_AT)
 }
 
-// How many of so many first or next words (the kind says which) from a place on are right, before one that is wrong.
-fn right_names(card: &[u32], kind: u32, at: usize, count: u32) -> u32
+// Four first or next words (the kind says which) in a row are right, from number j on. Without a branch between them they are compared
+// at once.
+fn four_named(card: &[u32], kind: u32, at: usize, j: u32) -> bool
+    requires { ⌜ Shaped (now card) × (kind < kindValues) × (j + 4 ≤ numberValues) × (at + j + 4 ≤ length (now card)) ⌝ }
+    ensures { λ r. ⌜ r ≡ (names (now (card .entry)) kind at j && names (now (card .entry)) kind at (j + 1)
+        && names (now (card .entry)) kind at (j + 2) && names (now (card .entry)) kind at (j + 3)) ⌝ }
+{
+    let m = games::low_field(card[0]);
+    let p = at + j as usize;
+    cell_named(kind, m, j, card[p])
+        & cell_named(kind, m, j + 1, card[p + 1])
+        & cell_named(kind, m, j + 2, card[p + 2])
+        & cell_named(kind, m, j + 3, card[p + 3])
+}
+
+// Of so many first or next words from a place on, some that are right: as many as go by fours.
+fn right_fours(card: &[u32], kind: u32, at: usize, count: u32) -> u32
     requires { ⌜ Shaped (now card) × (kind < kindValues) × (count ≤ numberValues) × (at + count ≤ length (now card)) ⌝ }
+    ensures { λ r. ⌜ Pass (names (now (card .entry)) kind at) count r ⌝ }
+{
+    let mut j: u32 = 0;
+    if count < 4 {
+        return j;
+    }
+    while j + 4 <= count {
+        if !four_named(card, kind, at, j) {
+            return j;
+        }
+        j += 4;
+    }
+    j
+}
+
+// How many of so many first or next words (the kind says which) from a place on are right, before one that is wrong, where those below
+// a number are.
+fn right_from(card: &[u32], kind: u32, at: usize, count: u32, from: u32) -> u32
+    requires { ⌜ Shaped (now card) × (kind < kindValues) × (count ≤ numberValues) × (at + count ≤ length (now card))
+        × Pass (names (now card) kind at) count from ⌝ }
     ensures { λ r. ⌜ RightNames (now (card .entry)) kind at count r ⌝ }
 {
     let m = games::low_field(card[0]);
-    let mut j: u32 = 0;
+    let mut j = from;
     while j < count {
         if !cell_named(kind, m, j, card[at + j as usize]) {
             return j;
@@ -94,6 +131,15 @@ fn right_names(card: &[u32], kind: u32, at: usize, count: u32) -> u32
         j += 1;
     }
     j
+}
+
+// The same for the next words of a part, by fours first.
+fn right_nexts(card: &[u32], at: usize, count: u32) -> u32
+    requires { ⌜ Shaped (now card) × (count ≤ numberValues) × (at + count ≤ length (now card)) ⌝ }
+    ensures { λ r. ⌜ RightNames (now (card .entry)) kindNext at count r ⌝ }
+{
+    let fours = right_fours(card, games::KIND_NEXT, at, count);
+    right_from(card, games::KIND_NEXT, at, count, fours)
 }
 
 // The cells' parts, each its own word and its next words: the lowest wrong word stops the check.
@@ -110,7 +156,7 @@ fn check_parts(card: &[u32]) -> Checked
         if !cell_fits(a, card[at]) {
             return Checked::Refused(13, at);
         }
-        let named = right_names(card, games::KIND_NEXT, at + 1, o);
+        let named = right_nexts(card, at + 1, o);
         if named < o {
             return Checked::Refused(13, at + 1 + named as usize);
         }
@@ -125,7 +171,7 @@ fn check_words(card: &[u32]) -> Checked
     ensures { λ r. ⌜ r ≡ wordsChecked (now (card .entry)) ⌝ }
 {
     let o = games::number_field(card[0]);
-    let named = right_names(card, games::KIND_FIRST, 1, o);
+    let named = right_from(card, games::KIND_FIRST, 1, o, 0);
     if named < o {
         return Checked::Refused(13, 1 + named as usize);
     }

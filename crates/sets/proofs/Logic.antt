@@ -44,6 +44,13 @@ pub and-right : (a b : Bool) → (a && b) ≡ true → b ≡ true
 and-right true b e = e
 and-right false b e = absurd (false≢true e)
 
+-- four hold: each does
+pub and-four : (a b c d : Bool) → (a && b && c && d) ≡ true → (a ≡ true) × (b ≡ true) × (c ≡ true) × (d ≡ true)
+and-four a b c d e =
+    let f = and-left (a && b && c) d e in
+    let g = and-left (a && b) c f in
+    (and-left a b g, and-right a b g, and-right (a && b) c f, and-right (a && b && c) d e)
+
 -- each holds: both do
 pub and-intro : {a b : Bool} → a ≡ true → b ≡ true → (a && b) ≡ true
 and-intro {a = true} {b} p q = q

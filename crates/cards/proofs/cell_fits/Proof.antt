@@ -1,5 +1,6 @@
--- The tests are those of the definition, on the fields that the code has read.
+-- The tests are those of the definition, on what the word has above its frame.
 -- Assumes nothing.
+use native.Mathlib.Omega.{arith}
 use borrow.Author.Needs.{needs}
 use Rattle.cards.proofs.Checked.{cell-told}
 use Rattle.cards.proofs.cell_fits.Statement.{statement}
@@ -11,7 +12,7 @@ cell-fits-spec =
     (tie.spec
     (λ c κs. search needs)
     (λ c κs. search needs)
-    (λ c κs. search needs)
+    (λ c. search needs)
     (λ c.
-    let low = c .before .before in
-    cell-told (low .before .args .a) _ _ _ _ (low .low-field .ensures) (c .before .action-field .ensures) (c .word .ensures)))
+    let frame = c .before in
+    cell-told (frame .before .args .a) _ _ _ (frame .before .pre) (omega arith) (frame .word .ensures) (c .wrapping-sub-u32 .ensures)))

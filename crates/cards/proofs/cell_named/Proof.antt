@@ -1,5 +1,6 @@
--- The tests are those of the definition, on the field that the code has read.
+-- The tests are those of the definition, on what the word has above its frame.
 -- Assumes nothing.
+use native.Mathlib.Omega.{arith}
 use borrow.Author.Needs.{needs}
 use Rattle.cards.proofs.Checked.{named-told}
 use Rattle.cards.proofs.cell_named.Statement.{statement}
@@ -11,4 +12,7 @@ cell-named-spec =
     (tie.spec
     (λ c κs. search needs)
     (λ c κs. search needs)
-    (λ c. let low = c .before in named-told _ (low .before .args .m) _ _ _ _ (low .low-field .ensures) (c .word .ensures)))
+    (λ c.
+    let frame = c .before in
+    let asked = frame .before .pre in
+    named-told _ (frame .before .args .m) _ _ _ _ (asked .0) (asked .1) (asked .2) (omega arith) (frame .word .ensures) (c .wrapping-sub-u32 .ensures)))

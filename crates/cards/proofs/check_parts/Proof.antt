@@ -52,14 +52,14 @@ own c =
     let at = p .before .before in
     ap (λ (a : ℕ). cellFits a (getD (words at) (p .cell-place .result) 0)) (sym (at .before .action-field .ensures)) ∙ sym (c .cell-fits .ensures)
 
-found : (c : tie.After-right-names Inv-loop μ-loop)
+found : (c : tie.After-right-nexts Inv-loop μ-loop)
     → let p = c .before .before .before .before in
     let w = words (p .before .before) in
-    RightNames w kindNext (p .cell-place .result + 1) (cardObservations w) (c .right-names .result)
+    RightNames w kindNext (p .cell-place .result + 1) (cardObservations w) (c .right-nexts .result)
 found c =
     let p = c .before .before .before .before in
     let at = p .before .before in
-    subst (λ (n : ℕ). RightNames (words at) kindNext (p .cell-place .result + 1) n (c .right-names .result)) (seen at) (c .right-names .ensures)
+    subst (λ (n : ℕ). RightNames (words at) kindNext (p .cell-place .result + 1) n (c .right-nexts .result)) (seen at) (c .right-nexts .ensures)
 
 pub check-parts-spec : {M : Type 1} → statement M
 check-parts-spec =
@@ -77,7 +77,7 @@ check-parts-spec =
     (λ c κs. (omega (arith, seen (c .before)), omega (arith, there c)))
     (λ c. omega (arith, inside c))
     (λ c. omega (arith, inside (c .before)))
-    (λ c κs. search needs)
+    (λ c κs. omega (arith, c .before .before .before .before .action-field .ensures))
     (λ c.
     let word = c .before in
     let p = word .before .before in
@@ -87,7 +87,7 @@ check-parts-spec =
     (λ c κs.
     let p = c .before .before .before in
     let at = p .before .before in
-    (entry at .pre .0, omega arith, omega (arith, seen at), omega (arith, inside p, seen at)))
+    (entry at .pre .0, omega (arith, seen at), omega (arith, inside p, seen at)))
     (λ c. omega (arith, inside (c .before .before .before .before .before)))
     (λ c. search needs)
     (λ c. let named = c .before in omega (arith, inside (named .before .before .before .before), found named .most))

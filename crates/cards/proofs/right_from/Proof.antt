@@ -1,4 +1,4 @@
--- Invariant: the words for the observations below j are right.
+-- Invariant: the words for the observations below j are right; those below the number given are at the start.
 -- Assumes nothing.
 use mathlib.Core.Path.{_≡_, sym, ap, _∙_}
 use Prim.Native.Nat.{ℕ, _+_, _-_, _<_}
@@ -7,17 +7,16 @@ use borrow.Author.Needs.{needs}
 use borrow.Author.Tests.{not-true, not-false}
 use lib.ListN.{length, getD}
 use Rattle.cards.specs.Card.{cellNamed}
-use Rattle.cards.specs.Checking.{names}
 use Rattle.cards.specs.Checking.{names, Pass}
-use Rattle.cards.proofs.Passing.{pass-none, pass-more, pass-end}
-use Rattle.cards.proofs.right_names.Statement.{statement}
-use Rattle.cards.proofs.right_names.Tie as tie
+use Rattle.cards.proofs.Passing.{pass-more, pass-end}
+use Rattle.cards.proofs.right_from.Statement.{statement}
+use Rattle.cards.proofs.right_from.Tie as tie
 
 abbrev Inv-loop : tie.InvT-loop
-Inv-loop card kind at count m j₀ j = Pass (names card kind at) count j
+Inv-loop card kind at count from m j₀ j = Pass (names card kind at) count j
 
 abbrev μ-loop : tie.MeasureT-loop
-μ-loop card kind at count m j₀ j = count - j
+μ-loop card kind at count from m j₀ j = count - j
 
 -- the word lies in the card
 inside : (c : tie.In-loop Inv-loop μ-loop) → let x = c .before .before .before .before .before .args in x .at + c .before .loop .j < length (x .card .now)
@@ -34,20 +33,23 @@ told c =
     let x = low .before .before .before .args in
     ap (λ (m : ℕ). cellNamed (x .kind) m (at .loop .j) (getD (x .card .now) (x .at + at .loop .j) 0)) (sym (low .low-field .ensures)) ∙ sym (c .cell-named .ensures)
 
-pub right-names-spec : {M : Type 1} → statement M
-right-names-spec =
+pub right-from-spec : {M : Type 1} → statement M
+right-from-spec =
     tie.close
     (tie.spec
     Inv-loop
     μ-loop
     (λ c. omega (arith, c .before .before .pre .0 .long))
     (λ c κs. search needs)
-    (λ c. pass-none _ _)
+    (λ c. c .before .before .before .pre .4)
     (λ c. search needs)
     (λ c. omega (arith, inside c))
     (λ c. omega (arith, inside c))
     (λ c. inside (c .before))
-    (λ c κs. let asked = c .before .before .before .before .before .before .pre in (asked .1, omega (arith, c .before .loop-test .taken, asked .2)))
+    (λ c κs.
+    let low = c .before .before .before in
+    let asked = low .before .before .before .pre in
+    (asked .1, omega (arith, low .low-field .ensures), omega (arith, c .before .loop-test .taken, asked .2)))
     (λ c. let word = c .before in pass-end _ _ _ (word .before .before .before .loop .inv) (λ l. told word ∙ not-true _ (c .if1 .taken)))
     (λ c. let turn = c .before .before .before in omega (arith, turn .loop-test .taken))
     (λ c. let turn = c .before .before .before in omega (arith, turn .loop-test .taken))
