@@ -605,6 +605,22 @@ impl Judge {
 
 // ---- Cards -------------------------------------------------------------------------------------
 
+/// Calls a function over a card's rows by their length, 1 + o: where it is known the words of a row are tested together.
+macro_rules! by_length {
+    ($o:expr, $($function:ident)::+, $($argument:expr),*) => {
+        match $o {
+            1 => $($function)::+::<2>($($argument),*),
+            2 => $($function)::+::<3>($($argument),*),
+            3 => $($function)::+::<4>($($argument),*),
+            4 => $($function)::+::<5>($($argument),*),
+            5 => $($function)::+::<6>($($argument),*),
+            6 => $($function)::+::<7>($($argument),*),
+            7 => $($function)::+::<8>($($argument),*),
+            _ => $($function)::+::<9>($($argument),*),
+        }
+    };
+}
+
 /// What a move answers: the cell entered and its action, or number and place of a refusal.
 pub type Moved = Result<(u32, u32), (u32, usize)>;
 
@@ -642,16 +658,10 @@ impl Rows<'_> {
         if let Some(place) = wrong_target(&front[1..], 0x9000_0000, cells) {
             return Err((13, 1 + place));
         }
-        for (row, at) in rows.chunks_exact(1 + o).zip((1 + o..).step_by(1 + o)) {
-            let cell = row[0] ^ 0xA000_0000;
-            if cell & !0x00F0_0FFF != 0 || cell >> 20 >= a {
-                return Err((13, at));
-            }
-            if let Some(place) = wrong_target(&row[1..], 0xB000_0000, cells) {
-                return Err((13, at + 1 + place));
-            }
+        match by_length!(o, wrong_row, rows, cells, a as usize) {
+            Some(place) => Err((13, 1 + o + place)),
+            None => Ok(Rows { words, cells, o }),
         }
-        Ok(Rows { words, cells, o })
     }
 
     /// The move by an observation from row 0 or from a cell's row.
@@ -793,17 +803,7 @@ impl CardJudge {
         if cells > FEW_CELLS {
             self.fill_thirds();
         }
-        // The length of a row is known in each: its words are tested together.
-        match o {
-            1 => self.judge_rows::<2>(card, cells),
-            2 => self.judge_rows::<3>(card, cells),
-            3 => self.judge_rows::<4>(card, cells),
-            4 => self.judge_rows::<5>(card, cells),
-            5 => self.judge_rows::<6>(card, cells),
-            6 => self.judge_rows::<7>(card, cells),
-            7 => self.judge_rows::<8>(card, cells),
-            _ => self.judge_rows::<9>(card, cells),
-        }
+        by_length!(o, Self::judge_rows, self, card, cells)
     }
 
     fn fill_thirds(&mut self) {
@@ -887,7 +887,14 @@ impl CardJudge {
     }
 }
 
-/// The lowest word of a cell's row that is not a card's, likewise.
+/// The lowest word of the cells' rows that is not a card's.
+fn wrong_row<const PART: usize>(rows: &[u32], cells: usize, a: usize) -> Option<usize> {
+    let (rows, _) = rows.as_chunks::<PART>();
+    let wrong = |(i, row)| wrong_word(row, cells, a).map(|place| i * PART + place);
+    rows.iter().enumerate().find_map(wrong)
+}
+
+/// The lowest word of a cell's row that is not a card's: all words together first.
 #[inline(always)]
 fn wrong_word<const PART: usize>(row: &[u32; PART], cells: usize, a: usize) -> Option<usize> {
     let cell = row[0] ^ 0xA000_0000;

@@ -21,7 +21,7 @@ use Rattle.fields.proofs.RoundTrip.{read-then-write}
 use Rattle.solver.specs.Solve.{Promise}
 use Rattle.solver.specs.declared.Answer.{Answer}
 use Rattle.solver.specs.declared.Answer.the-variants as answer
-use Rattle.abi.specs.Words.{done, checkWords, solveWords, writtenWords}
+use Rattle.answers.specs.Words.{done, checkWords, solveWords, writtenWords}
 use Rattle.abi.specs.Calls.{told, rewritten, ComesBack, cardTold, ReadsAs}
 
 -- the words of an answer, with what it left, tell the outcome

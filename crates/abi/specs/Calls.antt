@@ -13,7 +13,7 @@ use Rattle.tables.specs.declared.Fields.{Fields}
 use Rattle.cards.specs.Card.{cardCells, cardObservations, checked as cardChecked}
 use Rattle.fields.specs.Read.{readOf}
 use Rattle.fields.specs.Write.{writeOf}
-use Rattle.abi.specs.Words.{done, refused}
+use Rattle.answers.specs.Words.{done, refused}
 
 -- an outcome, its answer as words
 abbrev pub told : {A L : Type 0} → (A → List ℕ) → Leaves A L → Leaves (List ℕ) L

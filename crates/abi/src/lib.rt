@@ -17,116 +17,20 @@ ghost use Rattle.show.specs.Show.{found};
 ghost use Rattle.certificates.specs.Certificate.{certified, Safe};
 ghost use Rattle.solver.specs.Solve.{buffers, solved, Promise};
 ghost use Rattle.solver.specs.declared.Answer.{Answer};
-ghost use Rattle.abi.specs.Words.{done, no as noWords, refused as refusedWords};
-ghost use Rattle.abi.specs.Words.{checkWords, solveWords, judgeWords, writtenWords, moveWords, ranWords, showWords};
+ghost use Rattle.answers.specs.Words.{done, checkWords, solveWords, judgeWords, writtenWords, moveWords, ranWords, showWords};
 ghost use Rattle.abi.specs.Calls.{told, rewritten, ComesBack, cardTold, given, ReadsAs};
-use cards::Move;
 use games::Cell;
 use games::Checked;
 use games::Observation;
 use games::Written;
-use judge::Judged;
-use runner::Ran;
-use show::Shown;
 use tables::Fields;
-
-// Done, with two numbers.
-fn pair(x: u32, y: u32) -> [u64; 3]
-    ensures { λ r. ⌜ r ≡ done x y ⌝ }
-{
-    [0, x as u64, y as u64]
-}
-
-// Done, with two places or lengths.
-fn span(x: usize, y: usize) -> [u64; 3]
-    ensures { λ r. ⌜ r ≡ done x y ⌝ }
-{
-    [0, x as u64, y as u64]
-}
-
-fn no(round: u32) -> [u64; 3]
-    ensures { λ r. ⌜ r ≡ noWords round ⌝ }
-{
-    [1, round as u64, 0]
-}
-
-fn refused(number: u32, place: usize) -> [u64; 3]
-    ensures { λ r. ⌜ r ≡ refusedWords number place ⌝ }
-{
-    [2, number as u64, place as u64]
-}
-
-fn check_words(a: Checked) -> [u64; 3]
-    ensures { λ r. ⌜ r ≡ checkWords a ⌝ }
-{
-    match a {
-        Checked::Fine => pair(0, 0),
-        Checked::Refused(number, place) => refused(number, place),
-    }
-}
-
-fn solve_words(a: solver::Answer) -> [u64; 3]
-    ensures { λ r. ⌜ r ≡ solveWords a ⌝ }
-{
-    match a {
-        solver::Answer::Yes(settled, cells) => pair(settled, cells),
-        solver::Answer::No(round) => no(round),
-        solver::Answer::Refused(number, place) => refused(number, place),
-    }
-}
-
-fn judge_words(a: Judged) -> [u64; 3]
-    ensures { λ r. ⌜ r ≡ judgeWords a ⌝ }
-{
-    match a {
-        Judged::Good => pair(1, 0),
-        Judged::NotGood => pair(0, 0),
-        Judged::Refused(number, place) => refused(number, place),
-    }
-}
-
-fn written_words(a: Written) -> [u64; 3]
-    ensures { λ r. ⌜ r ≡ writtenWords a ⌝ }
-{
-    match a {
-        Written::Words(length) => span(length, 0),
-        Written::Refused(number, place) => refused(number, place),
-    }
-}
-
-fn move_words(a: Move) -> [u64; 3]
-    ensures { λ r. ⌜ r ≡ moveWords a ⌝ }
-{
-    match a {
-        Move::Entered(cell, action) => pair(cell.0, action.0),
-        Move::Refused(number, place) => refused(number, place),
-    }
-}
-
-fn ran_words(a: Ran) -> [u64; 3]
-    ensures { λ r. ⌜ r ≡ ranWords a ⌝ }
-{
-    match a {
-        Ran::Done(taken) => span(taken, 0),
-        Ran::Refused(number, place, _) => refused(number, place),
-    }
-}
-
-fn show_words(a: Shown) -> [u64; 3]
-    ensures { λ r. ⌜ r ≡ showWords a ⌝ }
-{
-    match a {
-        Shown::Part(offset, length) => span(offset, length),
-        Shown::Refused(number, place) => refused(number, place),
-    }
-}
 
 // 0, 0, 0: the words are a table.
 #[no_mangle]
 pub extern "C" fn kirdanzug_check_table(table: &[u32], answer: &mut [u64; 3])
     ensures { λ _. ⌜ now (answer .exit) ≡ checkWords (checked (now (table .entry))) ⌝ }
 {
-    *answer = check_words(tables::check(table));
+    *answer = answers::check_words(tables::check(table));
 }
 
 // The numbers are read only of words that are a card.
@@ -138,9 +42,9 @@ fn card_words(card: &[u32]) -> [u64; 3]
         Checked::Fine => {
             let cells = cards::cells(card);
             let observations = cards::observations(card);
-            pair(cells, observations)
+            answers::pair(cells, observations)
         }
-        Checked::Refused(_, _) => check_words(found),
+        Checked::Refused(_, _) => answers::check_words(found),
     }
 }
 
@@ -165,7 +69,7 @@ pub extern "C" fn kirdanzug_solve(
     ensures promised { λ _. ⌜ ((r : Answer) → now (answer .exit) ≡ solveWords r
         → Promise (now (table .entry)) (now (work .entry)) (now (card .entry)) r (now (card .exit))) ⌝ }
 {
-    *answer = solve_words(solver::solve(table, work, card));
+    *answer = answers::solve_words(solver::solve(table, work, card));
 }
 
 // 0, 1 or 0, 0: is the set good for k rounds?
@@ -173,7 +77,7 @@ pub extern "C" fn kirdanzug_solve(
 pub extern "C" fn kirdanzug_judge(table: &[u32], mask: u32, k: u32, answer: &mut [u64; 3])
     ensures { λ _. ⌜ now (answer .exit) ≡ judgeWords (judged (now (table .entry)) mask k) ⌝ }
 {
-    *answer = judge_words(judge::judge(table, mask, k));
+    *answer = answers::judge_words(judge::judge(table, mask, k));
 }
 
 // 0, length, 0: the maximal sets of both lists.
@@ -190,7 +94,7 @@ pub extern "C" fn kirdanzug_join(
     ensures plain { λ _. ⌜ ((w : ℕ) → now (answer .exit) ≡ done w 0
         → MaximalOf (OfEither (now (first .entry)) (now (second .entry))) (take w (now (out .exit)))) ⌝ }
 {
-    *answer = written_words(lists::join(n, first, second, out));
+    *answer = answers::written_words(lists::join(n, first, second, out));
 }
 
 // 0, length, 0: the maximal common parts of one set from each list.
@@ -207,7 +111,7 @@ pub extern "C" fn kirdanzug_meet(
     ensures plain { λ _. ⌜ ((w : ℕ) → now (answer .exit) ≡ done w 0
         → MaximalOf (OfBoth (now (first .entry)) (now (second .entry))) (take w (now (out .exit)))) ⌝ }
 {
-    *answer = written_words(lists::meet(n, first, second, out));
+    *answer = answers::written_words(lists::meet(n, first, second, out));
 }
 
 // 0, length, 0: the fields written as a table's words, which read back as these fields.
@@ -237,7 +141,7 @@ pub extern "C" fn kirdanzug_write(
         shown: *shown,
         moves: *moves,
     };
-    *answer = written_words(fields::write(f, out));
+    *answer = answers::written_words(fields::write(f, out));
 }
 
 // Reads the table into fields, and writes these.
@@ -260,7 +164,7 @@ pub extern "C" fn kirdanzug_rewrite(table: &[u32], out: &mut [u32], answer: &mut
     ensures same { λ _. ⌜ ComesBack (now (table .entry)) (now (out .entry))
         (leaves (now (answer .exit)) (now (out .exit))) ⌝ }
 {
-    *answer = written_words(rewrite(table, out));
+    *answer = answers::written_words(rewrite(table, out));
 }
 
 // 0, cell entered, its action: the card opened with the first observation.
@@ -268,7 +172,7 @@ pub extern "C" fn kirdanzug_rewrite(table: &[u32], out: &mut [u32], answer: &mut
 pub extern "C" fn kirdanzug_open(card: &[u32], observation: u32, answer: &mut [u64; 3])
     ensures { λ _. ⌜ now (answer .exit) ≡ moveWords (opened (now (card .entry)) observation) ⌝ }
 {
-    *answer = move_words(cards::begin(card, Observation(observation)));
+    *answer = answers::move_words(cards::begin(card, Observation(observation)));
 }
 
 // 0, cell entered, its action: a later observation in a cell.
@@ -276,7 +180,7 @@ pub extern "C" fn kirdanzug_open(card: &[u32], observation: u32, answer: &mut [u
 pub extern "C" fn kirdanzug_step(card: &[u32], cell: u32, observation: u32, answer: &mut [u64; 3])
     ensures { λ _. ⌜ now (answer .exit) ≡ moveWords (stepped (now (card .entry)) cell observation) ⌝ }
 {
-    *answer = move_words(cards::step(card, Cell(cell), Observation(observation)));
+    *answer = answers::move_words(cards::step(card, Cell(cell), Observation(observation)));
 }
 
 // 0, observations taken, 0: the card run over the observations, and the action after each in front of `out`.
@@ -290,7 +194,7 @@ pub extern "C" fn kirdanzug_run(
     ensures { λ _. ⌜ leaves (now (answer .exit)) (now (out .exit))
         ≡ told ranWords (ranInto (now (card .entry)) (now (observations .entry)) (now (out .entry))) ⌝ }
 {
-    *answer = ran_words(runner::run(card, observations, out));
+    *answer = answers::ran_words(runner::run(card, observations, out));
 }
 
 // 0, cell entered, its action: a runner opened with the first observation and moved by two more; the answer to the third. It is for
@@ -314,7 +218,7 @@ pub extern "C" fn kirdanzug_drive(
     );
     let last = driven.last;
     let said = last.answer;
-    *answer = move_words(said);
+    *answer = answers::move_words(said);
 }
 
 // 0, offset, length: where the move words of a cell's action stand in the table.
@@ -322,7 +226,7 @@ pub extern "C" fn kirdanzug_drive(
 pub extern "C" fn kirdanzug_show(table: &[u32], card: &[u32], cell: u32, answer: &mut [u64; 3])
     ensures { λ _. ⌜ now (answer .exit) ≡ showWords (found (now (table .entry)) (now (card .entry)) cell) ⌝ }
 {
-    *answer = show_words(show::find(table, card, Cell(cell)));
+    *answer = answers::show_words(show::find(table, card, Cell(cell)));
 }
 
 // 0, 0, 0: the card, whoever drew it, is safe for the table.
@@ -331,5 +235,5 @@ pub extern "C" fn kirdanzug_judge_card(table: &[u32], card: &[u32], answer: &mut
     ensures determined { λ _. ⌜ now (answer .exit) ≡ checkWords (certified (now (table .entry)) (now (card .entry))) ⌝ }
     ensures safe { λ _. ⌜ (now (answer .exit) ≡ done 0 0 → Safe (game (now (table .entry))) (now (card .entry))) ⌝ }
 {
-    *answer = check_words(certificates::judge_card(table, card));
+    *answer = answers::check_words(certificates::judge_card(table, card));
 }

@@ -3,7 +3,7 @@
 use mathlib.Core.Path.{ap, _∙_}
 use borrow.Author.Needs.{needs}
 use Rattle.cards.specs.declared.Stood.{Stood}
-use Rattle.abi.specs.Words.{moveWords}
+use Rattle.answers.specs.Words.{moveWords}
 use Rattle.abi.proofs.kirdanzug_drive.Statement.{statement}
 use Rattle.abi.proofs.kirdanzug_drive.Tie as tie
 

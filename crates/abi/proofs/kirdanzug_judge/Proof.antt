@@ -2,7 +2,7 @@
 -- Assumes nothing.
 use mathlib.Core.Path.{ap, _∙_}
 use borrow.Author.Needs.{needs}
-use Rattle.abi.specs.Words.{judgeWords}
+use Rattle.answers.specs.Words.{judgeWords}
 use Rattle.abi.proofs.kirdanzug_judge.Statement.{statement}
 use Rattle.abi.proofs.kirdanzug_judge.Tie as tie
 

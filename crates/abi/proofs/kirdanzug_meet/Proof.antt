@@ -1,7 +1,7 @@
 -- `abi::kirdanzug_meet` meets its contract: the words of what `meet` answers, and what it leaves.
 -- Assumes nothing.
 use borrow.Author.Needs.{needs}
-use Rattle.abi.specs.Words.{writtenWords}
+use Rattle.answers.specs.Words.{writtenWords}
 use Rattle.abi.proofs.Told.{tells, list-plain}
 use Rattle.abi.proofs.kirdanzug_meet.Statement.{statement}
 use Rattle.abi.proofs.kirdanzug_meet.Tie as tie

@@ -2,7 +2,7 @@
 -- Assumes nothing.
 use mathlib.Core.Path.{ap, _∙_}
 use borrow.Author.Needs.{needs}
-use Rattle.abi.specs.Words.{moveWords}
+use Rattle.answers.specs.Words.{moveWords}
 use Rattle.abi.proofs.kirdanzug_open.Statement.{statement}
 use Rattle.abi.proofs.kirdanzug_open.Tie as tie
 

@@ -1,7 +1,7 @@
 -- `abi::kirdanzug_rewrite` meets its contract: the words of what `rewrite` answers, and what it leaves.
 -- Assumes nothing.
 use borrow.Author.Needs.{needs}
-use Rattle.abi.specs.Words.{writtenWords}
+use Rattle.answers.specs.Words.{writtenWords}
 use Rattle.abi.proofs.Told.{tells, rewrite-same}
 use Rattle.abi.proofs.kirdanzug_rewrite.Statement.{statement}
 use Rattle.abi.proofs.kirdanzug_rewrite.Tie as tie

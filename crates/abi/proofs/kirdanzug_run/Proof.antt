@@ -1,7 +1,7 @@
 -- `abi::kirdanzug_run` meets its contract: the words of what `run` answers, and what it leaves.
 -- Assumes nothing.
 use borrow.Author.Needs.{needs}
-use Rattle.abi.specs.Words.{ranWords}
+use Rattle.answers.specs.Words.{ranWords}
 use Rattle.abi.proofs.Told.{tells}
 use Rattle.abi.proofs.kirdanzug_run.Statement.{statement}
 use Rattle.abi.proofs.kirdanzug_run.Tie as tie

@@ -2,7 +2,7 @@
 -- Assumes nothing.
 use mathlib.Core.Path.{ap, _∙_}
 use borrow.Author.Needs.{needs}
-use Rattle.abi.specs.Words.{showWords}
+use Rattle.answers.specs.Words.{showWords}
 use Rattle.abi.proofs.kirdanzug_show.Statement.{statement}
 use Rattle.abi.proofs.kirdanzug_show.Tie as tie
 

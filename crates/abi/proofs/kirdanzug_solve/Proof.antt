@@ -1,7 +1,7 @@
 -- `abi::kirdanzug_solve` meets its contract: the words of what `solve` answers, what it leaves, and what it promises.
 -- Assumes nothing.
 use borrow.Author.Needs.{needs}
-use Rattle.abi.specs.Words.{solveWords}
+use Rattle.answers.specs.Words.{solveWords}
 use Rattle.abi.proofs.Told.{tells, solve-promised}
 use Rattle.abi.proofs.kirdanzug_solve.Statement.{statement}
 use Rattle.abi.proofs.kirdanzug_solve.Tie as tie

@@ -1,7 +1,7 @@
 -- `abi::kirdanzug_write` meets its contract: the words of what `write` answers, what it leaves, and that it reads back.
 -- Assumes nothing.
 use borrow.Author.Needs.{needs}
-use Rattle.abi.specs.Words.{writtenWords}
+use Rattle.answers.specs.Words.{writtenWords}
 use Rattle.abi.proofs.Told.{tells, write-read-back}
 use Rattle.abi.proofs.kirdanzug_write.Statement.{statement}
 use Rattle.abi.proofs.kirdanzug_write.Tie as tie

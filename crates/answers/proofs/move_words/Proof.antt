@@ -1,10 +1,10 @@
--- `abi::move_words` meets its contract: the words of each case.
+-- `answers::move_words` meets its contract: the words of each case.
 -- Assumes nothing.
 use mathlib.Core.Path.{sym, ap, _∙_}
 use borrow.Author.Needs.{needs}
-use Rattle.abi.specs.Words.{moveWords}
-use Rattle.abi.proofs.move_words.Statement.{statement}
-use Rattle.abi.proofs.move_words.Tie as tie
+use Rattle.answers.specs.Words.{moveWords}
+use Rattle.answers.proofs.move_words.Statement.{statement}
+use Rattle.answers.proofs.move_words.Tie as tie
 
 pub move-words-spec : {M : Type 1} → statement M
 move-words-spec =

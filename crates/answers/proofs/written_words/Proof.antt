@@ -1,10 +1,10 @@
--- `abi::written_words` meets its contract: the words of each case.
+-- `answers::written_words` meets its contract: the words of each case.
 -- Assumes nothing.
 use mathlib.Core.Path.{sym, ap, _∙_}
 use borrow.Author.Needs.{needs}
-use Rattle.abi.specs.Words.{writtenWords}
-use Rattle.abi.proofs.written_words.Statement.{statement}
-use Rattle.abi.proofs.written_words.Tie as tie
+use Rattle.answers.specs.Words.{writtenWords}
+use Rattle.answers.proofs.written_words.Statement.{statement}
+use Rattle.answers.proofs.written_words.Tie as tie
 
 pub written-words-spec : {M : Type 1} → statement M
 written-words-spec =

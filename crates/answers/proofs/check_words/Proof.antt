@@ -1,10 +1,10 @@
--- `abi::check_words` meets its contract: the words of each case.
+-- `answers::check_words` meets its contract: the words of each case.
 -- Assumes nothing.
 use mathlib.Core.Path.{sym, ap, _∙_}
 use borrow.Author.Needs.{needs}
-use Rattle.abi.specs.Words.{checkWords}
-use Rattle.abi.proofs.check_words.Statement.{statement}
-use Rattle.abi.proofs.check_words.Tie as tie
+use Rattle.answers.specs.Words.{checkWords}
+use Rattle.answers.proofs.check_words.Statement.{statement}
+use Rattle.answers.proofs.check_words.Tie as tie
 
 pub check-words-spec : {M : Type 1} → statement M
 check-words-spec =

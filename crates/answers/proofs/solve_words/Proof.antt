@@ -1,10 +1,10 @@
--- `abi::solve_words` meets its contract: the words of each case.
+-- `answers::solve_words` meets its contract: the words of each case.
 -- Assumes nothing.
 use mathlib.Core.Path.{sym, ap, _∙_}
 use borrow.Author.Needs.{needs}
-use Rattle.abi.specs.Words.{solveWords}
-use Rattle.abi.proofs.solve_words.Statement.{statement}
-use Rattle.abi.proofs.solve_words.Tie as tie
+use Rattle.answers.specs.Words.{solveWords}
+use Rattle.answers.proofs.solve_words.Statement.{statement}
+use Rattle.answers.proofs.solve_words.Tie as tie
 
 pub solve-words-spec : {M : Type 1} → statement M
 solve-words-spec =

@@ -1,10 +1,10 @@
--- `abi::ran_words` meets its contract: the words of each case.
+-- `answers::ran_words` meets its contract: the words of each case.
 -- Assumes nothing.
 use mathlib.Core.Path.{sym, ap, _∙_}
 use borrow.Author.Needs.{needs}
-use Rattle.abi.specs.Words.{ranWords}
-use Rattle.abi.proofs.ran_words.Statement.{statement}
-use Rattle.abi.proofs.ran_words.Tie as tie
+use Rattle.answers.specs.Words.{ranWords}
+use Rattle.answers.proofs.ran_words.Statement.{statement}
+use Rattle.answers.proofs.ran_words.Tie as tie
 
 pub ran-words-spec : {M : Type 1} → statement M
 ran-words-spec =

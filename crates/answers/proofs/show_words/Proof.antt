@@ -1,10 +1,10 @@
--- `abi::show_words` meets its contract: the words of each case.
+-- `answers::show_words` meets its contract: the words of each case.
 -- Assumes nothing.
 use mathlib.Core.Path.{sym, ap, _∙_}
 use borrow.Author.Needs.{needs}
-use Rattle.abi.specs.Words.{showWords}
-use Rattle.abi.proofs.show_words.Statement.{statement}
-use Rattle.abi.proofs.show_words.Tie as tie
+use Rattle.answers.specs.Words.{showWords}
+use Rattle.answers.proofs.show_words.Statement.{statement}
+use Rattle.answers.proofs.show_words.Tie as tie
 
 pub show-words-spec : {M : Type 1} → statement M
 show-words-spec =

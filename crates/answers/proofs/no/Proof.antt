@@ -1,8 +1,8 @@
--- `abi::no` meets its contract: the three words.
+-- `answers::no` meets its contract: the three words.
 -- Assumes nothing.
 use mathlib.Core.Path.{refl}
-use Rattle.abi.proofs.no.Statement.{statement}
-use Rattle.abi.proofs.no.Tie as tie
+use Rattle.answers.proofs.no.Statement.{statement}
+use Rattle.answers.proofs.no.Tie as tie
 
 returns : tie.Need-returns
 returns c = refl

@@ -1,10 +1,10 @@
--- `abi::judge_words` meets its contract: the words of each case.
+-- `answers::judge_words` meets its contract: the words of each case.
 -- Assumes nothing.
 use mathlib.Core.Path.{sym, ap, _∙_}
 use borrow.Author.Needs.{needs}
-use Rattle.abi.specs.Words.{judgeWords}
-use Rattle.abi.proofs.judge_words.Statement.{statement}
-use Rattle.abi.proofs.judge_words.Tie as tie
+use Rattle.answers.specs.Words.{judgeWords}
+use Rattle.answers.proofs.judge_words.Statement.{statement}
+use Rattle.answers.proofs.judge_words.Tie as tie
 
 pub judge-words-spec : {M : Type 1} → statement M
 judge-words-spec =
