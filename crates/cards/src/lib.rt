@@ -103,6 +103,7 @@ fn right_fours(card: &[u32], kind: u32, at: usize, count: u32) -> u32
     ensures { λ r. ⌜ Pass (names (now (card .entry)) kind at) count r ⌝ }
 {
     let mut j: u32 = 0;
+    // by itself, so that the compiler asks it once for a card and not for each cell
     if count < 4 {
         return j;
     }
