@@ -8,7 +8,7 @@ use Rattle.games.specs.Format.{kindCard, kindFirst, kindCell, kindNext}
 use Rattle.games.specs.Fields.{lowField, word}
 use Rattle.games.specs.Places.{shapeOf, placeOf, shown, move}
 use Rattle.games.specs.Game.{Game}
-use Rattle.games.specs.Automaton.{Automaton}
+use Rattle.games.specs.Automaton.{Automaton, card}
 use Rattle.games.specs.declared.Place.{Place}
 use Rattle.games.specs.declared.Place.the-variants.{Start, Bad}
 
@@ -50,3 +50,7 @@ cellWords A o c = word kindCell (A .set c) 0 (A .action c) ∷ gather o (λ j. w
 
 unfoldable pub cardWords : Automaton → (actions observations : ℕ) → List ℕ
 cardWords A a o = cardHead (A .size) o a ∷ gather o (λ j. word kindFirst (A .begins j) j 0 ∷ []) ++ gather (A .size) (cellWords A o)
+
+-- the words of the card of a yes
+abbrev pub cardOf : Game → List ℕ
+cardOf g = cardWords (card g) (g .actions) (g .observations)

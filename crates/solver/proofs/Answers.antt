@@ -4,7 +4,7 @@ use mathlib.Core.Path.{_≡_, refl, sym, ap, ap₂, _∙_, subst}
 use mathlib.Core.Logic.{_⊎_, ⊎-elim}
 use mathlib.Core.Bool.{true}
 use mathlib.Core.List.{List, _++_}
-use Prim.Native.Nat.{ℕ, _+_, _≤_, _<_}
+use Prim.Native.Nat.{ℕ, _+_, _^_, _≤_, _<_}
 use lib.Dec.{ltb}
 use lib.ListN.{length, take, drop, replicate}
 use lib.Seq.{drop-at, length-take-le}
@@ -15,14 +15,18 @@ use Rattle.games.specs.Answers.{unless, Leaves, leaves}
 use Rattle.games.specs.Game.{Game}
 use Rattle.games.specs.Step.{settling}
 use Rattle.games.specs.Verdict.{Verdict, Yes, No, startsIn, settled, cells, verdict}
-use Rattle.games.specs.Words.{game, cardLength}
+use Rattle.games.specs.Words.{game, cardLength, cardOf}
 use Rattle.games.specs.declared.Checked.{Checked}
 use Rattle.games.specs.declared.Checked.the-variants.{Fine, Refused as Stopped}
 use Rattle.games.proofs.Decided.{verdict-yes}
 use Rattle.tables.specs.Check.{checked}
-use Rattle.solver.specs.Solve.{workWords, cardOf, byVerdict, Buffers, buffers, searched, solved, WorkEnough}
+use Rattle.solver.specs.Solve.{workWords, byVerdict, Buffers, buffers, searched, solved, WorkEnough}
 use Rattle.solver.specs.declared.Answer.{Answer}
 use Rattle.solver.specs.declared.Answer.the-variants.{Yes as SaysYes, No as SaysNo, Refused}
+
+-- the number of sets, as the code has it
+pub size-is : (g : Game) (n size : ℕ) → n ≡ g .states → size ≡ 2 ^ n → size ≡ 2 ^ g .states
+size-is g n size e h = h ∙ ap (λ (m : ℕ). 2 ^ m) e
 
 -- a verdict's yes: no room for the card, or the card is written
 module _ (g : Game) (d : List ℕ) (t m need : ℕ) (is : need ≡ cardLength m (g .observations)) where

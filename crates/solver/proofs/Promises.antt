@@ -16,7 +16,7 @@ use Rattle.games.specs.Game.{Game, Accepted, enabled}
 use Rattle.games.specs.Step.{after, settling}
 use Rattle.games.specs.Verdict.{Yes, startSet, startsIn, settled, cells, verdict}
 use Rattle.games.specs.Automaton.{Automaton, chosen, card}
-use Rattle.games.specs.Words.{game, cardLength}
+use Rattle.games.specs.Words.{game, cardLength, cardOf}
 use Rattle.games.specs.Demands.{Third}
 use Rattle.games.specs.declared.Checked.{Checked}
 use Rattle.games.specs.declared.Checked.the-variants.{Fine, Refused as Stopped}
@@ -33,10 +33,10 @@ use Rattle.cards.specs.Card.{automaton, Fitting}
 use Rattle.cards.proofs.Written.{Agree, card-long, written-checked, written-agrees, written-observations}
 use Rattle.cards.specs.Kept.{Kept}
 use Rattle.cards.proofs.Runs.{covering-kept}
-use Rattle.solver.specs.Solve.{cardOf, buffers, solved, WorkEnough, written, Promise}
+use Rattle.solver.specs.Solve.{buffers, solved, WorkEnough, written, Promise}
 use Rattle.solver.specs.declared.Answer.{Answer}
 use Rattle.solver.specs.declared.Answer.the-variants.{Yes as SaysYes, No as SaysNo, Refused}
-use Rattle.solver.proofs.Index.{cells-few}
+use Rattle.writing.proofs.Index.{cells-few}
 use Rattle.solver.proofs.Answers.{Ending, stopped, no-work, lost, no-card, granted, ends}
 
 -- covering is seen only at cells and observations that are there

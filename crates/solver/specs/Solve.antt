@@ -12,8 +12,7 @@ use Rattle.games.specs.Answers.{unless, Leaves, leaves}
 use Rattle.games.specs.Game.{Game}
 use Rattle.games.specs.Play.{Strategy, Clear}
 use Rattle.games.specs.Verdict.{Verdict, Yes, No, verdict, cells}
-use Rattle.games.specs.Automaton.{card}
-use Rattle.games.specs.Words.{game, cardLength, cardWords}
+use Rattle.games.specs.Words.{game, cardLength, cardOf}
 use Rattle.games.specs.Demands.{Third}
 use Rattle.games.specs.declared.Checked.the-variants.{Fine}
 use Rattle.tables.specs.Check.{checked}
@@ -24,10 +23,6 @@ use Rattle.solver.specs.declared.Answer.the-variants.{Yes as SaysYes, No
 -- the words of the work that document 01 asks for
 abbrev pub workWords : ℕ → ℕ
 workWords n = 4 * 2 ^ n
-
--- the words of the card of a yes
-abbrev pub cardOf : Game → List ℕ
-cardOf g = cardWords (card g) (g .actions) (g .observations)
 
 -- after the search: a yes writes the card at the front of the card room if that has room (9), a no writes nothing
 unfoldable pub byVerdict : Game → List ℕ → Verdict → Leaves Answer (List ℕ)

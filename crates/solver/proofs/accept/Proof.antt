@@ -13,7 +13,7 @@ use Rattle.games.specs.Verdict.{cells}
 use Rattle.tables.proofs.Checks.{sized, accepted}
 use Rattle.tables.proofs.Bounds.{few-states}
 use Rattle.solver.proofs.Answers.{granted-cells}
-use Rattle.solver.proofs.Index.{settled-index}
+use Rattle.writing.proofs.Index.{settled-index}
 use Rattle.solver.proofs.Collecting.{settled-closed, put-front, put-within}
 use Rattle.solver.proofs.accept.Statement.{statement}
 use Rattle.solver.proofs.accept.Tie as tie

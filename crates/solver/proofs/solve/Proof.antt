@@ -13,8 +13,7 @@ use Rattle.tables.specs.Check.{checked}
 use Rattle.tables.proofs.Bounds.{few-states, few-sets}
 use Rattle.tables.proofs.Checks.{sized}
 use Rattle.solver.specs.Solve.{workWords}
-use Rattle.solver.proofs.Words.{size-is}
-use Rattle.solver.proofs.Answers.{solved-stopped, solved-short, solved-done, cleared}
+use Rattle.solver.proofs.Answers.{size-is, solved-stopped, solved-short, solved-done, cleared}
 use Rattle.solver.proofs.Promises.{promised}
 use Rattle.solver.proofs.solve.Statement.{statement}
 use Rattle.solver.proofs.solve.Tie as tie

@@ -2,7 +2,7 @@
 -- Assumes nothing.
 use mathlib.Core.Path.{_≡_, refl, sym, ap, ap₂, _∙_}
 use mathlib.Core.List.{List, [], _∷_}
-use Prim.Native.Nat.{ℕ, _+_, _^_, _≤_, _<_}
+use Prim.Native.Nat.{ℕ, _+_, _≤_, _<_}
 use native.Mathlib.Nat.{le-antisymm}
 use native.Mathlib.Omega.{arith}
 use lib.ListN.{length, take, drop, set, length-set, length-drop}
@@ -15,10 +15,7 @@ use Rattle.games.specs.Verdict.{startSets, startSet, cells}
 use Rattle.games.specs.Automaton.{holding}
 use Rattle.games.specs.Fields.{word}
 use Rattle.games.specs.Words.{frontLength, cardHead}
-use Rattle.solver.specs.Writing.{frontWords}
-
-pub size-is : (g : Game) (n size : ℕ) → n ≡ g .states → size ≡ 2 ^ n → size ≡ 2 ^ g .states
-size-is g n size e h = h ∙ ap (λ (m : ℕ). 2 ^ m) e
+use Rattle.writing.specs.Writing.{frontWords}
 
 -- a part of one word and o more, of which j are those of f
 pub record Filled (o : ℕ) (f : ℕ → ℕ) (j : ℕ) (out : List ℕ) : Type 0 where

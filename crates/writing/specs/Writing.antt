@@ -17,8 +17,8 @@ use Rattle.games.specs.Fields.{word}
 use Rattle.games.specs.Words.{game, cardHead}
 use Rattle.tables.specs.Check.{checked}
 use Rattle.games.specs.declared.Checked.the-variants.{Fine}
-use Rattle.solver.specs.declared.Held.{Held}
-use Rattle.solver.specs.declared.Held.the-variants.{By, Nowhere}
+use Rattle.writing.specs.declared.Held.{Held}
+use Rattle.writing.specs.declared.Held.the-variants.{By, Nowhere}
 
 -- what the search for a holding cell answers: the cell that is named for s, where some set of the list holds s
 unfoldable pub heldBy : List ℕ → ℕ → Held

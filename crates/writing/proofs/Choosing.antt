@@ -25,7 +25,7 @@ use Rattle.moves.specs.declared.Posted.the-variants.{Blocked, Post}
 use Rattle.moves.specs.Halves.{posted}
 use Rattle.moves.proofs.Posting.{posted-post}
 use Rattle.search.specs.Stages.{shownIn}
-use Rattle.solver.specs.Writing.{SettledSet, setWords}
+use Rattle.writing.specs.Writing.{SettledSet, setWords}
 use Rattle.search.proofs.Turns.{meets-blocked, meets-shown}
 
 -- no action below a meets the step

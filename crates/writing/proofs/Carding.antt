@@ -14,12 +14,11 @@ use Rattle.sets.proofs.Fills.{length-values}
 use Rattle.games.specs.Game.{Game, Accepted}
 use Rattle.games.specs.Verdict.{startSets, cells}
 use Rattle.games.specs.Automaton.{card}
-use Rattle.games.specs.Words.{frontLength, partLength, cardLength, cellWords, cardWords}
+use Rattle.games.specs.Words.{frontLength, partLength, cardLength, cellWords, cardWords, cardOf}
 use Rattle.games.proofs.Winning.{cell-settled}
 use Rattle.cards.specs.Card.{cellPlace}
-use Rattle.solver.specs.Writing.{SettledSet, frontWords, setWords}
-use Rattle.solver.specs.Solve.{cardOf}
-use Rattle.solver.proofs.Words.{sets-front}
+use Rattle.writing.specs.Writing.{SettledSet, frontWords, setWords}
+use Rattle.writing.proofs.Words.{sets-front}
 
 -- a word, and n words behind it
 words-length : (n : ℕ) (f : ℕ → ℕ) → suc (length (gather n (λ j. f j ∷ []))) ≡ 1 + n

@@ -1,13 +1,13 @@
--- `solver::mark_starts` meets its contract. The loop's invariant: the lanes below `lane` are marked, and all cells before `at` are below the lane.
+-- `writing::mark_starts` meets its contract. The loop's invariant: the lanes below `lane` are marked, and all cells before `at` are below the lane.
 -- Assumes nothing.
 use borrow.Author.Needs.{needs}
 use mathlib.Core.Path.{sym, _∙_}
 use Prim.Native.Nat.{_-_, _≤_}
 use native.Mathlib.Omega.{arith}
 use Rattle.families.specs.Bits.{maxLanes}
-use Rattle.solver.proofs.Index.{Marking, marking-none, marking-more, marking-end, below-from}
-use Rattle.solver.proofs.mark_starts.Statement.{statement}
-use Rattle.solver.proofs.mark_starts.Tie as tie
+use Rattle.writing.proofs.Index.{Marking, marking-none, marking-more, marking-end, below-from}
+use Rattle.writing.proofs.mark_starts.Statement.{statement}
+use Rattle.writing.proofs.mark_starts.Tie as tie
 
 abbrev Inv-loop : tie.InvT-loop
 Inv-loop cells starts₀ at₀ lane₀ starts at lane = (lane ≤ maxLanes) × Marking cells lane at starts

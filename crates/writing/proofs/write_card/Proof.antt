@@ -1,4 +1,4 @@
--- `solver::write_card` meets its contract. The loop's invariant: the parts of the cells below c stand behind the front.
+-- `writing::write_card` meets its contract. The loop's invariant: the parts of the cells below c stand behind the front.
 -- Assumes nothing.
 use borrow.Author.Needs.{needs}
 use mathlib.Core.List.{List}
@@ -14,9 +14,9 @@ use Rattle.games.proofs.Limits.{parts-below}
 use Rattle.cards.specs.Card.{cellPlace}
 use Rattle.tables.proofs.Bounds.{few-observations}
 use Rattle.tables.proofs.Checks.{sized, accepted}
-use Rattle.solver.proofs.Carding.{Carded, carded-none, carded-room, carded-part, carded-more, carded-end, front-within, fronted-same, fronted-room, carded-whole, cell-of}
-use Rattle.solver.proofs.write_card.Statement.{statement}
-use Rattle.solver.proofs.write_card.Tie as tie
+use Rattle.writing.proofs.Carding.{Carded, carded-none, carded-room, carded-part, carded-more, carded-end, front-within, fronted-same, fronted-room, carded-whole, cell-of}
+use Rattle.writing.proofs.write_card.Statement.{statement}
+use Rattle.writing.proofs.write_card.Tie as tie
 
 abbrev Inv-loop : tie.InvT-loop
 Inv-loop table low high family starts cells card₀ o front part c₀ card c = (o ≤ maxObservations) × (length cells ≤ maxCells) × Carded (game table) cells card₀ c card

@@ -1,4 +1,4 @@
--- `solver::write_cell` meets its contract. The loops' invariants: no action below a meets the step; for the observations below j, the
+-- `writing::write_cell` meets its contract. The loops' invariants: no action below a meets the step; for the observations below j, the
 -- successors are settled and the words are written.
 -- Assumes nothing.
 use borrow.Author.Needs.{needs}
@@ -25,11 +25,11 @@ use Rattle.games.proofs.Holding.{holding-small}
 use Rattle.tables.proofs.Checks.{sized, accepted}
 use Rattle.tables.proofs.Bounds.{few-observations, few-actions, few-sets}
 use Rattle.search.proofs.Turns.{shown-below}
-use Rattle.solver.proofs.Words.{Filled, filled-none, filled-more, filled-end}
-use Rattle.solver.proofs.Index.{nowhere-unheld, by-holding}
-use Rattle.solver.proofs.Choosing.{NoneMeets, none-next, none-with, chosen-is, never-none, blocked-fails, uncovered-fails, covered-meets, after-is, settled-held, nextWord, next-word, set-words}
-use Rattle.solver.proofs.write_cell.Statement.{statement}
-use Rattle.solver.proofs.write_cell.Tie as tie
+use Rattle.writing.proofs.Words.{Filled, filled-none, filled-more, filled-end}
+use Rattle.writing.proofs.Index.{nowhere-unheld, by-holding}
+use Rattle.writing.proofs.Choosing.{NoneMeets, none-next, none-with, chosen-is, never-none, blocked-fails, uncovered-fails, covered-meets, after-is, settled-held, nextWord, next-word, set-words}
+use Rattle.writing.proofs.write_cell.Statement.{statement}
+use Rattle.writing.proofs.write_cell.Tie as tie
 
 -- the loop over observations that is left at once
 abbrev Inv-loop2 : tie.InvT-loop2

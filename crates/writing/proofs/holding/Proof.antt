@@ -1,4 +1,4 @@
--- `solver::holding` meets its contract. The loop's invariant: no cell before place i holds t.
+-- `writing::holding` meets its contract. The loop's invariant: no cell before place i holds t.
 -- Assumes nothing.
 use borrow.Author.Needs.{needs}
 use borrow.Author.Tests.{eq-eqb, ne-eqb, not-true, not-false}
@@ -9,9 +9,9 @@ use native.Mathlib.Omega.{arith}
 use lib.ListN.{length}
 use Rattle.families.specs.Bits.{laneSets}
 use Rattle.games.proofs.Holding.{Unheld, unheld-more, unheld-stop, unheld-end, holding-empty}
-use Rattle.solver.proofs.Index.{held-nowhere, held-cell, starts-unheld}
-use Rattle.solver.proofs.holding.Statement.{statement}
-use Rattle.solver.proofs.holding.Tie as tie
+use Rattle.writing.proofs.Index.{held-nowhere, held-cell, starts-unheld}
+use Rattle.writing.proofs.holding.Statement.{statement}
+use Rattle.writing.proofs.holding.Tie as tie
 
 abbrev Inv-loop : tie.InvT-loop
 Inv-loop family starts cells t i₀ i = Unheld cells t i

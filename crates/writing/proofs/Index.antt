@@ -29,9 +29,9 @@ use Rattle.games.specs.Verdict.{settled, cells}
 use Rattle.games.specs.Automaton.{holding}
 use Rattle.games.proofs.Holding.{holdsAt, Unheld, unheld-from, holding-unheld}
 use Rattle.games.proofs.Settling.{cells-hold}
-use Rattle.solver.specs.declared.Held.{Held}
-use Rattle.solver.specs.declared.Held.the-variants.{By, Nowhere}
-use Rattle.solver.specs.Writing.{heldBy, named, AllBelow, Starts, Index}
+use Rattle.writing.specs.declared.Held.{Held}
+use Rattle.writing.specs.declared.Held.the-variants.{By, Nowhere}
+use Rattle.writing.specs.Writing.{heldBy, named, AllBelow, Starts, Index}
 
 -- ---- the answer
 

@@ -1,4 +1,4 @@
--- `solver::write_front` meets its contract. The loop's invariant: the first words of the start sets below j are written.
+-- `writing::write_front` meets its contract. The loop's invariant: the first words of the start sets below j are written.
 -- Assumes nothing.
 use borrow.Author.Needs.{needs}
 use mathlib.Core.List.{List}
@@ -17,11 +17,11 @@ use Rattle.games.proofs.Holding.{holding-small}
 use Rattle.games.proofs.Starts.{start-below}
 use Rattle.tables.proofs.Bounds.{few-observations, few-actions}
 use Rattle.tables.proofs.Checks.{sized, accepted}
-use Rattle.solver.specs.Writing.{named}
-use Rattle.solver.proofs.Index.{named-holding}
-use Rattle.solver.proofs.Words.{Filled, filled-none, filled-more, filled-end, sets-front, firstWord, front-is}
-use Rattle.solver.proofs.write_front.Statement.{statement}
-use Rattle.solver.proofs.write_front.Tie as tie
+use Rattle.writing.specs.Writing.{named}
+use Rattle.writing.proofs.Index.{named-holding}
+use Rattle.writing.proofs.Words.{Filled, filled-none, filled-more, filled-end, sets-front, firstWord, front-is}
+use Rattle.writing.proofs.write_front.Statement.{statement}
+use Rattle.writing.proofs.write_front.Tie as tie
 
 abbrev Inv-loop : tie.InvT-loop
 Inv-loop table family starts cells out₀ sets j₀ out j = (sets ≤ maxObservations) × (j ≤ sets) × Filled sets (firstWord (game table) cells) j out

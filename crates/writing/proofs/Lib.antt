@@ -1,0 +1,4 @@
+pub mod Words
+pub mod Index
+pub mod Choosing
+pub mod Carding
