@@ -127,9 +127,13 @@ module _ (g : Game) where
   good-fewer j k s l = le-ind (λ (m : ℕ). good g m s ≡ true → good g j s ≡ true) (λ p. p) (λ m h f p. f (good-falls m s p)) k l
 
   module _ (A : Accepted g) where
+    -- states that show an observation are below n, among them the successors that do
+    pub shown-below : (u o : ℕ) → o < g .observations → common u (g .shown o) < 2 ^ g .states
+    shown-below u o l = common-lt (g .states) u (g .shown o) (A .shown-below o l)
+
     pub after-below : (s a o : ℕ) → o < g .observations → after g s a o < 2 ^ g .states
     unfolding after
-    after-below s a o l = common-lt (g .states) (post g s a) (g .shown o) (A .shown-below o l)
+    after-below s a o l = shown-below (post g s a) o l
 
     -- the step sees a family only at sets of states below n
     pub step-ext : (F G : Family) → ((s : ℕ) → s < 2 ^ g .states → F s ≡ G s) → (s : ℕ) → step g F s ≡ step g G s

@@ -1,16 +1,19 @@
--- What an answer of `post` says of the set and the action.
+-- What an answer of `post` says of the set and the action, and whether the action meets the step.
 -- Assumes nothing.
-use mathlib.Core.Path.{_≡_}
+use mathlib.Core.Path.{_≡_, sym, ap, _∙_}
 use mathlib.Core.Logic.{_⊎_, ⊎-elim}
-use mathlib.Core.Bool.{true, false}
+use mathlib.Core.Bool.{Bool, true, false, _&&_}
 use Prim.Native.Nat.{ℕ}
 use native.Mathlib.Omega.{arith}
-use Rattle.sets.proofs.Logic.{decided, refuted}
+use Rattle.sets.specs.Mask.{common}
+use Rattle.sets.specs.Bounded.{all}
+use Rattle.sets.specs.Family.{Family}
+use Rattle.sets.proofs.Logic.{decided, refuted, and-false-left}
 use Rattle.games.specs.Game.{Game}
-use Rattle.games.specs.Step.{enabledAt, post}
+use Rattle.games.specs.Step.{enabledAt, post, after, meets}
 use Rattle.moves.specs.declared.Posted.{Posted}
 use Rattle.moves.specs.declared.Posted.the-variants.{Blocked, Post}
-use Rattle.moves.specs.Halves.{posted}
+use Rattle.moves.specs.Halves.{posted, shownIn}
 
 module _ (g : Game) (s a : ℕ) (r : Posted) (is : r ≡ posted g s a) where
   pub posted-blocked : r ≡ Blocked → enabledAt g s a ≡ false
@@ -26,3 +29,17 @@ module _ (g : Game) (s a : ℕ) (r : Posted) (is : r ≡ posted g s a) where
       (λ h. (h, let w : posted g s a ≡ Post (post g s a) = rw h in (cc)))
       (λ h. let w : posted g s a ≡ Blocked = rw h in let z : _≡_ {A = ℕ} 0 1 = cc in absurd (omega arith))
       (decided (enabledAt g s a))
+
+module _ (g : Game) (F : Family) (s a : ℕ) (r : Posted) (is : r ≡ posted g s a) where
+  -- the action meets the step where the sets after it are good
+  pub meets-shown : (u : ℕ) → r ≡ Post u → shownIn g F u ≡ meets g F s a
+  unfolding meets after shownIn
+  meets-shown u e =
+      let w = posted-post g s a r is u e in
+      sym
+      (ap (λ (b : Bool). b && all (g .observations) (λ o. F (common (post g s a) (g .shown o)))) (w .0)
+      ∙ ap (λ (v : ℕ). all (g .observations) (λ o. F (common v (g .shown o)))) (w .1))
+
+  pub meets-blocked : r ≡ Blocked → false ≡ meets g F s a
+  unfolding meets
+  meets-blocked e = sym (and-false-left (all (g .observations) (λ o. F (after g s a o))) (posted-blocked g s a r is e))

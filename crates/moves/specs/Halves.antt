@@ -1,11 +1,13 @@
 -- The successors of every set in two reads: for each action a table for the lower half of the states and one for the upper half.
 -- Assumes nothing.
 use mathlib.Core.Path.{_≡_}
-use mathlib.Core.Bool.{cond}
+use mathlib.Core.Bool.{Bool, cond}
 use mathlib.Core.List.{List}
 use Prim.Native.Nat.{ℕ, _+_, _*_, _/_, _%_, _^_, _≤_, _<_}
 use lib.ListN.{length, getD}
-use Rattle.sets.specs.Mask.{union, unionOver}
+use Rattle.sets.specs.Mask.{common, union, unionOver}
+use Rattle.sets.specs.Bounded.{all}
+use Rattle.sets.specs.Family.{Family}
 use Rattle.games.specs.Format.{maxStates, maxActions, lowValues}
 use Rattle.games.specs.Game.{Game, enabled}
 use Rattle.games.specs.Step.{enabledAt, post}
@@ -18,6 +20,10 @@ use Rattle.moves.specs.declared.Posted.the-variants.{Blocked, Post}
 -- what a set comes to under an action: the successors of the whole set, where the action is enabled at all its members
 unfoldable pub posted : Game → ℕ → ℕ → Posted
 posted g s a = cond (enabledAt g s a) (Post (post g s a)) Blocked
+
+-- for every observation, the states of u that show it form a set of the family
+unfoldable pub shownIn : Game → Family → ℕ → Bool
+shownIn g F u = all (g .observations) (λ j. F (common u (g .shown j)))
 
 -- the states of a half, and their sets
 abbrev pub halfStates : ℕ

@@ -5,16 +5,11 @@ use mathlib.Core.Bool.{Bool, true, false, not, _&&_}
 use mathlib.Core.List.{List}
 use Prim.Native.Nat.{ℕ, _+_, _*_, _^_, _<_}
 use lib.ListN.{length}
-use Rattle.sets.specs.Mask.{member, common}
-use Rattle.sets.specs.Bounded.{all}
+use Rattle.sets.specs.Mask.{member}
 use Rattle.sets.specs.Family.{Family, DownClosed}
 use Rattle.families.specs.Bits.{laneSets, lanes, has}
 use Rattle.games.specs.Game.{Game, enabled}
 use Rattle.games.specs.Step.{step}
-
--- for every observation, the states of u that show it form a set of the family
-unfoldable pub shownIn : Game → Family → ℕ → Bool
-shownIn g F u = all (g .observations) (λ j. F (common u (g .shown j)))
 
 -- the bits of a family of sets of n states that has the subsets of its sets, and that the step only takes sets from
 pub record Stage (g : Game) (bits : List ℕ) : Type 0 where

@@ -22,11 +22,9 @@ use Rattle.games.proofs.Steps.{step-action}
 use Rattle.games.proofs.Settling.{cells-hold, settled-step}
 use Rattle.moves.specs.declared.Posted.{Posted}
 use Rattle.moves.specs.declared.Posted.the-variants.{Blocked, Post}
-use Rattle.moves.specs.Halves.{posted}
-use Rattle.moves.proofs.Posting.{posted-post}
-use Rattle.search.specs.Stages.{shownIn}
+use Rattle.moves.specs.Halves.{posted, shownIn}
+use Rattle.moves.proofs.Posting.{posted-post, meets-blocked, meets-shown}
 use Rattle.writing.specs.Writing.{SettledSet, setWords}
-use Rattle.search.proofs.Turns.{meets-blocked, meets-shown}
 
 -- no action below a meets the step
 pub record NoneMeets (g : Game) (s o last a : ℕ) (out : List ℕ) : Type 0 where

@@ -3,7 +3,7 @@
 use mathlib.Core.Path.{_∙_}
 use Rattle.families.specs.Bits.{has}
 use Rattle.games.specs.Words.{game}
-use Rattle.search.proofs.Turns.{meets-blocked, meets-shown}
+use Rattle.moves.proofs.Posting.{meets-blocked, meets-shown}
 use borrow.Author.Needs.{needs}
 use Rattle.search.proofs.action_meets.Statement.{statement}
 use Rattle.search.proofs.action_meets.Tie as tie

@@ -14,7 +14,8 @@ use Rattle.families.specs.Bits.{has}
 use Rattle.families.proofs.Lanes.{lane-there}
 use Rattle.games.specs.Words.{game}
 use Rattle.tables.proofs.Checks.{sized, accepted}
-use Rattle.search.proofs.Turns.{shown-fails, shown-holds, shown-whole, shown-below}
+use Rattle.games.proofs.Steps.{shown-below}
+use Rattle.search.proofs.Turns.{shown-fails, shown-holds, shown-whole}
 use Rattle.search.proofs.shown_in.Statement.{statement}
 use Rattle.search.proofs.shown_in.Tie as tie
 
