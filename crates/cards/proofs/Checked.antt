@@ -75,6 +75,7 @@ four-told w k at j m e =
     let three : at + j + 3 ≡ at + (j + 3) = omega arith in
     rw (e, one, two, three)
 
+-- a cell's own word by how far it is above the frame of its kind: its set and its action, more than any where it has another frame
 pub cell-told : (a x d y : ℕ) → a < actionValues → d < 2 ^ 32 → y ≡ word kindCell 0 0 0 → (d + y) % 2 ^ 32 ≡ x
     → (ltb (d % actionAt) maxSets && ltb d (a * actionAt)) ≡ cellFits a x
 unfolding cellFits

@@ -18,7 +18,7 @@ ghost use Rattle.certificates.specs.Certificate.{lies, firstHolds, setFi
 ghost use Rattle.certificates.specs.Judging.{Halves, Prepared, HoldsBelow, partHolds};
 
 // From so many cells on the half tables of the moves are filled first: two reads for a cell's set, and no walk over its members.
-const MANY_CELLS: u32 = 64;
+const MANY_CELLS: u32 = 48;
 
 // The states of s lie in the set of the cell named; there are none where the card says "cannot occur".
 fn lie(card: &[u32], s: u32, cell: Cell) -> bool
