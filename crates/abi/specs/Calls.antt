@@ -1,6 +1,7 @@
 -- What an exported function answers and leaves where no entry's own definition says it: its three answer words and every lent word.
 -- Assumes nothing.
 use mathlib.Core.Path.{_≡_}
+use mathlib.Core.Bool.{Bool}
 use mathlib.Core.List.{List, _++_}
 use Prim.Native.Nat.{ℕ, _≤_}
 use lib.ListN.{length, take, drop}
@@ -32,9 +33,9 @@ unfoldable pub cardTold : (card : List ℕ) → List ℕ
 cardTold k = unless (cardChecked k) refused (done (cardCells k) (cardObservations k))
 
 -- the fields that write is given
-abbrev pub given : (n a o start bad : ℕ) (shown moves : List ℕ) → Fields
-given n a o start bad shown moves =
-    record { states = n; actions = a; observations = o; start = start; bad = bad; shown = shown; moves = moves }
+abbrev pub given : (n a o start bad : ℕ) (marked : Bool) (parked : ℕ) (shown moves : List ℕ) → Fields
+given n a o start bad marked parked shown moves =
+    record { states = n; actions = a; observations = o; start = start; bad = bad; marked = marked; parked = parked; shown = shown; moves = moves }
 
 -- where the words tell that k words were written, reading the first k words of the buffer gives these fields
 abbrev pub ReadsAs : Fields → (answer out : List ℕ) → Type 0

@@ -122,14 +122,16 @@ pub extern "C" fn kirdanzug_write(
     o: u32,
     start: u32,
     bad: u32,
+    parked_marked: bool,
+    parked: u32,
     shown: &[u32; tables::SHOWN_SLOTS],
     moves: &[u32; tables::MOVE_SLOTS],
     out: &mut [u32],
     answer: &mut [u64; 3],
 )
     ensures { λ _. ⌜ leaves (now (answer .exit)) (now (out .exit))
-        ≡ told writtenWords (writeOf (given n a o start bad (now (shown .entry)) (now (moves .entry))) (now (out .entry))) ⌝ }
-    ensures read_back { λ _. ⌜ ReadsAs (given n a o start bad (now (shown .entry)) (now (moves .entry)))
+        ≡ told writtenWords (writeOf (given n a o start bad «parked_marked» parked (now (shown .entry)) (now (moves .entry))) (now (out .entry))) ⌝ }
+    ensures read_back { λ _. ⌜ ReadsAs (given n a o start bad «parked_marked» parked (now (shown .entry)) (now (moves .entry)))
         (now (answer .exit)) (now (out .exit)) ⌝ }
 {
     let f = Fields {
@@ -138,6 +140,8 @@ pub extern "C" fn kirdanzug_write(
         observations: o,
         start,
         bad,
+        marked: parked_marked,
+        parked,
         shown: *shown,
         moves: *moves,
     };

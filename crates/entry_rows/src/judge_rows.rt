@@ -6,7 +6,7 @@ use rows::stations;
 use rows::stations::A;
 use rows::stations::changed_a;
 
-fn judge(name: &[u8], table: &[u32], mask: u32, k: u32) {
+pub fn judge(name: &[u8], table: &[u32], mask: u32, k: u32) {
     say(b"judge ");
     say(name);
     say(b" mask ");

@@ -23,11 +23,11 @@ use Rattle.games.specs.declared.Checked.the-variants.{Fine, Refused}
 use Rattle.games.specs.declared.Written.the-variants.{Words}
 use Rattle.games.specs.declared.Written.the-variants as written
 use Rattle.games.proofs.Answers.{never, cond-passed, found-none, then-fine}
-use Rattle.games.proofs.Limits.{moves-below, slot-below}
 use Rattle.tables.specs.Layout.{headWord, bareWord}
 use Rattle.tables.specs.Check.{limitsHold, tooWide, setsChecked, checked}
 use Rattle.tables.specs.Fields.{fieldsShape, fieldsOf, gameOf}
 use Rattle.tables.specs.declared.Fields.{Fields}
+use Rattle.tables.proofs.Bounds.{slot-inside}
 use Rattle.tables.proofs.Checks.{limits-hold}
 use Rattle.fields.specs.Read.{noFields, readOf}
 use Rattle.fields.specs.Write.{maskOf, wordsLength, slotClean, unusedZero, slotsClean, wideAt, slotsChecked, masksChecked, fieldsChecked, wordAt, writtenTo, writeOf}
@@ -50,7 +50,7 @@ module _ (f : Fields) (l : Limited (fieldsShape f)) (x : Place) (h : Within (fie
   pub move-slot : (a : Action) (i : State) → x ≡ Move a i → a .0 * f .states + i .0 < maxMoves
   move-slot a i e =
       let k : Within (fieldsShape f) (Move a i) = rw e at h in
-      omega (arith, slot-below (a .0) (f .actions) (f .states) (i .0) (k .0) (k .1), moves-below (f .actions) (f .states) (l .most-actions) (l .most-states))
+      slot-inside f (a .0) (i .0) l (k .0) (k .1)
 
 -- ---- 11
 

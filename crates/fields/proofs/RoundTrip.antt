@@ -3,7 +3,7 @@
 -- Assumes nothing.
 use mathlib.Core.Path.{_≡_, refl, sym, ap, ap₂, _∙_, subst}
 use mathlib.Core.Logic.{⊎-elim}
-use mathlib.Core.Bool.{Bool, true, false}
+use mathlib.Core.Bool.{Bool, true, false, cond, _&&_}
 use mathlib.Core.List.{List, [], _∷_, _++_}
 use Prim.Native.Nat.{ℕ, zero, suc, _+_, _*_, _/_, _%_, _^_, _≤_, _<_}
 use native.Mathlib.Nat.{div-add-mod'}
@@ -14,17 +14,17 @@ use lib.Pow.{pow-mono}
 use lib.ListN.{length, getD, take, drop, replicate, length-replicate}
 use lib.Seq.{ext-getD, take-at}
 use Rattle.sets.specs.Bounded.{gather, filledBy}
-use Rattle.sets.proofs.Logic.{lt-or-le, and-intro, and-left, and-right, or-left, or-right, or-cases}
+use Rattle.sets.proofs.Logic.{decided, lt-or-le, and-intro, and-left, and-right, or-left, or-right, or-cases}
 use Rattle.sets.proofs.Bounded.{all-intro, all-at, first-none}
 use Rattle.sets.proofs.Fills.{length-values, getD-values, getD-filled, getD-rest, length-filled}
 use Rattle.games.specs.Answers.{Leaves, leaves}
 use Rattle.games.specs.Format.{maxStates, maxObservations, maxMoves, headSpareAt}
 use Rattle.games.specs.Fields.{lowField}
 use Rattle.games.specs.Places.{shapeOf, shown, move, placeOf, placeAt, tableLength, Within, Limited}
-use Rattle.games.specs.Words.{maskAt, game}
+use Rattle.games.specs.Words.{maskAt, parkedIn, game}
 use Rattle.games.specs.declared.Shape.{Shape}
 use Rattle.games.specs.declared.Place.{Place}
-use Rattle.games.specs.declared.Place.the-variants.{Start, Bad}
+use Rattle.games.specs.declared.Place.the-variants.{Start, Bad, Parked}
 use Rattle.games.specs.declared.Checked.{Checked}
 use Rattle.games.specs.declared.Checked.the-variants.{Fine, Refused}
 use Rattle.games.specs.declared.Written.{Written}
@@ -39,7 +39,7 @@ use Rattle.tables.proofs.Layouts.{head-back, shape-back, head-above, mask-back}
 use Rattle.tables.proofs.Checks.{size-fine, sets-decide, words-fine, faulty-is, sized, fine-words, fine-head, fine-sets, head-top, head-limits, word-placed, word-below}
 use Rattle.tables.proofs.Same.{field-is, sets-ext, sets-same}
 use Rattle.fields.specs.Read.{readOf}
-use Rattle.fields.specs.Write.{maskOf, wordAt, wordsLength, slotClean, unusedZero, wideAt, fieldsChecked, writtenTo, writeOf}
+use Rattle.fields.specs.Write.{maskOf, wordAt, wordsLength, slotClean, unusedZero, parkedClean, slotsClean, wideAt, fieldsChecked, writtenTo, writeOf}
 use Rattle.fields.specs.RoundTrip.{WritesBack, ReadsBack}
 use Rattle.fields.specs.declared.ReadFields.{ReadFields}
 use Rattle.fields.proofs.Laws.{slots-passed, slots-limited, fields-passed, mask-low, read-fine, masks-fine, narrow-at, slots-fine, sets-end, write-fine, write-refused, word-head, word-place, written-short, written-full}
@@ -68,6 +68,14 @@ unused-filled used size v =
     ⊎-elim (λ m. or-left (eqb (getD l j 0) 0) (lt-ltb j used m))
     (λ m. or-right (ltb j used) (eq-eqb (getD l j 0) 0 (getD-rest v used (replicate size 0) j m ∙ zeros size j)))
     (lt-or-le j used))
+
+-- and the parked set of a table that doesn't mark parked states
+parked-clean : (w : List ℕ) → parkedClean (fieldsOf w) ≡ true
+unfolding fieldsOf
+parked-clean w =
+    ⊎-elim (λ (e : shapeIn w .marked ≡ true). or-left (eqb (parkedIn w) 0) e)
+    (λ (e : shapeIn w .marked ≡ false). or-right (shapeIn w .marked) (eq-eqb (parkedIn w) 0 (rw e)))
+    (decided (shapeIn w .marked))
 
 -- slots that hold the values, and 0 where they are unused, are those that the values fill
 slots-back : (used size : ℕ) (v : ℕ → ℕ) (l : List ℕ) → length l ≡ size → used ≤ size → unusedZero used l ≡ true → ((j : ℕ) → j < used → v j ≡ getD l j 0) → l ≡ filledBy used v (replicate size 0)
@@ -135,7 +143,8 @@ module _ (w : List ℕ) (fine : checked w ≡ Fine) where
       let limits = head-limits (getD w 0 0) (fine-head w fine) in
       let slots =
       slots-fine f limits
-      (and-intro (unused-filled (s .observations) maxObservations (λ j. maskAt w (shown j))) (unused-filled (s .actions * s .states) maxMoves (λ j. maskAt w (move (j / s .states) (j % s .states))))) in
+      (and-intro (parked-clean w)
+      (and-intro (unused-filled (s .observations) maxObservations (λ j. maskAt w (shown j))) (unused-filled (s .actions * s .states) maxMoves (λ j. maskAt w (move (j / s .states) (j % s .states)))))) in
       let masks = masks-fine f (first-none (wordsLength f) (wideAt f) narrow) in
       sets-end f slots masks ∙ sets-same w ∙ fine-sets w fine
 
@@ -219,11 +228,35 @@ module _ (f : Fields) (fine : fieldsChecked f ≡ Fine) where
       (faulty-is w (suc p) true false (omega arith) (sym (eq-eqb word (bareWord (placeAt (shapeIn w) (suc p)) + lowField word) here))
       (sym (lt-leb (2 ^ shapeIn w .states) (lowField word) narrow)))
 
+  -- and so does the parked set, marked or not
+  slots-clean : slotsClean f ≡ true
+  slots-clean = slots-passed f (fields-passed f fine .0) .1
+
+  unmarked-parked : f .marked ≡ false → f .parked ≡ 0
+  unmarked-parked e =
+      let clean = and-left (parkedClean f) (unusedZero (f .observations) (f .shown) && unusedZero (f .actions * f .states) (f .moves)) slots-clean in
+      eqb-true (f .parked) 0 (rw e at clean)
+
+  parked-back : parkedIn (wordsOf f) ≡ f .parked
+  parked-back =
+      ap (λ (s : Shape). cond (s .marked) (maskAt (wordsOf f) Parked) 0) shape-same
+      ∙ ⊎-elim (λ (e : f .marked ≡ true). ap (λ (b : Bool). cond b (maskAt (wordsOf f) Parked) 0) e ∙ mask-same Parked e)
+      (λ (e : f .marked ≡ false). ap (λ (b : Bool). cond b (maskAt (wordsOf f) Parked) 0) e ∙ sym (unmarked-parked e))
+      (decided (f .marked))
+
   sets-back : setsChecked (game (wordsOf f)) ≡ Fine
   unfolding game gameOf
   sets-back =
-      sets-ext (game (wordsOf f)) (gameOf f) (ap (λ (s : Shape). s .states) shape-same) (ap (λ (s : Shape). s .observations) shape-same) (mask-same Start tt)
-      (λ j l. mask-same (shown j) (subst (λ (s : Shape). j < s .observations) shape-same l))
+      sets-ext (game (wordsOf f)) (gameOf f)
+      (record {
+        states = ap (λ (s : Shape). s .states) shape-same;
+        actions = ap (λ (s : Shape). s .actions) shape-same;
+        observations = ap (λ (s : Shape). s .observations) shape-same;
+        start = mask-same Start tt;
+        parked = parked-back;
+        shown = λ j l. mask-same (shown j) (subst (λ (s : Shape). j < s .observations) shape-same l);
+        successors = λ a i l m. mask-same (move a i) (subst (λ (s : Shape). (a < s .actions) × (i < s .states)) shape-same (l, m));
+      })
       ∙ fields-passed f fine .2
 
   written-fine : checked (wordsOf f) ≡ Fine
@@ -232,20 +265,21 @@ module _ (f : Fields) (fine : fieldsChecked f ≡ Fine) where
       let long : length w ≡ tableLength (shapeIn w) = length-same f ∙ ap tableLength (sym shape-same) in
       sets-decide w (size-fine w (λ e. omega (arith, length-same f)) head-right long) (words-fine w (first-none (length w) (faulty w) sound-at)) ∙ sets-back
 
+  slots-zero : (unusedZero (f .observations) (f .shown) && unusedZero (f .actions * f .states) (f .moves)) ≡ true
+  slots-zero = and-right (parkedClean f) (unusedZero (f .observations) (f .shown) && unusedZero (f .actions * f .states) (f .moves)) slots-clean
+
   module _ (shown-slots : length (f .shown) ≡ maxObservations) (move-slots : length (f .moves) ≡ maxMoves) where
     shown-back : f .shown ≡ filledBy (f .observations) (λ j. maskAt (wordsOf f) (shown j)) (replicate maxObservations 0)
     shown-back =
-        let clean = slots-passed f (fields-passed f fine .0) .1 in
         slots-back (f .observations) maxObservations (λ j. maskAt (wordsOf f) (shown j)) (f .shown) shown-slots (limited .most-observations)
-        (and-left (unusedZero (f .observations) (f .shown)) (unusedZero (f .actions * f .states) (f .moves)) clean)
+        (and-left (unusedZero (f .observations) (f .shown)) (unusedZero (f .actions * f .states) (f .moves)) slots-zero)
         (λ j l. mask-same (shown j) l)
 
     moves-back : f .moves ≡ filledBy (f .actions * f .states) (λ j. maskAt (wordsOf f) (move (j / f .states) (j % f .states))) (replicate maxMoves 0)
     moves-back =
         let l = limited in
-        let clean = slots-passed f (fields-passed f fine .0) .1 in
         slots-back (f .actions * f .states) maxMoves (λ j. maskAt (wordsOf f) (move (j / f .states) (j % f .states))) (f .moves) move-slots (moves-below (f .actions) (f .states) (l .most-actions) (l .most-states))
-        (and-right (unusedZero (f .observations) (f .shown)) (unusedZero (f .actions * f .states) (f .moves)) clean)
+        (and-right (unusedZero (f .observations) (f .shown)) (unusedZero (f .actions * f .states) (f .moves)) slots-zero)
         (λ j k.
         mask-same (move (j / f .states) (j % f .states)) (slot-within (fieldsShape f) j (l .some-state) k)
         ∙ ap (λ (i : ℕ). getD (f .moves) i 0) (div-add-mod' j (f .states)))
@@ -263,6 +297,8 @@ module _ (f : Fields) (fine : fieldsChecked f ≡ Fine) where
           observations = sym shape-same i .observations;
           start = sym (mask-same Start tt) i;
           bad = sym (mask-same Bad tt) i;
+          marked = sym shape-same i .marked;
+          parked = sym parked-back i;
           shown = seen i;
           moves = moved i;
         }

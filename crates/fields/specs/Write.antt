@@ -1,4 +1,4 @@
--- What writing fields as a table's words answers (document 01, "Entries").
+-- What writing fields as a table's words answers (document 01, "Entries"; parked states: document 02, change 2).
 -- Assumes nothing.
 use mathlib.Core.Bool.{Bool, cond, not, _&&_, _||_}
 use mathlib.Core.List.{List}
@@ -37,9 +37,13 @@ slotClean used l j = ltb j used || eqb (getD l j 0) 0
 unfoldable pub unusedZero : (used : ℕ) → List ℕ → Bool
 unusedZero used l = all (length l) (slotClean used l)
 
--- those of the observations and of the moves are
+-- the parked set is used where the fields mark parked states, or 0
+abbrev pub parkedClean : Fields → Bool
+parkedClean f = f .marked || eqb (f .parked) 0
+
+-- unused slots are 0: the parked set, those of the observations, those of the moves
 abbrev pub slotsClean : Fields → Bool
-slotsClean f = unusedZero (f .observations) (f .shown) && unusedZero (f .actions * f .states) (f .moves)
+slotsClean f = parkedClean f && (unusedZero (f .observations) (f .shown) && unusedZero (f .actions * f .states) (f .moves))
 
 -- the mask of the word to be written names a state from n up
 unfoldable pub wideAt : Fields → ℕ → Bool
@@ -56,7 +60,7 @@ slotsChecked f =
 unfoldable pub masksChecked : Fields → Checked
 masksChecked f = atFound (first (wordsLength f) (wideAt f)) (λ p. Refused 5 p) Fine
 
--- 2, 11, 5, 6 and 7
+-- 2, 11, 5, 6, 7 and 19
 unfoldable pub fieldsChecked : Fields → Checked
 fieldsChecked f =
     unless (slotsChecked f) Refused
@@ -69,7 +73,7 @@ writtenTo f d =
     cond (ltb (length d) (wordsLength f)) (leaves (written.Refused 10 (wordsLength f)) d)
     (leaves (Words (wordsLength f)) (filledBy (wordsLength f) (wordAt f) d))
 
--- document 01's write: 2, 11, 5, 6, 7, 10; a refusal leaves the buffer as it was
+-- write: 2, 11, 5, 6, 7, 19, 10; a refusal leaves the buffer as it was
 unfoldable pub writeOf : Fields → List ℕ → Leaves Written (List ℕ)
 writeOf f d =
     unless (fieldsChecked f) (λ number place. leaves (written.Refused number place) d)

@@ -27,6 +27,8 @@ fn no_fields() -> Fields
         observations: 0,
         start: 0,
         bad: 0,
+        marked: false,
+        parked: 0,
         shown: [0u32; tables::SHOWN_SLOTS],
         moves: [0u32; tables::MOVE_SLOTS],
     }
@@ -72,6 +74,7 @@ fn mask_at(f: Fields, p: usize) -> u32
     match games::place_at(tables::fields_shape(f), p) {
         Place::Start => f.start,
         Place::Bad => f.bad,
+        Place::Parked => f.parked,
         Place::Shown(seen) => {
             let shown = f.shown;
             shown[seen.0 as usize]
@@ -109,15 +112,16 @@ fn check_slots(f: Fields) -> Checked
     }
     let shown = f.shown;
     let moves = f.moves;
-    let clean = unused_zero(&shown, f.observations as usize)
-        & unused_zero(&moves, (f.actions * f.states) as usize);
+    let clean = (f.marked | (f.parked == 0))
+        & (unused_zero(&shown, f.observations as usize)
+            & unused_zero(&moves, (f.actions * f.states) as usize));
     if !clean {
         return Checked::Refused(11, 0);
     }
     Checked::Fine
 }
 
-// Refusals 2, 11, 5, 6 and 7.
+// Refusals 2, 11, 5, 6, 7 and 19.
 fn check_fields(f: Fields) -> Checked
     ensures { λ r. ⌜ r ≡ fieldsChecked f ⌝ }
 {

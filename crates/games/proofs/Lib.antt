@@ -2,8 +2,10 @@ pub mod Limits
 pub mod Answers
 pub mod Places
 pub mod Stations
+pub mod Enabled
 pub mod Steps
 pub mod Plays
+pub mod Parked
 pub mod Starts
 pub mod Memory
 pub mod Losing

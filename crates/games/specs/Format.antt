@@ -1,4 +1,4 @@
--- The numbers of document 01's format, each here alone: limits, bit positions and kinds.
+-- The numbers of the format (documents 01 and 02), each here alone: limits, bit positions and kinds.
 -- Assumes nothing.
 use mathlib.Core.Bool.{Bool, _&&_}
 use Prim.Native.Nat.{ℕ, _*_, _^_}
@@ -68,11 +68,18 @@ headActionsAt = 2 ^ 8
 abbrev pub headObservationsAt : ℕ
 headObservationsAt = 2 ^ 16
 
--- behind them the spare bits 24-27 begin
-abbrev pub headSpareAt : ℕ
-headSpareAt = 2 ^ 24
+-- bit 24: the table marks parked states
+abbrev pub headMarkedAt : ℕ
+headMarkedAt = 2 ^ 24
 
--- ---- kinds of a table's words: head, start set, bad set, the states that show an observation, the successors of a state
+abbrev pub bitValues : ℕ
+bitValues = 2
+
+-- behind them the spare bits 25-27 begin
+abbrev pub headSpareAt : ℕ
+headSpareAt = 2 ^ 25
+
+-- ---- kinds of a table's words: head, start set, bad set, the states that show an observation, the successors of a state, parked states
 
 abbrev pub kindTable : ℕ
 kindTable = 1
@@ -88,6 +95,9 @@ kindShown = 4
 
 abbrev pub kindMove : ℕ
 kindMove = 5
+
+abbrev pub kindParked : ℕ
+kindParked = 6
 
 -- kinds of a card's words: head, first cell, cell, next cell
 

@@ -9,4 +9,5 @@ pub mod Verdict
 pub mod Automaton
 pub mod Words
 pub mod Demands
+pub mod Parked
 pub mod Stations

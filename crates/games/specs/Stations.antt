@@ -1,4 +1,5 @@
--- The starred stations of document 01 ("Stations to try") as rows of one list, and the one statement that covers them: every row comes out.
+-- The starred stations of document 01 ("Stations to try") as rows of one list, stations with parked states as rows of another, and the
+-- one statement that covers them: every row comes out.
 -- Assumes nothing.
 use mathlib.Core.Path.{_≡_}
 use mathlib.Core.Bool.{Bool, true, false, Bool·beq, _&&_}
@@ -13,6 +14,8 @@ use Rattle.games.specs.Words.{game, cardWords}
 
 pub data Station : Type 0 where
   A B C D E F G H J K L : Station
+  -- with parked states, below
+  ParkedE BadE ParkedG ForkedQ ParkedQ Mixed MixedBlocked MixedBad : Station
 
 -- what document 01 says of a station
 pub data Row : Type 0 where
@@ -84,6 +87,56 @@ stations =
     ∷ cutsTo K 3 (3 ∷ []) (1 ∷ 6 ∷ []) (1 ∷ 2 ∷ [])
     ∷ judges L tableA 3 1 true
     ∷ judges L tableA 3 2 false
+    ∷ []
+
+-- ---- stations with parked states (document 02, change 2)
+
+-- E and G, their blocked state parked; E's is bad as well
+abbrev pub parkedE : List ℕ
+parkedE = 0x1101_0101 ∷ 0x2000_0001 ∷ 0x3000_0000 ∷ 0x6000_0001 ∷ 0x4000_0001 ∷ 0x5000_0000 ∷ []
+
+abbrev pub badE : List ℕ
+badE = 0x1101_0101 ∷ 0x2000_0001 ∷ 0x3000_0001 ∷ 0x6000_0001 ∷ 0x4000_0001 ∷ 0x5000_0000 ∷ []
+
+abbrev pub parkedG : List ℕ
+parkedG = 0x1101_0104 ∷ 0x2000_0001 ∷ 0x3000_0000 ∷ 0x6000_0008 ∷ 0x4000_000f ∷ 0x5000_0002 ∷ 0x5001_0004 ∷ 0x5002_0008 ∷ 0x5003_0000 ∷ []
+
+-- 0 to {1,2}, 1 blocked, 2 to 3, 3 blocked; as it is, and 1 parked: the round number rises
+abbrev pub forkedQ : List ℕ
+forkedQ = 0x1001_0104 ∷ 0x2000_0001 ∷ 0x3000_0000 ∷ 0x4000_000f ∷ 0x5000_0006 ∷ 0x5001_0000 ∷ 0x5002_0008 ∷ 0x5003_0000 ∷ []
+
+abbrev pub parkedQ : List ℕ
+parkedQ = 0x1101_0104 ∷ 0x2000_0001 ∷ 0x3000_0000 ∷ 0x6000_0002 ∷ 0x4000_000f ∷ 0x5000_0006 ∷ 0x5001_0000 ∷ 0x5002_0008 ∷ 0x5003_0000 ∷ []
+
+-- 0 dosing, 1 finished, 2 overdosed (bad), all alike: action 0 takes 0 to 2, action 1 to {0,1}; the start is {0,1}. Parked; blocked,
+-- though the bit is set; parked and bad
+abbrev mixed : (bad parked : ℕ) → List ℕ
+mixed bad parked =
+    0x1101_0203 ∷ 0x2000_0003 ∷ bad ∷ parked ∷ 0x4000_0007 ∷ 0x5000_0004 ∷ 0x5001_0000 ∷ 0x5002_0004 ∷ 0x5010_0003 ∷ 0x5011_0000 ∷ 0x5012_0004 ∷ []
+
+abbrev pub mixedParked : List ℕ
+mixedParked = mixed 0x3000_0004 0x6000_0002
+
+abbrev pub mixedBlocked : List ℕ
+mixedBlocked = mixed 0x3000_0004 0x6000_0000
+
+abbrev pub mixedBad : List ℕ
+mixedBad = mixed 0x3000_0006 0x6000_0002
+
+unfoldable pub parkedStations : List Row
+parkedStations =
+    answers ParkedE parkedE (Yes 0 1)
+    ∷ writes ParkedE parkedE (0x8011_0001 ∷ 0x9000_0000 ∷ 0xa000_0001 ∷ 0xb000_ffff ∷ [])
+    ∷ answers BadE badE (No 1)
+    ∷ answers ParkedG parkedG (Yes 0 1)
+    ∷ answers ForkedQ forkedQ (No 2)
+    ∷ answers ParkedQ parkedQ (No 3)
+    ∷ answers Mixed mixedParked (Yes 1 1)
+    ∷ writes Mixed mixedParked (0x8021_0001 ∷ 0x9000_0000 ∷ 0xa010_0003 ∷ 0xb000_0000 ∷ [])
+    ∷ answers MixedBlocked mixedBlocked (No 1)
+    ∷ answers MixedBad mixedBad (No 1)
+    ∷ judges Mixed mixedParked 2 4 true
+    ∷ judges Mixed mixedParked 6 1 false
     ∷ []
 
 unfoldable pub sameList : List ℕ → List ℕ → Bool

@@ -1,5 +1,6 @@
--- What the words of a table mean, and the words of a card (document 01, "Words").
+-- What the words of a table mean, and the words of a card (document 01, "Words"; parked states: document 02, change 2).
 -- Assumes nothing.
+use mathlib.Core.Bool.{cond}
 use mathlib.Core.List.{List, [], _∷_, _++_}
 use Prim.Native.Nat.{ℕ, _+_, _*_}
 use lib.ListN.{getD}
@@ -10,11 +11,15 @@ use Rattle.games.specs.Places.{shapeOf, placeOf, shown, move}
 use Rattle.games.specs.Game.{Game}
 use Rattle.games.specs.Automaton.{Automaton, card}
 use Rattle.games.specs.declared.Place.{Place}
-use Rattle.games.specs.declared.Place.the-variants.{Start, Bad}
+use Rattle.games.specs.declared.Place.the-variants.{Start, Bad, Parked}
 
 -- the mask of a word, by what stands there
 abbrev pub maskAt : List ℕ → Place → ℕ
 maskAt w x = lowField (getD w (placeOf (shapeOf (getD w 0 0)) x) 0)
+
+-- the parked states; none where the table doesn't mark them
+abbrev pub parkedIn : List ℕ → ℕ
+parkedIn w = cond (shapeOf (getD w 0 0) .marked) (maskAt w Parked) 0
 
 -- what a table's words mean
 unfoldable pub game : List ℕ → Game
@@ -26,6 +31,7 @@ game w =
       observations = s .observations;
       start = maskAt w Start;
       bad = maskAt w Bad;
+      parked = parkedIn w;
       shown = λ j. maskAt w (shown j);
       successors = λ a i. maskAt w (move a i);
     }

@@ -5,7 +5,7 @@ ghost use mathlib.Core.Path.{_≡_};
 ghost use Prim.Native.Nat.{_<_, _≤_};
 ghost use Rattle.games.specs.Format.{within as isWithin, lowValues, numberValues, actionValues, kindValues, headValues};
 ghost use Rattle.games.specs.Fields.{lowField, numberField, actionField, word as wordOf};
-ghost use Rattle.games.specs.Places.{maxPlace, shapeOf, placeAt, placeOf, movesPlace, tableLength};
+ghost use Rattle.games.specs.Places.{maxPlace, shapeOf, placeAt, placeOf, parkedWords, shownPlace, movesPlace, tableLength};
 ghost use Rattle.games.specs.Words.{frontLength, partLength, cardLength};
 
 // Document 01's four columns: state, action, reading and cell numbers. One can't be passed as another.
@@ -55,19 +55,24 @@ pub const ACTION_VALUES: u32 = 1 << 4;
 
 pub const KIND_AT: u32 = 1 << 28;
 
-// A table's head: states in bits 0-7, actions in 8-15, observations in 16-23. Behind them the spare bits 24-27 begin.
+// A table's head: states in bits 0-7, actions in 8-15, observations in 16-23; bit 24 is set where the table marks parked states. Behind
+// them the spare bits 25-27 begin.
 pub const HEAD_VALUES: u32 = 1 << 8;
 
 pub const HEAD_ACTIONS_AT: u32 = 1 << 8;
 
 pub const HEAD_OBSERVATIONS_AT: u32 = 1 << 16;
 
-pub const HEAD_SPARE_AT: u32 = 1 << 24;
+pub const HEAD_MARKED_AT: u32 = 1 << 24;
+
+const BIT_VALUES: u32 = 2;
+
+pub const HEAD_SPARE_AT: u32 = 1 << 25;
 
 // The largest cell number says: the observation cannot occur here.
 pub const NO_CELL: u32 = LOW_VALUES - 1;
 
-// The kinds of a table's words: head, start set, bad set, the states that show an observation, the successors of a state.
+// The kinds of a table's words: head, start set, bad set, the states that show an observation, the successors of a state, parked states.
 pub const KIND_TABLE: u32 = 1;
 
 pub const KIND_START: u32 = 2;
@@ -77,6 +82,8 @@ pub const KIND_BAD: u32 = 3;
 pub const KIND_SHOWN: u32 = 4;
 
 pub const KIND_MOVE: u32 = 5;
+
+pub const KIND_PARKED: u32 = 6;
 
 // The kinds of a card's words: head, first cell, cell, next cell.
 pub const KIND_CARD: u32 = 8;
@@ -119,11 +126,12 @@ pub fn word(kind: u32, low: u32, number: u32, action: u32) -> u32
     kind * KIND_AT + action * ACTION_AT + number * NUMBER_AT + low
 }
 
-// The numbers of a table's head: states, actions and observations.
+// The numbers of a table's head: states, actions and observations; and whether it marks parked states.
 pub struct Shape {
     pub states: u32,
     pub actions: u32,
     pub observations: u32,
+    pub marked: bool,
 }
 
 pub fn shape_of(head: u32) -> Shape
@@ -133,30 +141,49 @@ pub fn shape_of(head: u32) -> Shape
         states: head % HEAD_VALUES,
         actions: head / HEAD_ACTIONS_AT % HEAD_VALUES,
         observations: head / HEAD_OBSERVATIONS_AT % HEAD_VALUES,
+        marked: head / HEAD_MARKED_AT % BIT_VALUES == 1,
     }
 }
 
-// What stands at a place of a table behind its head: the start set, the bad set, the states that show an observation, the
-// successors that an action gives a state.
+// What stands at a place of a table behind its head: the start set, the bad set, the parked set, the states that show an observation,
+// the successors that an action gives a state.
 pub enum Place {
     Start,
     Bad,
+    Parked,
     Shown(Observation),
     Move(Action, State),
 }
 
-// The places of the start set and of the bad set, and where the observations' sets begin.
+// The places of the start set, of the bad set and, where the table marks parked states, of theirs.
 const START_PLACE: usize = 1;
 
 const BAD_PLACE: usize = 2;
 
-const SHOWN_PLACE: usize = 3;
+const PARKED_PLACE: usize = 3;
+
+// The words of the parked set, which is also the bit of the head.
+pub fn parked_words(s: Shape) -> u32
+    ensures { λ r. ⌜ r ≡ parkedWords s ⌝ }
+{
+    if s.marked {
+        return 1;
+    }
+    0
+}
+
+// Where the observations' sets begin.
+fn shown_place(s: Shape) -> usize
+    ensures { λ r. ⌜ r ≡ shownPlace s ⌝ }
+{
+    PARKED_PLACE + parked_words(s) as usize
+}
 
 // Where the moves begin.
 fn moves_place(s: Shape) -> usize
     ensures { λ r. ⌜ r ≡ movesPlace s ⌝ }
 {
-    SHOWN_PLACE + s.observations as usize
+    shown_place(s) + s.observations as usize
 }
 
 // What stands at a place.
@@ -170,9 +197,13 @@ pub fn place_at(s: Shape, p: usize) -> Place
     if p == BAD_PLACE {
         return Place::Bad;
     }
+    let seen = shown_place(s);
+    if p < seen {
+        return Place::Parked;
+    }
     let from = moves_place(s);
     if p < from {
-        return Place::Shown(Observation((p - SHOWN_PLACE) as u32));
+        return Place::Shown(Observation((p - seen) as u32));
     }
     let slot = (p - from) as u32;
     Place::Move(Action(slot / s.states), State(slot % s.states))
@@ -186,7 +217,8 @@ pub fn place_of(s: Shape, x: Place) -> usize
     match x {
         Place::Start => START_PLACE,
         Place::Bad => BAD_PLACE,
-        Place::Shown(seen) => SHOWN_PLACE + seen.0 as usize,
+        Place::Parked => PARKED_PLACE,
+        Place::Shown(seen) => shown_place(s) + seen.0 as usize,
         Place::Move(a, i) => moves_place(s) + a.0 as usize * s.states as usize + i.0 as usize,
     }
 }

@@ -22,13 +22,13 @@ fn tell(table: &[u32], card: &[u32]) {
     print::answer(certificates::judge_card(table, card));
 }
 
-fn judge(name: &[u8], table: &[u32], card: &[u32]) {
+pub fn judge(name: &[u8], table: &[u32], card: &[u32]) {
     begin(name);
     tell(table, card);
 }
 
 // One word of the card changed.
-fn judge_changed(name: &[u8], table: &[u32], card: &mut [u32], place: usize, word: u32) {
+pub fn judge_changed(name: &[u8], table: &[u32], card: &mut [u32], place: usize, word: u32) {
     change(card, place, word);
     begin(name);
     print::replaced(place, word);

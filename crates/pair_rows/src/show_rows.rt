@@ -11,7 +11,7 @@ use rows::stations::changed_a;
 use rows::stations::changed_card;
 use show::Shown;
 
-fn show(name: &[u8], table: &[u32], card: &[u32], cell: u32) {
+pub fn show(name: &[u8], table: &[u32], card: &[u32], cell: u32) {
     say(b"show ");
     say(name);
     say(b" cell ");

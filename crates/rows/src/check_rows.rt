@@ -5,14 +5,14 @@ use crate::stations;
 use crate::stations::A;
 use crate::stations::changed_a;
 
-fn check(name: &[u8], table: &[u32]) {
+pub fn check(name: &[u8], table: &[u32]) {
     say(b"check ");
     say(name);
     print::answer(tables::check(table));
 }
 
 // The head alone: 3 where it is right.
-fn check_head(head: u32) {
+pub fn check_head(head: u32) {
     let table = [head];
     say(b"check ");
     print::word(head);

@@ -12,6 +12,10 @@ fn print_fields(f: Fields) {
     let shown = f.shown;
     let moves = f.moves;
     print::numbers(&numbers);
+    if f.marked {
+        say(b" parked ");
+        print::decimal(f.parked as u64);
+    }
     say(b" ");
     print::numbers(&shown);
     say(b" ");
@@ -19,7 +23,7 @@ fn print_fields(f: Fields) {
     say(b"\n");
 }
 
-fn read(name: &[u8], table: &[u32]) {
+pub fn read(name: &[u8], table: &[u32]) {
     say(b"read ");
     say(name);
     let r = fields::read(table);
@@ -39,14 +43,14 @@ fn reads() {
     read(b"A with 40000003 at 3", &unseen);
 }
 
-fn write(f: Fields, out: &mut [u32]) {
+pub fn write(f: Fields, out: &mut [u32]) {
     say(b" into ");
     print::decimal(out.len() as u64);
     print::written(fields::write(f, out));
     print::room(out);
 }
 
-fn fields_of(table: &[u32]) -> Fields {
+pub fn fields_of(table: &[u32]) -> Fields {
     let r = fields::read(table);
     r.fields
 }
@@ -70,7 +74,7 @@ fn with_sets(start: u32, bad: u32) -> Fields {
     f
 }
 
-fn with_shown(f: Fields, slot: usize, mask: u32) -> Fields {
+pub fn with_shown(f: Fields, slot: usize, mask: u32) -> Fields {
     let mut r = f;
     let mut shown = f.shown;
     if slot < 8 {
@@ -124,26 +128,28 @@ fn written_none() {
     write(fields_of(&[]), &mut out);
 }
 
-// All that the limits allow, in 107 words.
-fn widest(out: &mut [u32]) {
-    say(b"write n 12 a 8 o 8");
-    let f = Fields {
+// All that the limits allow: 107 words, 108 with the parked set.
+pub fn widest(marked: bool) -> Fields {
+    Fields {
         states: 12,
         actions: 8,
         observations: 8,
         start: 4095,
         bad: 0,
+        marked,
+        parked: 0,
         shown: [4095; tables::SHOWN_SLOTS],
         moves: [4095; tables::MOVE_SLOTS],
-    };
-    write(f, out);
+    }
 }
 
 fn written_widest() {
+    say(b"write n 12 a 8 o 8");
     let mut roomy = [GUARD; 108];
-    widest(&mut roomy);
+    write(widest(false), &mut roomy);
+    say(b"write n 12 a 8 o 8");
     let mut short = [GUARD; 106];
-    widest(&mut short);
+    write(widest(false), &mut short);
 }
 
 fn write_numbers(n: u32, a: u32, o: u32) {

@@ -1,4 +1,4 @@
-// The stations of document 01, their cards, and tables at the limits.
+// The stations of document 01, their cards, stations with parked states, and tables at the limits.
 ghost use mathlib.Core.Path.{_≡_};
 ghost use lib.ListN.{length};
 
@@ -74,6 +74,102 @@ pub const H: [u32; 11] = [
     0x50100004,
     0x50110001,
     0x50120004,
+];
+
+// A with the bit for parked states, and none parked.
+pub const MARKED_A: [u32; 11] = [
+    0x11010203,
+    0x20000001,
+    0x30000004,
+    0x60000000,
+    0x40000007,
+    0x50000002,
+    0x50010000,
+    0x50020004,
+    0x50100004,
+    0x50110001,
+    0x50120004,
+];
+
+// E and G with their blocked state parked; E's bad as well; 0 to {1,2}, 1 parked, 2 to 3, 3 blocked.
+pub const PARKED_E: [u32; 6] = [
+    0x11010101,
+    0x20000001,
+    0x30000000,
+    0x60000001,
+    0x40000001,
+    0x50000000,
+];
+
+pub const BAD_E: [u32; 6] = [
+    0x11010101,
+    0x20000001,
+    0x30000001,
+    0x60000001,
+    0x40000001,
+    0x50000000,
+];
+
+pub const PARKED_G: [u32; 9] = [
+    0x11010104,
+    0x20000001,
+    0x30000000,
+    0x60000008,
+    0x4000000F,
+    0x50000002,
+    0x50010004,
+    0x50020008,
+    0x50030000,
+];
+
+pub const PARKED_Q: [u32; 9] = [
+    0x11010104,
+    0x20000001,
+    0x30000000,
+    0x60000002,
+    0x4000000F,
+    0x50000006,
+    0x50010000,
+    0x50020008,
+    0x50030000,
+];
+
+// 0 dosing, 1 parked, 2 bad, all alike; action 0 takes 0 to 2, action 1 to {0,1}; the start is {0,1}.
+pub const MIXED: [u32; 11] = [
+    0x11010203,
+    0x20000003,
+    0x30000004,
+    0x60000002,
+    0x40000007,
+    0x50000004,
+    0x50010000,
+    0x50020004,
+    0x50100003,
+    0x50110000,
+    0x50120004,
+];
+
+pub const MIXED_CARD: [u32; 4] = [0x80210001, 0x90000000, 0xA0100003, 0xB0000000];
+
+// Each state moves to itself, but the last is parked.
+pub const PARKED_12: [u32; 17] = [
+    0x1101010C,
+    0x20000FFF,
+    0x30000000,
+    0x60000800,
+    0x40000FFF,
+    0x50000001,
+    0x50010002,
+    0x50020004,
+    0x50030008,
+    0x50040010,
+    0x50050020,
+    0x50060040,
+    0x50070080,
+    0x50080100,
+    0x50090200,
+    0x500A0400,
+    0x500B0000,
 ];
 
 // Each state moves to itself.

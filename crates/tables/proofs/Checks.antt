@@ -2,31 +2,35 @@
 -- Assumes nothing.
 use mathlib.Core.Path.{_≡_, refl}
 use mathlib.Core.Bool.{Bool, true, false, cond, not, _&&_, _||_}
+use mathlib.Core.Logic.{⊎-elim}
 use mathlib.Core.List.{List}
 use Prim.Native.Nat.{ℕ, zero, suc, _+_, _/_, _^_, _≤_, _<_}
 use native.Mathlib.Omega.{arith}
 use borrow.Author.Tests.{eq-eqb, ne-eqb, eqb-true, eqb-false, leb-false, lt-ltb, not-false}
 use lib.Dec.{eqb}
+use lib.Pow.{pow-pos}
 use lib.ListN.{length, getD}
 use Rattle.sets.specs.Bounded.{first, any, nothing, atFound}
-use Rattle.sets.proofs.Logic.{and-left, and-right, or-false-left, or-false-right, false-not, true-not}
-use Rattle.sets.proofs.Bounded.{first-zero, first-skip, first-stop, first-nothing, any-intro, any-found}
+use Rattle.sets.proofs.Logic.{decided, and-intro, and-left, and-right, or-false-left, or-false-right, false-not, true-not}
+use Rattle.sets.proofs.Bounded.{first-zero, first-skip, first-stop, first-nothing, any-intro, any-found, any-none}
 use Rattle.sets.specs.Mask.{member}
 use Rattle.games.specs.Format.{within, maxStates, maxActions, maxObservations, headSpareAt}
-use Rattle.games.specs.Game.{Game, Shows, Accepted}
+use Rattle.games.specs.Game.{Game, Shows, Accepted, hasSuccessor}
 use Rattle.games.specs.Answers.{unless}
 use Rattle.games.specs.Fields.{lowField}
 use Rattle.games.specs.Places.{shapeOf, shown, move, placeOf, placeAt, tableLength, startPlace, Within, Limited}
-use Rattle.games.specs.Words.{maskAt, game}
+use Rattle.games.specs.Words.{maskAt, parkedIn, game}
 use Rattle.games.specs.declared.Shape.{Shape}
 use Rattle.games.specs.declared.Place.{Place}
-use Rattle.games.specs.declared.Place.the-variants.{Start, Bad}
+use Rattle.games.specs.declared.Place.the-variants.{Start, Bad, Parked}
 use Rattle.games.specs.declared.Checked.the-variants.{Fine, Refused}
 use Rattle.games.proofs.Answers.{never, then-fine, cond-fine, cond-passed, found-none}
 use Rattle.games.proofs.Limits.{within-low, within-high}
 use Rattle.games.proofs.Places.{place-from}
 use Rattle.tables.specs.Layout.{shapeIn, headTop, bareWord, Sized}
-use Rattle.tables.specs.Check.{tooWide, limitsHold, headRight, sizeChecked, placed, faulty, wordsChecked, unseen, setsChecked, checked}
+use Rattle.tables.specs.Check.{tooWide, limitsHold, headRight, sizeChecked, placed, faulty, wordsChecked, unseen, departs, faultAt, faultNumber, statesChecked, setsChecked, checked}
+use Rattle.tables.specs.declared.Fault.{Fault}
+use Rattle.tables.specs.declared.Fault.the-variants.{Unseen, Departing}
 use Rattle.tables.proofs.Bounds.{place-inside}
 
 -- ---- 1, 2 and 3
@@ -74,7 +78,7 @@ pub faulty-is : (w : List ℕ) (p : ℕ) (a b : Bool) → 1 ≤ p → a ≡ plac
 unfolding faulty
 faulty-is w p a b l e f = rw (e, f, lt-ltb 0 p l)
 
--- ---- 6 and 7
+-- ---- 6, 7 and 19
 
 module _ (g : Game) (i : ℕ) where
   -- an observation that i shows
@@ -86,18 +90,41 @@ module _ (g : Game) (i : ℕ) where
   unfolding unseen
   seen-none e = false-not e
 
+  -- i isn't parked; it has a successor; it has none
+  pub not-parked : member (g .parked) i ≡ false → departs g i ≡ false
+  unfolding departs
+  not-parked e = rw e
+
+  module _ (parked : member (g .parked) i ≡ true) where
+    pub departs-by : (a : ℕ) → a < g .actions → hasSuccessor g i a ≡ true → departs g i ≡ true
+    unfolding departs
+    departs-by a l e = and-intro parked (any-intro (g .actions) (hasSuccessor g i) a l e)
+
+    pub departs-never : any (g .actions) (hasSuccessor g i) ≡ false → departs g i ≡ false
+    unfolding departs
+    departs-never e = rw (parked, e)
+
 module _ (g : Game) where
+  pub state-stops : (x : Fault) (i : ℕ) → i < g .states → first i (faultAt x g) ≡ nothing → faultAt x g i ≡ true → statesChecked x g ≡ Refused (faultNumber x) i
+  unfolding statesChecked
+  state-stops x i l e t = rw (first-stop (g .states) (faultAt x g) i l e t)
+
+  pub states-fine : (x : Fault) → first (g .states) (faultAt x g) ≡ nothing → statesChecked x g ≡ Fine
+  unfolding statesChecked
+  states-fine x e = rw e
+
   pub sets-empty : g .start ≡ 0 → setsChecked g ≡ Refused 6 startPlace
   unfolding setsChecked
   sets-empty e = rw (eq-eqb (g .start) 0 e)
 
-  pub sets-unseen : (g .start ≡ 0 → ⊥) → (i : ℕ) → i < g .states → first i (unseen g) ≡ nothing → unseen g i ≡ true → setsChecked g ≡ Refused 7 i
-  unfolding setsChecked
-  sets-unseen d i l e t = rw (ne-eqb (g .start) 0 d, first-stop (g .states) (unseen g) i l e t)
+  module _ (some : g .start ≡ 0 → ⊥) where
+    pub unseen-stops : (k p : ℕ) → statesChecked Unseen g ≡ Refused k p → setsChecked g ≡ Refused k p
+    unfolding setsChecked
+    unseen-stops k p e = rw (ne-eqb (g .start) 0 some, e)
 
-  pub sets-fine : (g .start ≡ 0 → ⊥) → first (g .states) (unseen g) ≡ nothing → setsChecked g ≡ Fine
-  unfolding setsChecked
-  sets-fine d e = rw (ne-eqb (g .start) 0 d, e)
+    pub departing-decides : statesChecked Unseen g ≡ Fine → setsChecked g ≡ statesChecked Departing g
+    unfolding setsChecked
+    departing-decides e = rw (ne-eqb (g .start) 0 some, e)
 
 -- ---- one after the other
 
@@ -183,11 +210,18 @@ module _ (w : List ℕ) where
     word-below = leb-false (2 ^ shapeIn w .states) (lowField (getD w p 0)) (word-sound .1)
 
 module _ (g : Game) (fine : setsChecked g ≡ Fine) where
-  sets-passed : (eqb (g .start) 0 ≡ false) × (first (g .states) (unseen g) ≡ nothing)
+  sets-passed : (eqb (g .start) 0 ≡ false) × (statesChecked Unseen g ≡ Fine) × (statesChecked Departing g ≡ Fine)
   unfolding setsChecked
   sets-passed =
-      let h = cond-passed (eqb (g .start) 0) 6 startPlace (atFound (first (g .states) (unseen g)) (λ i. Refused 7 i) Fine) fine in
-      (h .0, found-none (first (g .states) (unseen g)) (λ i. Refused 7 i) (λ i f. never 7 i f) (h .1))
+      let h = cond-passed (eqb (g .start) 0) 6 startPlace (unless (statesChecked Unseen g) Refused (statesChecked Departing g)) fine in
+      let k = then-fine (statesChecked Unseen g) (statesChecked Departing g) (h .1) in
+      (h .0, k .0, k .1)
+
+  no-fault : (x : Fault) → statesChecked x g ≡ Fine → (i : ℕ) → i < g .states → faultAt x g i ≡ false
+  unfolding statesChecked
+  no-fault x e =
+      first-nothing (g .states) (faultAt x g)
+      (found-none (first (g .states) (faultAt x g)) (λ i. Refused (faultNumber x) i) (λ i f. never (faultNumber x) i f) e)
 
   pub start-some : g .start ≡ 0 → ⊥
   start-some = eqb-false (g .start) 0 (sets-passed .0)
@@ -195,8 +229,15 @@ module _ (g : Game) (fine : setsChecked g ≡ Fine) where
   pub all-show : (i : ℕ) → i < g .states → (o : ℕ) × Shows g i o
   unfolding unseen
   all-show i l =
-      let h = any-found (g .observations) (λ o. member (g .shown o) i) (not-false (any (g .observations) (λ o. member (g .shown o) i)) (first-nothing (g .states) (unseen g) (sets-passed .1) i l)) in
+      let h = any-found (g .observations) (λ o. member (g .shown o) i) (not-false (any (g .observations) (λ o. member (g .shown o) i)) (no-fault Unseen (sets-passed .1) i l)) in
       (h .0, (h .1, h .2))
+
+  pub parked-end : (a i : ℕ) → a < g .actions → i < g .states → member (g .parked) i ≡ true → g .successors a i ≡ 0
+  unfolding departs hasSuccessor
+  parked-end a i l m e =
+      let none = no-fault Departing (sets-passed .2) i m in
+      let still : any (g .actions) (hasSuccessor g i) ≡ false = rw e at none in
+      eqb-true (g .successors a i) 0 (not-false (eqb (g .successors a i) 0) (any-none (g .actions) (hasSuccessor g i) still a l))
 
 -- ---- an accepted table
 
@@ -229,6 +270,12 @@ module _ (w : List ℕ) (fine : checked w ≡ Fine) where
   mask-below x h =
       word-below w fine-words (placeOf (shapeIn w) x) (place-from (shapeIn w) x) (place-inside w sized x h)
 
+  parked-below : parkedIn w < 2 ^ shapeIn w .states
+  parked-below =
+      ⊎-elim (λ (e : shapeIn w .marked ≡ true). let h = mask-below Parked e in rw e h)
+      (λ (e : shapeIn w .marked ≡ false). rw e (pow-pos (shapeIn w .states)))
+      (decided (shapeIn w .marked))
+
   pub accepted : Accepted (game w)
   unfolding game
   accepted =
@@ -239,8 +286,10 @@ module _ (w : List ℕ) (fine : checked w ≡ Fine) where
         some-observation = limits .some-observation;
         start-below = mask-below Start tt;
         bad-below = mask-below Bad tt;
+        parked-below = parked-below;
         shown-below = λ o l. mask-below (shown o) l;
         successors-below = λ a i l m. mask-below (move a i) (l, m);
         start-some = positive (maskAt w Start) (start-some (game w) fine-sets);
         all-show = all-show (game w) fine-sets;
+        parked-end = parked-end (game w) fine-sets;
       }

@@ -9,7 +9,7 @@ use Rattle.sets.proofs.Fills.{filled-ext}
 use Rattle.games.specs.Format.{maxObservations, maxMoves}
 use Rattle.games.specs.Fields.{lowField}
 use Rattle.games.specs.Places.{shown, move, placeOf}
-use Rattle.games.specs.Words.{maskAt}
+use Rattle.games.specs.Words.{maskAt, parkedIn}
 use Rattle.games.specs.declared.Shape.{Shape}
 use Rattle.games.specs.declared.Place.the-variants.{Start, Bad}
 use Rattle.games.proofs.Places.{shown-from, move-from}
@@ -30,11 +30,11 @@ module _ (w : List ℕ) (k : ℕ) (d : List ℕ) where
       filled-ext (masksFrom w (placeOf (shapeIn w) (move 0 0))) (λ j. maskAt w (move (j / shapeIn w .states) (j % shapeIn w .states))) k d
       (λ j l. ap (λ (p : ℕ). lowField (getD w p 0)) (move-from (shapeIn w) j))
 
--- what the code has: the numbers, both sets, and the masks from the two places on
+-- what the code has: the numbers, the three sets, and the masks from the two places on
 module _ (w : List ℕ) (f : Fields) (s : Shape) (same : s ≡ shapeIn w) (numbers : fieldsShape f ≡ s) where
-  pub fields-are : (first-shown first-move : ℕ) → f .start ≡ maskAt w Start → f .bad ≡ maskAt w Bad → first-shown ≡ placeOf (shapeIn w) (shown 0) → f .shown ≡ filledBy (s .observations) (masksFrom w first-shown) (replicate maxObservations 0) → first-move ≡ placeOf (shapeIn w) (move 0 0) → f .moves ≡ filledBy (s .actions * s .states) (masksFrom w first-move) (replicate maxMoves 0) → f ≡ fieldsOf w
+  pub fields-are : (first-shown first-move : ℕ) → f .start ≡ maskAt w Start → f .bad ≡ maskAt w Bad → f .parked ≡ parkedIn w → first-shown ≡ placeOf (shapeIn w) (shown 0) → f .shown ≡ filledBy (s .observations) (masksFrom w first-shown) (replicate maxObservations 0) → first-move ≡ placeOf (shapeIn w) (move 0 0) → f .moves ≡ filledBy (s .actions * s .states) (masksFrom w first-move) (replicate maxMoves 0) → f ≡ fieldsOf w
   unfolding fieldsOf
-  fields-are first-shown first-move start bad at-shown sh at-move mv =
+  fields-are first-shown first-move start bad parked at-shown sh at-move mv =
       let e = numbers ∙ same in
       let zeros : List ℕ = replicate maxObservations 0 in
       let zeros′ : List ℕ = replicate maxMoves 0 in
@@ -49,6 +49,8 @@ module _ (w : List ℕ) (f : Fields) (s : Shape) (same : s ≡ shapeIn w) (numbe
         observations = e i .observations;
         start = start i;
         bad = bad i;
+        marked = e i .marked;
+        parked = parked i;
         shown = shown′ i;
         moves = moves′ i;
       }

@@ -1,50 +1,87 @@
 -- Heads and their numbers; the words of the places, and their masks.
 -- Assumes nothing.
-use mathlib.Core.Path.{_≡_}
-use Prim.Native.Nat.{ℕ, _+_, _*_, _/_, _^_, _<_}
+use mathlib.Core.Path.{_≡_, _∙_, sym}
+use mathlib.Core.Bool.{true, false}
+use mathlib.Core.Logic.{⊎-elim}
+use Prim.Native.Nat.{ℕ, _+_, _*_, _/_, _%_, _^_, _≤_, _<_}
 use native.Mathlib.Omega.{arith}
-use Rattle.games.specs.Format.{kindTable, kindAt, headValues, headActionsAt, headObservationsAt, lowValues, numberValues, actionValues, headSpareAt}
-use Rattle.games.specs.Fields.{lowField, headStates, headActions, headObservations}
-use Rattle.games.specs.Places.{shapeOf, Within, Limited}
+use borrow.Author.Tests.{eq-eqb, ne-eqb, eqb-true, eqb-false}
+use lib.Dec.{eqb}
+use Rattle.sets.proofs.Logic.{decided}
+use Rattle.games.specs.Format.{kindTable, kindAt, headValues, headActionsAt, headObservationsAt, lowValues, numberValues, actionValues, headMarkedAt, bitValues, headSpareAt}
+use Rattle.games.specs.Fields.{lowField, headStates, headActions, headObservations, headMarked}
+use Rattle.games.specs.Places.{shapeOf, parkedWords, Within, Limited}
 use Rattle.games.specs.declared.State.{State}
 use Rattle.games.specs.declared.Action.{Action}
 use Rattle.games.specs.declared.Observation.{Observation}
 use Rattle.games.specs.declared.Shape.{Shape}
 use Rattle.games.specs.declared.Place.{Place}
-use Rattle.games.specs.declared.Place.the-variants.{Start, Bad, Shown, Move}
+use Rattle.games.specs.declared.Place.the-variants.{Start, Bad, Parked, Shown, Move}
+use Rattle.games.proofs.Places.{marked-word, unmarked-word, parked-words}
 use Rattle.tables.specs.Layout.{headWord, headTop, bareWord}
 
 -- ---- heads
 
--- a head is that of its numbers
-pub head-back : (w : ℕ) → w / headSpareAt ≡ headTop → headWord (shapeOf w) ≡ w
-head-back w e = omega arith
+-- the bit of a head is 1 where it marks parked states
+marks : (w : ℕ) → parkedWords (shapeOf w) ≡ w / headMarkedAt % bitValues
+marks w =
+    ⊎-elim (λ b. omega (arith, marked-word (shapeOf w) b, eqb-true (w / headMarkedAt % bitValues) 1 b))
+    (λ b. omega (arith, unmarked-word (shapeOf w) b, eqb-false (w / headMarkedAt % bitValues) 1 b))
+    (decided (headMarked w))
 
--- its numbers, one after the other
-module _ (n a o : ℕ) (small : n < headValues) where
-  states-of : headStates (kindTable * kindAt + o * headObservationsAt + a * headActionsAt + n) ≡ n
+-- a head is that of its numbers and its bit: those below the bit, and what is from the bit up
+below-bit : (w : ℕ) → w ≡ w / headMarkedAt * headMarkedAt + headObservations w * headObservationsAt + headActions w * headActionsAt + headStates w
+below-bit w = omega arith
+
+from-bit : (w : ℕ) → w / headMarkedAt ≡ w / headSpareAt * bitValues + w / headMarkedAt % bitValues
+from-bit w = omega arith
+
+pub head-back : (w : ℕ) → w / headSpareAt ≡ headTop → headWord (shapeOf w) ≡ w
+head-back w e = omega (arith, marks w, from-bit w, below-bit w)
+
+-- its numbers and its bit, one after the other
+module _ (n a o m : ℕ) (small : n < headValues) where
+  abbrev headOf : ℕ
+  headOf = kindTable * kindAt + m * headMarkedAt + o * headObservationsAt + a * headActionsAt + n
+
+  states-of : headStates headOf ≡ n
   states-of = omega arith
 
-  actions-of : a < headValues → headActions (kindTable * kindAt + o * headObservationsAt + a * headActionsAt + n) ≡ a
+  actions-of : a < headValues → headActions headOf ≡ a
   actions-of h = omega arith
 
-  observations-of : a < headValues → o < headValues → headObservations (kindTable * kindAt + o * headObservationsAt + a * headActionsAt + n) ≡ o
+  observations-of : a < headValues → o < headValues → headObservations headOf ≡ o
   observations-of h k = omega arith
 
+  bit-of : a < headValues → o < headValues → m < bitValues → headOf / headMarkedAt % bitValues ≡ m
+  bit-of h k l = omega arith
+
 module _ (s : Shape) (l : Limited s) where
+  bit-back : headWord s / headMarkedAt % bitValues ≡ parkedWords s
+  bit-back =
+      bit-of (s .states) (s .actions) (s .observations) (parkedWords s) (omega arith) (omega arith) (omega arith) (omega (arith, parked-words s))
+
+  marked-back : headMarked (headWord s) ≡ s .marked
+  marked-back =
+      ⊎-elim (λ b. eq-eqb (headWord s / headMarkedAt % bitValues) 1 (bit-back ∙ marked-word s b) ∙ sym b)
+      (λ b. ne-eqb (headWord s / headMarkedAt % bitValues) 1 (λ e. omega (arith, e, bit-back, unmarked-word s b)) ∙ sym b)
+      (decided (s .marked))
+
   -- they are those that it was made of
   pub shape-back : shapeOf (headWord s) ≡ s
   shape-back =
       let n = s .states in
       let a = s .actions in
       let o = s .observations in
-      let states = states-of n a o (omega arith) in
-      let actions = actions-of n a o (omega arith) (omega arith) in
-      let observations = observations-of n a o (omega arith) (omega arith) (omega arith) in
-      λ i. record { states = states i; actions = actions i; observations = observations i }
+      let m = parkedWords s in
+      let states = states-of n a o m (omega arith) in
+      let actions = actions-of n a o m (omega arith) (omega arith) in
+      let observations = observations-of n a o m (omega arith) (omega arith) (omega arith) in
+      let marked = marked-back in
+      λ i. record { states = states i; actions = actions i; observations = observations i; marked = marked i }
 
   pub head-above : headWord s / headSpareAt ≡ headTop
-  head-above = omega arith
+  head-above = omega (arith, parked-words s)
 
   -- ---- words
 
@@ -60,6 +97,7 @@ module _ (s : Shape) (l : Limited s) where
   unfolding bareWord
   bare-small Start h = omega arith
   bare-small Bad h = omega arith
+  bare-small Parked h = omega arith
   bare-small (Shown j) h = omega arith
   bare-small (Move a i) h = omega arith
 
@@ -68,5 +106,6 @@ pub mask-back : (x : Place) (m : ℕ) → m < lowValues → lowField (bareWord x
 unfolding bareWord
 mask-back Start m h = omega arith
 mask-back Bad m h = omega arith
+mask-back Parked m h = omega arith
 mask-back (Shown j) m h = omega arith
 mask-back (Move a i) m h = omega arith

@@ -5,3 +5,4 @@ pub mod Layouts
 pub mod Fieldwise
 pub mod Same
 pub mod Rows
+pub mod Unmarked

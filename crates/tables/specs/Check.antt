@@ -1,4 +1,4 @@
--- The table checks (document 01, "Numbered refusals" 1 to 7 and "Order").
+-- The table checks (document 01, "Numbered refusals" 1 to 7 and "Order"; 19: document 02, change 2).
 -- Assumes nothing.
 use mathlib.Core.Bool.{Bool, cond, not, _&&_, _||_}
 use mathlib.Core.List.{List}
@@ -11,18 +11,20 @@ use Rattle.games.specs.Format.{within, maxStates, maxActions, maxObservations, 
 use Rattle.games.specs.Fields.{lowField}
 use Rattle.games.specs.Places.{shapeOf, startPlace, placeAt, tableLength}
 use Rattle.games.specs.Answers.{unless}
-use Rattle.games.specs.Game.{Game}
+use Rattle.games.specs.Game.{Game, hasSuccessor}
 use Rattle.games.specs.Words.{game}
 use Rattle.games.specs.declared.Shape.{Shape}
 use Rattle.games.specs.declared.Checked.{Checked}
 use Rattle.games.specs.declared.Checked.the-variants.{Fine, Refused}
 use Rattle.tables.specs.Layout.{shapeIn, headTop, bareWord}
+use Rattle.tables.specs.declared.Fault.{Fault}
+use Rattle.tables.specs.declared.Fault.the-variants.{Unseen, Departing}
 
 -- the numbers of states, actions and observations are within the limits
 unfoldable pub limitsHold : Shape → Bool
 limitsHold s = within (s .states) maxStates && (within (s .actions) maxActions && within (s .observations) maxObservations)
 
--- the head's kind is a table's, its spare bits are 0, and its numbers are within the limits
+-- the head's kind is a table's, its spare bits 25-27 are 0, and its numbers are within the limits
 unfoldable pub headRight : ℕ → Bool
 headRight w = eqb (w / headSpareAt) headTop && limitsHold (shapeOf w)
 
@@ -54,14 +56,31 @@ wordsChecked w = atFound (first (length w) (faulty w)) (λ p. cond (placed w p) 
 unfoldable pub unseen : Game → ℕ → Bool
 unseen g i = not (any (g .observations) (λ o. member (g .shown o) i))
 
--- 6 and 7: the start set is empty, a state shows no observation
+-- state i is parked, and has a successor under some action
+unfoldable pub departs : Game → ℕ → Bool
+departs g i = member (g .parked) i && any (g .actions) (hasSuccessor g i)
+
+-- what a state is refused for, 7 and 19
+abbrev pub faultAt : Fault → Game → ℕ → Bool
+faultAt Unseen g i = unseen g i
+faultAt Departing g i = departs g i
+
+abbrev pub faultNumber : Fault → ℕ
+faultNumber Unseen = 7
+faultNumber Departing = 19
+
+-- the lowest state that is refused for it
+unfoldable pub statesChecked : Fault → Game → Checked
+statesChecked x g = atFound (first (g .states) (faultAt x g)) (λ i. Refused (faultNumber x) i) Fine
+
+-- 6, the start set is empty; 7; 19
 unfoldable pub setsChecked : Game → Checked
 setsChecked g =
     cond (eqb (g .start) 0) (Refused 6 startPlace)
-    (atFound (first (g .states) (unseen g)) (λ i. Refused 7 i)
-    Fine)
+    (unless (statesChecked Unseen g) Refused
+    (statesChecked Departing g))
 
--- document 01's table checks; a table is accepted where the answer is `Fine`
+-- the table checks; a table is accepted where the answer is `Fine`
 unfoldable pub checked : List ℕ → Checked
 checked w =
     unless (sizeChecked w) Refused

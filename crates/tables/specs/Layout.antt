@@ -1,28 +1,29 @@
--- The word of each place of a table (document 01, "Words"), and how many words it can have.
+-- The word of each place of a table (document 01, "Words"; parked states: document 02, change 2), and how many words it can have.
 -- Assumes nothing.
 use mathlib.Core.Path.{_≡_}
 use mathlib.Core.List.{List}
 use Prim.Native.Nat.{ℕ, _+_, _*_, _/_}
 use lib.ListN.{length, getD}
-use Rattle.games.specs.Format.{maxStates, maxActions, maxObservations, kindAt, headActionsAt, headObservationsAt, headSpareAt}
-use Rattle.games.specs.Format.{kindTable, kindStart, kindBad, kindShown, kindMove}
+use Rattle.games.specs.Format.{maxObservations, maxMoves, kindAt, headActionsAt, headObservationsAt, headMarkedAt, headSpareAt}
+use Rattle.games.specs.Format.{kindTable, kindStart, kindBad, kindParked, kindShown, kindMove}
 use Rattle.games.specs.Fields.{word}
-use Rattle.games.specs.Places.{shapeOf, tableLength, Limited}
+use Rattle.games.specs.Places.{shapeOf, parkedPlace, parkedWords, tableLength, Limited}
 use Rattle.games.specs.declared.Shape.{Shape}
 use Rattle.games.specs.declared.Place.{Place}
-use Rattle.games.specs.declared.Place.the-variants.{Start, Bad, Shown, Move}
+use Rattle.games.specs.declared.Place.the-variants.{Start, Bad, Parked, Shown, Move}
 
 -- the numbers of a table's head
 abbrev pub shapeIn : List ℕ → Shape
 shapeIn w = shapeOf (getD w 0 0)
 
--- the words of the longest table
+-- the words of the longest table: those in front of the parked set, it, the observations' sets and the moves
 abbrev pub maxWords : ℕ
-maxWords = tableLength (record { states = maxStates; actions = maxActions; observations = maxObservations })
+maxWords = parkedPlace + 1 + maxObservations + maxMoves
 
--- the head for these numbers
+-- the head for these numbers, and the bit where the table marks parked states
 abbrev pub headWord : Shape → ℕ
-headWord s = kindTable * kindAt + s .observations * headObservationsAt + s .actions * headActionsAt + s .states
+headWord s =
+    kindTable * kindAt + parkedWords s * headMarkedAt + s .observations * headObservationsAt + s .actions * headActionsAt + s .states
 
 -- a head from its spare bits up: its kind, and they are 0
 abbrev pub headTop : ℕ
@@ -32,6 +33,7 @@ headTop = kindTable * kindAt / headSpareAt
 unfoldable pub bareWord : Place → ℕ
 bareWord Start = word kindStart 0 0 0
 bareWord Bad = word kindBad 0 0 0
+bareWord Parked = word kindParked 0 0 0
 bareWord (Shown j) = word kindShown 0 (j .0) 0
 bareWord (Move a i) = word kindMove 0 (i .0) (a .0)
 

@@ -11,7 +11,7 @@ ghost use Rattle.games.specs.Words.{maskAt, game};
 ghost use Rattle.tables.specs.Layout.{shapeIn, headWord, bareWord, Sized};
 ghost use Rattle.tables.specs.Walk.{walked};
 ghost use Rattle.tables.specs.Fields.{fieldsShape, masksFrom, fieldsOf, gameOf};
-ghost use Rattle.tables.specs.Check.{limitsHold, headRight, sizeChecked, placed, faulty, wordsChecked, unseen, setsChecked, checked};
+ghost use Rattle.tables.specs.Check.{limitsHold, headRight, sizeChecked, placed, faulty, wordsChecked, unseen, departs, faultAt, faultNumber, statesChecked, setsChecked, checked};
 use games::Action;
 use games::Checked;
 use games::Observation;
@@ -44,12 +44,13 @@ fn head_right(w: u32) -> bool
     (w / games::HEAD_SPARE_AT == HEAD_TOP) & limits_hold(games::shape_of(w))
 }
 
-// The head for these numbers.
+// The head for these numbers, and the bit where the table marks parked states.
 pub fn head_word(s: Shape) -> u32
     requires { ⌜ Limited s ⌝ }
     ensures { λ r. ⌜ r ≡ headWord s ⌝ }
 {
     HEAD
+        + games::parked_words(s) * games::HEAD_MARKED_AT
         + s.observations * games::HEAD_OBSERVATIONS_AT
         + s.actions * games::HEAD_ACTIONS_AT
         + s.states
@@ -126,6 +127,17 @@ pub fn bad(table: &[u32]) -> u32
     mask(table, Place::Bad)
 }
 
+// The parked states; none where the table doesn't mark them.
+pub fn parked(table: &[u32]) -> u32
+    requires { ⌜ Sized (now table) ⌝ }
+    ensures { λ r. ⌜ r ≡ game (now (table .entry)) .parked ⌝ }
+{
+    if shape_in(table).marked {
+        return mask(table, Place::Parked);
+    }
+    0
+}
+
 // The states that show the observation.
 pub fn shown(table: &[u32], seen: Observation) -> u32
     requires { ⌜ Sized (now table) × (seen .0 < game (now table) .observations) ⌝ }
@@ -142,12 +154,15 @@ pub fn successors(table: &[u32], a: Action, i: State) -> u32
     mask(table, Place::Move(a, i))
 }
 
-// The action is enabled in the state.
+// The action is enabled in the state: it has a successor there, or the state is parked.
 pub fn enabled(table: &[u32], a: Action, i: State) -> bool
     requires { ⌜ Sized (now table) × (a .0 < game (now table) .actions) × (i .0 < game (now table) .states) ⌝ }
     ensures { λ r. ⌜ r ≡ isEnabled (game (now (table .entry))) (i .0) (a .0) ⌝ }
 {
-    successors(table, a, i) != 0
+    if successors(table, a, i) != 0 {
+        return true;
+    }
+    sets::member(parked(table), i.0)
 }
 
 // How many sets there are before the first action.
@@ -200,6 +215,7 @@ pub fn bare_word(s: Shape, p: usize) -> u32
     match games::place_at(s, p) {
         Place::Start => games::word(games::KIND_START, 0, 0, 0),
         Place::Bad => games::word(games::KIND_BAD, 0, 0, 0),
+        Place::Parked => games::word(games::KIND_PARKED, 0, 0, 0),
         Place::Shown(seen) => games::word(games::KIND_SHOWN, 0, seen.0, 0),
         Place::Move(a, i) => games::word(games::KIND_MOVE, 0, i.0, a.0),
     }
@@ -243,7 +259,7 @@ fn check_words(table: &[u32]) -> Checked
     Checked::Fine
 }
 
-// The table checks, 1 to 7.
+// The table checks, 1 to 7 and 19.
 pub fn check(table: &[u32]) -> Checked
     ensures { λ r. ⌜ r ≡ checked (now (table .entry)) ⌝ }
 {
@@ -256,13 +272,16 @@ pub fn check(table: &[u32]) -> Checked
     }
 }
 
-// A table's numbers and sets. Slots of `shown` from `observations` up, and of `moves` from `actions` · `states` up, are unused.
+// A table's numbers and sets. Slots of `shown` from `observations` up, and of `moves` from `actions` · `states` up, are unused, and so is
+// `parked` where the table doesn't mark parked states.
 pub struct Fields {
     pub states: u32,
     pub actions: u32,
     pub observations: u32,
     pub start: u32,
     pub bad: u32,
+    pub marked: bool,
+    pub parked: u32,
     pub shown: [u32; SHOWN_SLOTS],
     // at action · states + state
     pub moves: [u32; MOVE_SLOTS],
@@ -276,6 +295,7 @@ pub fn fields_shape(f: Fields) -> Shape
         states: f.states,
         actions: f.actions,
         observations: f.observations,
+        marked: f.marked,
     }
 }
 
@@ -314,6 +334,8 @@ pub fn fields_of(table: &[u32]) -> Fields
         observations: s.observations,
         start: mask(table, Place::Start),
         bad: mask(table, Place::Bad),
+        marked: s.marked,
+        parked: parked(table),
         shown,
         moves,
     }
@@ -336,7 +358,71 @@ fn is_unseen(f: Fields, i: State) -> bool
     true
 }
 
-// Refusals 6 and 7.
+// State i is parked, and has a successor under some action.
+fn is_departing(f: Fields, i: State) -> bool
+    requires { ⌜ Limited (fieldsShape f) × (i .0 < f .states) ⌝ }
+    ensures { λ r. ⌜ r ≡ departs (gameOf f) (i .0) ⌝ }
+{
+    if !sets::member(f.parked, i.0) {
+        return false;
+    }
+    let n = f.states;
+    let actions = f.actions;
+    let moves = f.moves;
+    let mut a: u32 = 0;
+    while a < actions {
+        if moves[(a * n + i.0) as usize] != 0 {
+            return true;
+        }
+        a += 1;
+    }
+    false
+}
+
+// What a state is refused for.
+enum Fault {
+    // it shows no observation
+    Unseen,
+    // it is parked, and has a successor under some action
+    Departing,
+}
+
+fn fault_number(x: Fault) -> u32
+    ensures { λ r. ⌜ r ≡ faultNumber x ⌝ }
+{
+    match x {
+        Fault::Unseen => 7,
+        Fault::Departing => 19,
+    }
+}
+
+fn is_at_fault(x: Fault, f: Fields, i: State) -> bool
+    requires { ⌜ Limited (fieldsShape f) × (i .0 < f .states) ⌝ }
+    ensures { λ r. ⌜ r ≡ faultAt x (gameOf f) (i .0) ⌝ }
+{
+    match x {
+        Fault::Unseen => is_unseen(f, i),
+        Fault::Departing => is_departing(f, i),
+    }
+}
+
+// Refusal 7, and refusal 19.
+fn check_states(x: Fault, f: Fields) -> Checked
+    requires { ⌜ Limited (fieldsShape f) ⌝ }
+    ensures { λ r. ⌜ r ≡ statesChecked x (gameOf f) ⌝ }
+{
+    let n = f.states;
+    let mut i: u32 = 0;
+    while i < n {
+        if is_at_fault(x, f, State(i)) {
+            return Checked::Refused(fault_number(x), i as usize);
+        }
+        i += 1;
+    }
+    Checked::Fine
+}
+
+// Refusals 6, 7 and 19.
 pub fn check_sets(f: Fields) -> Checked
     requires { ⌜ Limited (fieldsShape f) ⌝ }
     ensures { λ r. ⌜ r ≡ setsChecked (gameOf f) ⌝ }
@@ -344,13 +430,8 @@ pub fn check_sets(f: Fields) -> Checked
     if f.start == 0 {
         return Checked::Refused(6, games::place_of(fields_shape(f), Place::Start));
     }
-    let n = f.states;
-    let mut i: u32 = 0;
-    while i < n {
-        if is_unseen(f, State(i)) {
-            return Checked::Refused(7, i as usize);
-        }
-        i += 1;
+    match check_states(Fault::Unseen, f) {
+        Checked::Refused(number, place) => Checked::Refused(number, place),
+        Checked::Fine => check_states(Fault::Departing, f),
     }
-    Checked::Fine
 }

@@ -1,4 +1,4 @@
-// Runs the rows of documents 01 and 02 and prints what each entry answers and leaves in its buffers.
+// Runs the rows of document 01 and of document 02's change 1, and prints what each entry answers and leaves in its buffers.
 use entry_rows::card_rows;
 use entry_rows::judge_rows;
 use entry_rows::list_rows;
@@ -8,7 +8,6 @@ use rows::check_rows;
 use rows::field_rows;
 
 mod run_rows;
-mod solve_rows;
 
 fn main() {
     check_rows::rows();

@@ -33,13 +33,13 @@ returns c = sym (slots-limits (c .before .before .before .args .f) (sym (limits 
 returns-2 : tie.Need-returns-2
 returns-2 c =
     let first = c .before .before .before .before in
-    let at = first .before .before .before .before .before in
+    let at = first .before .before .before .before .before .before .before in
     sym (slots-dirty (at .before .before .before .args .f) (within at) (rw (← first .unused-zero .ensures, ← c .before .unused-zero2 .ensures) (not-true _ (c .if2 .taken))))
 
 returns-3 : tie.Need-returns-3
 returns-3 c =
     let first = c .before .before .before .before in
-    let at = first .before .before .before .before .before in
+    let at = first .before .before .before .before .before .before .before in
     sym (slots-fine (at .before .before .before .args .f) (within at) (rw (← first .unused-zero .ensures, ← c .before .unused-zero2 .ensures) (not-false _ (c .if2 .left))))
 
 pub check-slots-spec : {M : Type 1} → statement M
@@ -53,8 +53,8 @@ check-slots-spec =
     (λ c. search needs)
     (λ c κs. search needs)
     (λ c. search needs)
-    (λ c. omega (arith, moves (c .before .before .before .before .before .before .before)))
-    (λ c. omega (arith, moves (c .before .before .before .before .before .before .before)))
+    (λ c. omega (arith, moves (c .before .before .before .before .before .before .before .before .before)))
+    (λ c. omega (arith, moves (c .before .before .before .before .before .before .before .before .before)))
     (λ c κs. search needs)
     returns-2
     returns-3)

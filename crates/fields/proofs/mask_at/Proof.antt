@@ -50,13 +50,16 @@ returns-2 : tie.Need-returns-2
 returns-2 c = let at = c .before .before in ap (fieldAt (at .before .before .args .f)) (sym (c .enum-told2 .given .1) ∙ there at)
 
 returns-3 : tie.Need-returns-3
-returns-3 c =
+returns-3 c = let at = c .before .before in ap (fieldAt (at .before .before .args .f)) (sym (c .enum-told3 .given .1) ∙ there at)
+
+returns-4 : tie.Need-returns-4
+returns-4 c =
     let seen = c .before .before .before in
     let at = seen .before .before in
     ap (fieldAt (at .before .before .args .f)) (sym (seen .seen .given .1) ∙ there at)
 
-returns-4 : tie.Need-returns-4
-returns-4 c =
+returns-5 : tie.Need-returns-5
+returns-5 c =
     let moved = c .before .before .before .before .before in
     let at = moved .before .before in
     ap (fieldAt (at .before .before .args .f)) (sym (moved .a .given .1) ∙ there at)
@@ -72,6 +75,7 @@ mask-at-spec =
     (λ c. search needs)
     (λ c. search needs)
     (λ c. search needs)
+    (λ c. search needs)
     array-read-result
     (λ c. search needs)
     (λ c. omega (arith, slot (c .before .before .before .before)))
@@ -82,4 +86,5 @@ mask-at-spec =
     returns
     returns-2
     returns-3
-    returns-4)
+    returns-4
+    returns-5)

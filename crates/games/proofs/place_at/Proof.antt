@@ -3,7 +3,7 @@
 use mathlib.Core.Path.{sym}
 use native.Mathlib.Omega.{arith}
 use borrow.Author.Needs.{needs}
-use Rattle.games.proofs.Places.{at-start, at-bad, at-shown, at-move}
+use Rattle.games.proofs.Places.{at-start, at-bad, at-parked, at-shown, at-move}
 use Rattle.games.proofs.place_at.Statement.{statement}
 use Rattle.games.proofs.place_at.Tie as tie
 
@@ -15,18 +15,26 @@ returns-2 c = let x = c .before .before .args in sym (at-bad (x .s) (x .p) (c .b
 
 returns-3 : tie.Need-returns-3
 returns-3 c =
-    let from = c .before in
-    let later = from .before in
+    let seen = c .before in
+    let later = seen .before in
     let x = later .before .before .args in
-    let e = from .moves-place .ensures in
-    sym (at-shown (x .s) (x .p) (later .before .if1 .left) (later .if2 .left) (omega arith))
+    let e = seen .shown-place .ensures in
+    sym (at-parked (x .s) (x .p) (later .before .if1 .left) (later .if2 .left) (omega arith))
 
 returns-4 : tie.Need-returns-4
 returns-4 c =
+    let from = c .before in
+    let seen = from .before .before in
+    let x = seen .before .before .before .args in
+    let e = from .moves-place .ensures in
+    let f = seen .shown-place .ensures in
+    rw f (sym (at-shown (x .s) (x .p) (omega arith) (omega arith)))
+
+returns-5 : tie.Need-returns-5
+returns-5 c =
     let from = c .before .before .before in
-    let later = from .before in
-    let x = later .before .before .args in
-    rw (from .moves-place .ensures) (sym (at-move (x .s) (x .p) (later .before .if1 .left) (later .if2 .left) (omega arith)))
+    let x = from .before .before .before .before .before .args in
+    rw (from .moves-place .ensures) (sym (at-move (x .s) (x .p) (omega arith)))
 
 pub place-at-spec : {M : Type 1} → statement M
 place-at-spec =
@@ -35,10 +43,11 @@ place-at-spec =
     returns
     returns-2
     (λ c κs. search needs)
-    (λ c. search needs)
-    (λ c. search needs)
     returns-3
+    (λ c κs. search needs)
+    (λ c. search needs)
+    returns-4
     (λ c. search needs)
     (λ c. search needs)
     (λ c. search needs)
-    returns-4)
+    returns-5)

@@ -5,6 +5,7 @@ use Prim.Native.Nat.{_*_, _≤_}
 use native.Mathlib.Omega.{arith}
 use borrow.Author.Needs.{needs}
 use Rattle.games.specs.Format.{maxMoves}
+use Rattle.games.specs.Words.{game}
 use Rattle.games.proofs.Limits.{moves-below}
 use Rattle.games.proofs.Places.{shown-row, moves-row}
 use Rattle.tables.specs.Layout.{shapeIn}
@@ -36,14 +37,15 @@ copy-masks-requires-2 c κs =
     rw (at .place-in2 .ensures) (rw (numbers .shape-in .ensures) (omega (arith, inside, start .pre .long)), few numbers)
 
 returns : tie.Need-returns
+unfolding game
 returns c =
-    let second = c .before .before .before in
+    let second = c .before .before .before .before in
     let moved = second .before .before .before in
     let first = moved .before .before in
     let at = first .before .before .before in
     let numbers = at .before in
     fields-are (numbers .before .before .args .table .now) _ (numbers .shape-in .result) (numbers .shape-in .ensures) refl
-    _ _ (c .before .mask .ensures) (c .mask2 .ensures) (at .place-in .ensures) (first .copy-masks .ensures) (moved .place-in2 .ensures) (second .copy-masks2 .ensures)
+    _ _ (c .before .before .mask .ensures) (c .before .mask2 .ensures) (c .parked .ensures) (at .place-in .ensures) (first .copy-masks .ensures) (moved .place-in2 .ensures) (second .copy-masks2 .ensures)
 
 pub fields-of-spec : {M : Type 1} → statement M
 fields-of-spec =
@@ -59,6 +61,7 @@ fields-of-spec =
     (λ c. omega (arith, few (c .before .before .before .before .before .before .before)))
     (λ c. search needs)
     copy-masks-requires-2
+    (λ c κs. search needs)
     (λ c κs. search needs)
     (λ c κs. search needs)
     returns)

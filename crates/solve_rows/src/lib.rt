@@ -45,7 +45,7 @@ fn print_work(work: &[u32]) {
     say(b" kept, card");
 }
 
-fn solve(name: &[u8], table: &[u32], work: &mut [u32], card: &mut [u32]) {
+pub fn solve(name: &[u8], table: &[u32], work: &mut [u32], card: &mut [u32]) {
     say(b"solve ");
     say(name);
     say(b" work ");
@@ -58,7 +58,7 @@ fn solve(name: &[u8], table: &[u32], work: &mut [u32], card: &mut [u32]) {
 }
 
 // Work for three states, and eight words behind it.
-fn solve_40(name: &[u8], table: &[u32]) {
+pub fn solve_40(name: &[u8], table: &[u32]) {
     let mut work = [GUARD; 40];
     let mut card = [GUARD; 10];
     solve(name, table, &mut work, &mut card);

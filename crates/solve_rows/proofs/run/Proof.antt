@@ -3,8 +3,8 @@
 use borrow.Author.Needs.{needs}
 use Prim.Native.Nat.{_-_, _≤_}
 use lib.ListN.{length}
-use Rattle.vectors.proofs.solve_rows.run.Statement.{statement}
-use Rattle.vectors.proofs.solve_rows.run.Tie as tie
+use Rattle.solve_rows.proofs.run.Statement.{statement}
+use Rattle.solve_rows.proofs.run.Tie as tie
 
 abbrev Inv-loop : tie.InvT-loop
 Inv-loop words from value i₀ count₀ i count = count ≤ i
