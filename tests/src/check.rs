@@ -16,9 +16,10 @@ fn shown(game: &Game, state: usize) -> impl Iterator<Item = usize> + '_ {
     (0..game.o).filter(move |&r| game.showing(r, state))
 }
 
-/// The state is not bad and the action is open in it: the round is survived.
+/// The round is survived: the state is not bad, and the play has ended well in it or the action leads on.
 fn survived(game: &Game, state: usize, action: u32) -> bool {
-    !game.is_bad(state) && (action as usize) < game.a && game.open(action as usize, state)
+    let ended_well = game.is_parked(state);
+    !game.is_bad(state) && (action as usize) < game.a && (ended_well || game.moves[action as usize][state] != 0)
 }
 
 /// Plays every play, of any length, under the runner's actions: each round must be survived and no

@@ -37,11 +37,15 @@ struct Layout {
     o: usize,
     start: u16,
     bad: u16,
+    /// None where the table does not mark them.
+    parked: u16,
+    /// The place of the first move word.
+    front: usize,
     shows: [u16; 8],
     /// The observations that are not within another: they decide the step.
     widest: [u16; 8],
     widest_count: usize,
-    /// For each action the states where it is open.
+    /// For each action the states where it is open: where it has a successor, and the parked ones.
     enabled: [u16; 8],
     /// For each action the successors of a set of the states 0 to 5, and of the states 6 to 11.
     low: [[u16; 64]; 8],
@@ -56,6 +60,8 @@ impl Layout {
             o: 0,
             start: 0,
             bad: 0,
+            parked: 0,
+            front: 0,
             shows: [0; 8],
             widest: [0; 8],
             widest_count: 0,
@@ -68,10 +74,11 @@ impl Layout {
     /// The table checks in their order.
     fn read(&mut self, table: &[u32]) -> Result<(), (u32, usize)> {
         let shown = self.read_front(table)?;
+        let mut moving = 0;
         for c in 0..self.a {
-            self.read_action(table, c)?;
+            moving |= self.read_action(table, c)?;
         }
-        self.check_sets(shown)?;
+        self.check_sets(shown, moving)?;
         self.find_widest();
         Ok(())
     }
@@ -81,34 +88,41 @@ impl Layout {
     fn read_front(&mut self, table: &[u32]) -> Result<u16, (u32, usize)> {
         let &head = table.first().ok_or((1, 0))?;
         let [n, a, o, top] = head.to_le_bytes().map(usize::from);
-        let fits = top == 0x10 && n.wrapping_sub(1) < 12 && a.wrapping_sub(1) < 8 && o.wrapping_sub(1) < 8;
+        let fits = top & !1 == 0x10 && n.wrapping_sub(1) < 12 && a.wrapping_sub(1) < 8 && o.wrapping_sub(1) < 8;
         if !fits {
             return Err((2, 0));
         }
-        if table.len() != 3 + o + a * n {
+        let marked = top & 1;
+        let shows_from = 3 + marked;
+        self.front = shows_from + o;
+        if table.len() != self.front + a * n {
             return Err((3, table.len()));
         }
         (self.n, self.a, self.o) = (n, a, o);
         self.start = self.mask(table, 1, 0x2000)?;
         self.bad = self.mask(table, 2, 0x3000)?;
+        self.parked = if marked == 1 { self.mask(table, 3, 0x6000)? } else { 0 };
         let mut shown = 0;
         for r in 0..o {
-            self.shows[r] = self.mask(table, 3 + r, 0x4000 | r as u32)?;
+            self.shows[r] = self.mask(table, shows_from + r, 0x4000 | r as u32)?;
             shown |= self.shows[r];
         }
         Ok(shown)
     }
 
-    /// What comes after all words: 6 and 7.
+    /// What comes after all words: 6, 7 and 19, by the states that show anything and those that move on.
     #[inline(always)]
-    fn check_sets(&self, shown: u16) -> Result<(), (u32, usize)> {
+    fn check_sets(&self, shown: u16, moving: u16) -> Result<(), (u32, usize)> {
         if self.start == 0 {
             return Err((6, 1));
         }
         if shown != full(self.n) {
             return Err((7, shown.trailing_ones() as usize));
         }
-        Ok(())
+        match moving & self.parked {
+            0 => Ok(()),
+            wrong => Err((19, wrong.trailing_zeros() as usize)),
+        }
     }
 
     /// The mask of a word whose upper half must be as given.
@@ -123,27 +137,28 @@ impl Layout {
         Ok(word as u16)
     }
 
-    /// The successors of each state under an action, and the states where it is open.
+    /// The successors of each state under an action, and the states that have any.
     #[inline(always)]
     fn read_row(&self, table: &[u32], c: usize) -> Result<([u16; 12], u16), (u32, usize)> {
-        let (mut row, mut enabled) = ([0; 12], 0);
+        let (mut row, mut moving) = ([0; 12], 0);
         for state in 0..self.n {
-            let place = 3 + self.o + c * self.n + state;
+            let place = self.front + c * self.n + state;
             row[state] = self.mask(table, place, 0x5000 | (c as u32) << 4 | state as u32)?;
-            enabled |= u16::from(row[state] != 0) << state;
+            moving |= u16::from(row[state] != 0) << state;
         }
-        Ok((row, enabled))
+        Ok((row, moving))
     }
 
-    fn read_action(&mut self, table: &[u32], c: usize) -> Result<(), (u32, usize)> {
-        let (row, enabled) = self.read_row(table, c)?;
-        self.enabled[c] = enabled;
+    /// Lays out an action; the states that move on under it.
+    fn read_action(&mut self, table: &[u32], c: usize) -> Result<u16, (u32, usize)> {
+        let (row, moving) = self.read_row(table, c)?;
+        self.enabled[c] = moving | self.parked;
         for half in 1..64usize {
             let (rest, lowest) = (half & (half - 1), half.trailing_zeros() as usize);
             self.low[c][half] = self.low[c][rest] | row[lowest];
             self.high[c][half] = self.high[c][rest] | row[lowest + 6];
         }
-        Ok(())
+        Ok(moving)
     }
 
     /// Successors that show less are good where those that show more are.
@@ -790,11 +805,13 @@ impl CardJudge {
     /// Whether the card is accepted, or number and place of a refusal.
     pub fn judge(&mut self, table: &[u32], card: &[u32]) -> Result<(), (u32, usize)> {
         let shown = self.layout.read_front(table)?;
+        let (bad, parked, mut any) = (self.layout.bad, self.layout.parked, 0);
         for c in 0..self.layout.a {
-            let (row, enabled) = self.layout.read_row(table, c)?;
-            (self.moves[c], self.lost[c]) = (row, self.layout.bad | !enabled);
+            let (row, moving) = self.layout.read_row(table, c)?;
+            (self.moves[c], self.lost[c]) = (row, bad | !(moving | parked));
+            any |= moving;
         }
-        self.layout.check_sets(shown)?;
+        self.layout.check_sets(shown, any)?;
         let (cells, o, a) = Rows::head(card)?;
         if (a as usize, o) != (self.layout.a, self.layout.o) {
             Rows::check(card)?;

@@ -1,4 +1,5 @@
-//! The game of an accepted table (document 01, "The game" and "The step on sets"), written plainly.
+//! The game of an accepted table (document 01, "The game" and "The step on sets"; document 02, change 2),
+//! written plainly.
 //!
 //! Two ways to the verdict stand here side by side: `verdict` explores the knowledge sets that can
 //! come up from the start, `families` follows the definition "good for k" over all sets. Neither
@@ -6,7 +7,7 @@
 
 use std::collections::HashMap;
 
-/// A game of imperfect information with a set of bad states.
+/// A game of imperfect information with a set of bad states and, where they are marked, of parked ones.
 #[derive(Clone, PartialEq, Eq, Debug)]
 pub struct Game {
     /// Number of states, actions and observations.
@@ -15,6 +16,8 @@ pub struct Game {
     pub o: usize,
     pub start: u32,
     pub bad: u32,
+    /// The parked states; nothing where the table does not mark them.
+    pub parked: Option<u32>,
     /// For each observation, the states that show it.
     pub shows: Vec<u32>,
     /// `moves[action][state]`: the successors; empty where the action is blocked.
@@ -36,9 +39,14 @@ pub fn subset(small: u32, large: u32) -> bool {
 }
 
 impl Game {
-    /// The action has a successor in this state.
+    /// The state is parked: where it is not bad, the play has ended well.
+    pub fn is_parked(&self, state: usize) -> bool {
+        self.parked.is_some_and(|parked| parked >> state & 1 == 1)
+    }
+
+    /// The action has a successor in this state, or the state is parked: there every action counts as open.
     pub fn open(&self, action: usize, state: usize) -> bool {
-        self.moves[action][state] != 0
+        self.is_parked(state) || self.moves[action][state] != 0
     }
 
     /// The action is open at every member of the set.

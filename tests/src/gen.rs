@@ -1,7 +1,7 @@
 //! Random numbers, tables of several shapes, lists, cards, plays, and damage to words.
 
 use crate::game::{members, subset, Game};
-use crate::oracle::{card_words, table_words, Card, Cell, Fields, MAX_CELLS, MAX_STATES, NO_CELL};
+use crate::oracle::{card_words, table_words, Card, Cell, Fields, MAX_CELLS, MAX_STATES, NO_CELL, PARKED_BIT};
 
 /// splitmix64.
 #[derive(Clone)]
@@ -98,8 +98,73 @@ pub const SHAPES: [Shape; 10] = [
     Shape::Uniform,
 ];
 
-/// A random game of this shape with at most this many states, actions and observations.
+/// A random game of this shape with at most this many states, actions and observations; a third of them mark
+/// parked states.
 pub fn game(rng: &mut Rng, shape: Shape, n: usize, a: usize, o: usize) -> Game {
+    let game = unmarked_game(rng, shape, n, a, o);
+    match rng.below(3) {
+        0 => parking(rng, game),
+        _ => game,
+    }
+}
+
+/// The game with parked states marked, of which some are bad too; their moves are cleared. Now and then none is
+/// parked.
+pub fn parking(rng: &mut Rng, game: Game) -> Game {
+    let share = rng.pick(&[1, 10, 25, 60]);
+    let mut parked = match rng.percent(20) {
+        true => 0,
+        false => rng.some_set(game.n, share),
+    };
+    if rng.percent(30) {
+        parked |= (0..game.n).filter(|&state| blocked(&game, state)).fold(0, |set, state| set | 1 << state);
+    }
+    let lost = if rng.percent(15) { parked & rng.set(game.n, 40) } else { 0 };
+    Game { parked: Some(parked), bad: game.bad | lost, ..ended(game, parked) }
+}
+
+/// The game with every action blocked in these states.
+fn ended(mut game: Game, states: u32) -> Game {
+    for row in &mut game.moves {
+        members(states).for_each(|state| row[state] = 0);
+    }
+    game
+}
+
+/// The game with every action blocked in some more states, so that parking one of them may win a round or the game.
+pub fn with_ends(rng: &mut Rng, game: Game) -> Game {
+    let states = rng.set(game.n, 35);
+    ended(game, states)
+}
+
+/// No action leads on from the state.
+pub fn blocked(game: &Game, state: usize) -> bool {
+    game.moves.iter().all(|row| row[state] == 0)
+}
+
+/// The game with moves from one or two parked states, which no table may have.
+pub fn moving_on(rng: &mut Rng, mut game: Game) -> Game {
+    for _ in 0..rng.within(1, 2) {
+        let (action, state) = (rng.below(game.a), rng.below(game.n));
+        if blocked(&game, state) || rng.percent(30) {
+            game.moves[action][state] = rng.some_set(game.n, 30);
+        }
+        game.parked = Some(game.parked.unwrap_or(0) | 1 << state);
+    }
+    game
+}
+
+/// The same as a table without the bit could say it: each parked state moves to itself under every action.
+pub fn painted(game: &Game) -> Game {
+    let mut painted = Game { parked: None, ..game.clone() };
+    for row in &mut painted.moves {
+        members(game.parked.unwrap_or(0)).for_each(|state| row[state] = 1 << state);
+    }
+    painted
+}
+
+/// A random game of this shape that marks no parked states.
+pub fn unmarked_game(rng: &mut Rng, shape: Shape, n: usize, a: usize, o: usize) -> Game {
     if shape == Shape::Counter && n >= 2 {
         return shaken_counter(rng, n);
     }
@@ -123,7 +188,7 @@ pub fn game(rng: &mut Rng, shape: Shape, n: usize, a: usize, o: usize) -> Game {
         clear if rng.percent(90) => clear,
         _ => start,
     };
-    Game { n, a, o, start, bad, shows, moves }
+    Game { n, a, o, start, bad, parked: None, shows, moves }
 }
 
 /// The successors of every state under one action.
@@ -196,7 +261,7 @@ pub fn counter(n: usize) -> Game {
     let moves = (0..bits).map(|c| (0..n).map(|state| counter_move(c, state / 2, state % 2, state)).collect());
     let moves: Vec<Vec<u32>> = moves.collect();
     let start = (0..bits).fold(0, |set, i| set | 1 << (2 * i));
-    Game { n, a: bits, o: 1, start, bad: 0, shows: vec![(1 << n) - 1], moves }
+    Game { n, a: bits, o: 1, start, bad: 0, parked: None, shows: vec![(1 << n) - 1], moves }
 }
 
 fn counter_move(c: usize, bit: usize, value: usize, state: usize) -> u32 {
@@ -238,7 +303,7 @@ pub fn ring(n: usize, blocked: &[u32], o: usize) -> Game {
         _ => 0,
     };
     let moves = blocked.iter().map(|&set| (0..n).map(|state| next(set, state)).collect()).collect();
-    Game { n, a: blocked.len(), o, start: 1, bad: 0, shows: vec![(1 << n) - 1; o], moves }
+    Game { n, a: blocked.len(), o, start: 1, bad: 0, parked: None, shows: vec![(1 << n) - 1; o], moves }
 }
 
 /// Blocked sets found by search for which the ring of twelve states settles at 498 cells.
@@ -248,10 +313,11 @@ pub const WIDE_RING: [u32; 8] = [0x044, 0x089, 0xE00, 0x500, 0x024, 0x070, 0x202
 pub fn changed(rng: &mut Rng, game: &Game) -> Game {
     let (mut game, state) = (game.clone(), 1 << rng.below(game.n));
     let (action, from, r) = (rng.below(game.a), rng.below(game.n), rng.below(game.o));
-    match rng.below(6) {
+    match rng.below(7) {
         0 => game.start ^= state,
         1 => game.bad ^= state,
         2 => game.shows[r] ^= state,
+        3 => game.parked = Some(game.parked.unwrap_or(0) ^ state),
         _ => game.moves[action][from] ^= state,
     }
     game
@@ -336,8 +402,17 @@ fn numbered(pairs: &mut Vec<(usize, u32)>, named: &[Option<usize>], sets: Vec<u3
 
 /// A game in which every set of states is good: nothing is bad, and action 0 is never blocked.
 pub fn open_game(rng: &mut Rng, n: usize, a: usize, o: usize) -> Game {
-    let mut game = game(rng, Shape::Sparse, n, a, o);
-    game.moves[0].iter_mut().filter(|set| **set == 0).for_each(|set| *set = 1);
+    let game = game(rng, Shape::Sparse, n, a, o);
+    opened(game)
+}
+
+/// The game with nothing bad, and action 0 leading on wherever it is blocked.
+pub fn opened(mut game: Game) -> Game {
+    for state in 0..game.n {
+        if !game.open(0, state) {
+            game.moves[0][state] = 1;
+        }
+    }
     Game { bad: 0, ..game }
 }
 
@@ -417,12 +492,15 @@ pub fn card_for(rng: &mut Rng, game: &Game, solved: Option<&Card>) -> Vec<u32> {
     }
 }
 
-/// The observations of a random play under the card of its game.
+/// The observations of a random play under the card of its game, fewer where the play ends in a parked state.
 pub fn play(rng: &mut Rng, game: &Game, card: &Card, length: usize) -> Vec<u32> {
     let (mut states, mut targets) = (game.start, &card.first);
     let mut observations = Vec::new();
     for _ in 0..length {
         let in_play: Vec<usize> = members(states).collect();
+        if in_play.is_empty() {
+            break;
+        }
         let state = rng.pick(&in_play);
         let shown: Vec<usize> = (0..game.o).filter(|&r| game.showing(r, state)).collect();
         let r = rng.pick(&shown);
@@ -449,14 +527,16 @@ pub fn walk(rng: &mut Rng, card: &Card, length: usize) -> Vec<u32> {
     observations
 }
 
-/// Damages words: a bit flipped, a word cut, added, replaced, swapped or pushed by a little.
+/// Damages words: a bit flipped, a word cut, added, replaced, swapped or pushed by a little, or what marks the
+/// parked states of a table changed.
 pub fn damage(rng: &mut Rng, words: &mut Vec<u32>) {
     if words.is_empty() {
         words.push(rng.word());
         return;
     }
     let place = rng.below(words.len());
-    match rng.below(12) {
+    match rng.below(13) {
+        12 if words.len() > 4 => damage_parked(rng, words),
         0..=4 => words[place] ^= 1 << rng.below(32),
         5 => {
             words.remove(place);
@@ -482,10 +562,34 @@ pub fn damage(rng: &mut Rng, words: &mut Vec<u32>) {
     }
 }
 
-/// Damages fields: a number, a mask or a slot, used or not, gets another value.
+/// Damages what marks the parked states: the head's bit and those beside it, the word and its mask. Where bit and
+/// word come or go together, the table may be right.
+fn damage_parked(rng: &mut Rng, words: &mut Vec<u32>) {
+    let marked = words[0] & PARKED_BIT != 0;
+    let n = rng.within(1, MAX_STATES + 1);
+    let (mask, other_kind) = (rng.set(n, 30), rng.pick(&[3, 4, 5, 7, 14]) << 28);
+    match rng.below(6) {
+        0 => words[0] ^= PARKED_BIT,
+        1 => words[0] ^= PARKED_BIT << rng.within(1, 3),
+        2 | 3 if marked => {
+            words[0] ^= PARKED_BIT;
+            words.remove(3);
+        }
+        2 | 3 => {
+            words[0] ^= PARKED_BIT;
+            words.insert(3, 6 << 28 | mask);
+        }
+        4 => words[3] = 6 << 28 | mask,
+        _ => words[3] = other_kind | words[3] & 0xFFFF,
+    }
+}
+
+/// Damages fields: a number, a mask or a slot, used or not, gets another value, or the bit changes.
 pub fn damage_fields(rng: &mut Rng, fields: &mut Fields) {
     let (shown, moved) = (rng.below(fields.observations.len()), rng.below(fields.moves.len()));
-    let field = match rng.below(8) {
+    let field = match rng.below(10) {
+        8 => return fields.parked_marked ^= true,
+        9 => &mut fields.parked,
         0 => &mut fields.n,
         1 => &mut fields.a,
         2 => &mut fields.o,

@@ -132,8 +132,9 @@ impl Buffers {
             Call::Rewrite { .. } => archive::rewrite(input(0), out, answer),
             Call::CheckTable { .. } => archive::check_table(input(0), answer),
             Call::CheckCard { .. } => archive::check_card(input(0), answer),
-            Call::Write { fields: &Fields { n, a, o, start, bad, .. }, .. } => {
-                archive::write(n, a, o, start, bad, slots(input(0)), slots(input(1)), out, answer)
+            Call::Write { fields: &Fields { n, a, o, start, bad, parked_marked, parked, .. }, .. } => {
+                let (shown, moves) = (slots(input(0)), slots(input(1)));
+                archive::write(n, a, o, start, bad, parked_marked, parked, shown, moves, out, answer)
             }
             Call::Open { observation, .. } => archive::open(input(0), observation, answer),
             Call::Step { cell, observation, .. } => archive::step(input(0), cell, observation, answer),

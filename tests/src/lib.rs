@@ -3,14 +3,17 @@
 //!
 //! - `game`, `oracle`: the game, the words, the entries and their refusals, as plain as can be;
 //! - `check`: checkers of verdicts by playing and by searching for strategies;
+//! - `finished`: what document 02's change 2 says of all tables with parked states;
 //! - `fast`: a quick solver, lists, judges and runner for the benchmark;
 //! - `gen`: random tables, lists, cards, plays and damage;
-//! - `stations`: the inputs and answers that document 01 itself gives, and judged cards;
+//! - `stations`: the inputs and answers that document 01 itself gives, judged cards, and stations with parked
+//!   states;
 //! - `archive`, `guard`, `stack` (only with the feature `archive`): the proved archive by the raw layer
 //!   of the crate in `rust/`, called with guard words around every buffer, and its stack measured.
 
 pub mod check;
 pub mod fast;
+pub mod finished;
 pub mod game;
 pub mod gen;
 pub mod oracle;

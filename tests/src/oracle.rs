@@ -1,5 +1,5 @@
-//! The entries of document 01 and of document 02's change 1 as a plain independent model: words, checks,
-//! refusals in their order, and what becomes of every lent word.
+//! The entries of document 01 and of document 02's changes 1 and 2 as a plain independent model: words,
+//! checks, refusals in their order, and what becomes of every lent word.
 
 use crate::game::{self, members, subset, Game};
 use std::fmt;
@@ -36,9 +36,18 @@ fn kind(number: u32) -> u32 {
 
 // ---- Tables ------------------------------------------------------------------------------------
 
-/// The words of a table: head, start, bad, one per observation, one per action and state.
-pub fn table_length(n: usize, a: usize, o: usize) -> usize {
-    3 + o + a * n
+/// The bit of the head that says that the table marks parked states.
+pub const PARKED_BIT: u32 = 1 << 24;
+
+/// The words in front of the moves: head, start, bad, the parked states where they are marked, one per
+/// observation.
+fn front_length(o: usize, marked: bool) -> usize {
+    3 + usize::from(marked) + o
+}
+
+/// The words of a table: those in front, and one per action and state.
+pub fn table_length(n: usize, a: usize, o: usize, marked: bool) -> usize {
+    front_length(o, marked) + a * n
 }
 
 /// The words a solve needs to work in.
@@ -46,23 +55,21 @@ pub fn work_length(n: usize) -> usize {
     4 << n
 }
 
-/// The word at a place of a table, but for its mask.
-fn table_frame(n: usize, o: usize, place: usize) -> u32 {
-    match place {
-        1 => kind(2),
-        2 => kind(3),
-        _ if place < 3 + o => kind(4) | ((place - 3) as u32) << 16,
-        _ => {
-            let (action, state) = ((place - 3 - o) / n, (place - 3 - o) % n);
-            kind(5) | (state as u32) << 16 | (action as u32) << 20
-        }
-    }
+/// The words of a table behind its head, but for their masks.
+fn table_frames(n: usize, a: usize, o: usize, marked: bool) -> Vec<u32> {
+    let mut frames = vec![kind(2), kind(3)];
+    frames.extend(marked.then_some(kind(6)));
+    frames.extend((0..o as u32).map(|observation| kind(4) | observation << 16));
+    let moved = |action: u32| (0..n as u32).map(move |state| kind(5) | state << 16 | action << 20);
+    frames.extend((0..a as u32).flat_map(moved));
+    frames
 }
 
-/// n, a and o of a head word, or nothing where it is wrong.
-fn table_head(head: u32) -> Option<(usize, usize, usize)> {
+/// n, a and o of a head word and whether parked states are marked, or nothing where the word is wrong.
+fn table_head(head: u32) -> Option<(usize, usize, usize, bool)> {
     let (n, a, o) = (field(head, 0, 8), field(head, 8, 8), field(head, 16, 8));
-    (field(head, 24, 8) == 0x10 && sizes_fit(n, a, o)).then_some((n, a, o))
+    let (marked, spare) = (field(head, 24, 1) == 1, field(head, 25, 3));
+    (field(head, 28, 4) == 1 && spare == 0 && sizes_fit(n, a, o)).then_some((n, a, o, marked))
 }
 
 fn sizes_fit(n: usize, a: usize, o: usize) -> bool {
@@ -71,13 +78,18 @@ fn sizes_fit(n: usize, a: usize, o: usize) -> bool {
         && (1..=MAX_OBSERVATIONS).contains(&o)
 }
 
-/// Refusals 6 and 7: an empty start, a state that shows nothing.
-fn check_meaning(n: usize, start: u32, shows: &[u32]) -> Result<(), Refusal> {
-    if start == 0 {
+/// Refusals 6, 7 and 19: an empty start, a state that shows nothing, a parked state with a successor.
+fn check_meaning(game: &Game) -> Result<(), Refusal> {
+    if game.start == 0 {
         return refuse(6, 1);
     }
-    match (0..n).find(|state| shows.iter().all(|set| set >> state & 1 == 0)) {
-        Some(state) => refuse(7, state),
+    let shown = |state: usize| (0..game.o).any(|observation| game.showing(observation, state));
+    if let Some(state) = (0..game.n).find(|&state| !shown(state)) {
+        return refuse(7, state);
+    }
+    let moves_on = |state: usize| game.moves.iter().any(|row| row[state] != 0);
+    match (0..game.n).find(|&state| game.is_parked(state) && moves_on(state)) {
+        Some(state) => refuse(19, state),
         None => Ok(()),
     }
 }
@@ -87,34 +99,39 @@ pub fn read_table(words: &[u32]) -> Result<Game, Refusal> {
     let Some(&head) = words.first() else {
         return refuse(1, 0);
     };
-    let Some((n, a, o)) = table_head(head) else {
+    let Some((n, a, o, marked)) = table_head(head) else {
         return refuse(2, 0);
     };
-    if words.len() != table_length(n, a, o) {
+    if words.len() != table_length(n, a, o, marked) {
         return refuse(3, words.len());
     }
-    for (place, &word) in words.iter().enumerate().skip(1) {
-        if word & 0xFFFF_0000 != table_frame(n, o, place) {
+    for (place, frame) in (1..).zip(table_frames(n, a, o, marked)) {
+        if words[place] & 0xFFFF_0000 != frame {
             return refuse(4, place);
         }
-        if word & 0xFFFF >= 1 << n {
+        if words[place] & 0xFFFF >= 1 << n {
             return refuse(5, place);
         }
     }
     let masks: Vec<u32> = words.iter().map(|word| word & 0xFFFF).collect();
-    let shows = masks[3..3 + o].to_vec();
-    check_meaning(n, masks[1], &shows)?;
-    let moves = masks[3 + o..].chunks(n).map(|row| row.to_vec()).collect();
-    Ok(Game { n, a, o, start: masks[1], bad: masks[2], shows, moves })
+    let (front, moves) = masks.split_at(front_length(o, marked));
+    let shows = front[front.len() - o..].to_vec();
+    let moves = moves.chunks(n).map(|row| row.to_vec()).collect();
+    let game = Game { n, a, o, start: front[1], bad: front[2], parked: marked.then(|| front[3]), shows, moves };
+    check_meaning(&game)?;
+    Ok(game)
 }
 
 /// The words of a game, whatever its masks.
 pub fn table_words(game: &Game) -> Vec<u32> {
-    let head = kind(1) | (game.o as u32) << 16 | (game.a as u32) << 8 | game.n as u32;
-    let masks = [game.start, game.bad].into_iter();
+    let marked = game.parked.is_some();
+    let bit = if marked { PARKED_BIT } else { 0 };
+    let head = kind(1) | bit | (game.o as u32) << 16 | (game.a as u32) << 8 | game.n as u32;
+    let masks = [game.start, game.bad].into_iter().chain(game.parked);
     let masks = masks.chain(game.shows.iter().copied());
     let masks = masks.chain(game.moves.iter().flatten().copied());
-    let framed = masks.zip(1..).map(|(mask, place)| table_frame(game.n, game.o, place) | mask);
+    let frames = table_frames(game.n, game.a, game.o, marked);
+    let framed = frames.into_iter().zip(masks).map(|(frame, mask)| frame | mask);
     [head].into_iter().chain(framed).collect()
 }
 
@@ -126,6 +143,9 @@ pub struct Fields {
     pub o: u32,
     pub start: u32,
     pub bad: u32,
+    /// Whether parked states are marked; without it the mask is an unused slot.
+    pub parked_marked: bool,
+    pub parked: u32,
     pub observations: [u32; MAX_OBSERVATIONS],
     /// At action · n + state.
     pub moves: [u32; MAX_ACTIONS * MAX_STATES],
@@ -143,6 +163,8 @@ pub fn fields_of(game: &Game) -> Fields {
         o: game.o as u32,
         start: game.start,
         bad: game.bad,
+        parked_marked: game.parked.is_some(),
+        parked: game.parked.unwrap_or(0),
         observations: [0; MAX_OBSERVATIONS],
         moves: [0; MAX_ACTIONS * MAX_STATES],
     };
@@ -151,7 +173,7 @@ pub fn fields_of(game: &Game) -> Fields {
     fields
 }
 
-/// Write: fields as words, refused by 2, 11, 5, 6, 7 and 10 in this order.
+/// Write: fields as words, refused by 2, 11, 5, 6, 7, 19 and 10 in this order.
 pub fn write_fields(fields: &Fields, room: usize) -> Result<Vec<u32>, Refusal> {
     let (n, a, o) = (fields.n as usize, fields.a as usize, fields.o as usize);
     if !sizes_fit(n, a, o) {
@@ -159,16 +181,20 @@ pub fn write_fields(fields: &Fields, room: usize) -> Result<Vec<u32>, Refusal> {
     }
     let (shows, spare_shows) = fields.observations.split_at(o);
     let (moves, spare_moves) = fields.moves.split_at(a * n);
-    if spare_shows.iter().chain(spare_moves).any(|&slot| slot != 0) {
+    let (parked, spare_parked) = match fields.parked_marked {
+        true => (Some(fields.parked), None),
+        false => (None, Some(fields.parked)),
+    };
+    if spare_shows.iter().chain(spare_moves).chain(&spare_parked).any(|&slot| slot != 0) {
         return refuse(11, 0);
     }
-    let masks = [&[fields.start, fields.bad], shows, moves].concat();
+    let masks = [&[fields.start, fields.bad], parked.as_slice(), shows, moves].concat();
     if let Some(index) = masks.iter().position(|&mask| mask >= 1 << n) {
         return refuse(5, index + 1);
     }
-    check_meaning(n, fields.start, shows)?;
     let moves = moves.chunks(n).map(|row| row.to_vec()).collect();
-    let game = Game { n, a, o, start: fields.start, bad: fields.bad, shows: shows.to_vec(), moves };
+    let game = Game { n, a, o, start: fields.start, bad: fields.bad, parked, shows: shows.to_vec(), moves };
+    check_meaning(&game)?;
     let words = table_words(&game);
     if room < words.len() {
         return refuse(10, words.len());
@@ -340,7 +366,7 @@ fn read_pair(table: &[u32], card: &[u32]) -> Result<(Game, Card), Refusal> {
 pub fn show(table: &[u32], card: &[u32], cell: u32) -> Result<(usize, usize), Refusal> {
     let (game, card) = read_pair(table, card)?;
     match card.cells.get(cell as usize) {
-        Some(cell) => Ok((3 + game.o + cell.action * game.n, game.n)),
+        Some(cell) => Ok((front_length(game.o, game.parked.is_some()) + cell.action * game.n, game.n)),
         None => refuse(12, cell as usize),
     }
 }

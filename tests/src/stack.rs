@@ -14,7 +14,7 @@ const PATTERN: u64 = 0xA5A5_5A5A_C3C3_3C3C;
 const DEPTH: usize = 1 << 15;
 /// Arguments that are passed in registers, and on the stack.
 const IN_REGISTERS: usize = 6;
-const ON_STACK: usize = 4;
+const ON_STACK: usize = 6;
 
 /// A function of the archive by name and address, and its arguments in order.
 struct Machine {
@@ -95,9 +95,10 @@ fn machine(call: &Call, rooms: &mut Rooms) -> Option<Machine> {
     Some(match *call {
         Call::CheckTable { table } => machine!(kirdanzug_check_table, pair(table), answer),
         Call::CheckCard { card } => machine!(kirdanzug_check_card, pair(card), answer),
-        Call::Write { fields: Fields { n, a, o, start, bad, observations, moves }, .. } => {
+        Call::Write { fields: Fields { n, a, o, start, bad, parked_marked, parked, observations, moves }, .. } => {
             let slots = [observations.as_ptr() as u64, moves.as_ptr() as u64];
-            machine!(kirdanzug_write, numbers(&[*n, *a, *o, *start, *bad]), slots, out, answer)
+            let sets = numbers(&[*start, *bad, u32::from(*parked_marked), *parked]);
+            machine!(kirdanzug_write, numbers(&[*n, *a, *o]), sets, slots, out, answer)
         }
         Call::Rewrite { table, .. } => machine!(kirdanzug_rewrite, pair(table), out, answer),
         Call::Solve { table, .. } => machine!(kirdanzug_solve, pair(table), work, out, answer),

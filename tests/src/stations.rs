@@ -1,7 +1,7 @@
 //! What document 01 itself gives: its stations with their answers, and every row of the table of
 //! refusals with its small input. The answers here are copied from the document, not computed. Runs
 //! over lists of observations are done by hand on its cards, and so are the judged cards of document
-//! 02's change 1.
+//! 02's change 1 and the stations with parked states of its change 2.
 
 use crate::oracle::{Call, Fields, Outcome};
 
@@ -88,8 +88,17 @@ const fn slots<const COUNT: usize, const USED: usize>(used: [u32; USED]) -> [u32
 }
 
 /// A as fields.
-pub const A_FIELDS: Fields =
-    Fields { n: 3, a: 2, o: 1, start: 1, bad: 4, observations: slots([7]), moves: slots([2, 0, 4, 4, 1, 4]) };
+pub const A_FIELDS: Fields = Fields {
+    n: 3,
+    a: 2,
+    o: 1,
+    start: 1,
+    bad: 4,
+    parked_marked: false,
+    parked: 0,
+    observations: slots([7]),
+    moves: slots([2, 0, 4, 4, 1, 4]),
+};
 const A_WIDE: Fields = Fields { n: 13, ..A_FIELDS };
 const A_NO_ACTION: Fields = Fields { a: 0, moves: slots([]), ..A_FIELDS };
 const A_NINE: Fields = Fields { o: 9, ..A_FIELDS };
@@ -289,7 +298,307 @@ pub fn checks() -> Vec<Row> {
 
 /// Every row.
 pub fn rows() -> impl Iterator<Item = Row> {
-    stations().into_iter().chain(refusals()).chain(runs()).chain(checks()).chain(judged())
+    let base = stations().into_iter().chain(refusals()).chain(runs()).chain(checks()).chain(judged());
+    base.chain(parked_stations()).chain(parked_refusals()).chain(parked_writes()).chain(parked_cards())
+}
+
+// ---- Finished batches (document 02, change 2) --------------------------------------------------
+
+/// E, its one state parked.
+pub const E_PARKED: [u32; 6] = [0x11010101, 0x20000001, 0x30000000, 0x60000001, 0x40000001, 0x50000000];
+/// No play goes on, so no observation can occur.
+pub const E_PARKED_CARD: [u32; 4] = [0x80110001, 0x90000000, 0xA0000001, 0xB000FFFF];
+/// Both bad and parked.
+pub const E_LOST: [u32; 6] = with(E_PARKED, 2, 0x30000001);
+/// E and F with the bit, and none parked.
+const E_NONE: [u32; 6] = with(E_PARKED, 3, 0x60000000);
+const F_NONE: [u32; 6] = with(E_NONE, 5, 0x50000001);
+/// F parked, though it moves to itself.
+const F_PARKED: [u32; 6] = with(F_NONE, 3, 0x60000001);
+/// G, state 3 parked.
+pub const G_PARKED: [u32; 9] = [
+    0x11010104, 0x20000001, 0x30000000, 0x60000008, 0x4000000F, 0x50000002, 0x50010004, 0x50020008, 0x50030000,
+];
+const G_PARKED_CARD: [u32; 4] = [0x80110001, 0x90000000, 0xA000000F, 0xB0000000];
+/// State 3 parked and bad.
+pub const G_LOST: [u32; 9] = with(G_PARKED, 2, 0x30000008);
+const G_TWO_PARKED: [u32; 9] = with(G_PARKED, 3, 0x6000000C);
+const G_FIRST_PARKED: [u32; 9] = with(G_PARKED, 3, 0x6000000A);
+const G_ALL_PARKED: [u32; 9] = with(G_PARKED, 3, 0x6000000F);
+/// Drawn by hand: a cell for each state of G.
+const G_CARD: [u32; 10] = [
+    0x80110004, 0x90000000, 0xA0000001, 0xB0000001, 0xA0000002, 0xB0000002, 0xA0000004, 0xB0000003, 0xA0000008,
+    0xB000FFFF,
+];
+const G_CARD_NAMED: [u32; 10] = with(G_CARD, 9, 0xB0000000);
+/// State 0 dosing, 1 finished (parked), 2 overdosed (bad), all alike. The first action leads from 0 to 2, the second
+/// from 0 to 0 or 1; none leads anywhere from 1.
+pub const M: [u32; 11] = [
+    0x11010203, 0x20000003, 0x30000004, 0x60000002, 0x40000007, 0x50000004, 0x50010000, 0x50020004, 0x50100003,
+    0x50110000, 0x50120004,
+];
+pub const M_CARD: [u32; 4] = [0x80210001, 0x90000000, 0xA0100003, 0xB0000000];
+const M_CARD_OTHER: [u32; 4] = with(M_CARD, 2, 0xA0000003);
+const M_FROM_0: [u32; 11] = with(M, 1, 0x20000001);
+/// M without the bit.
+pub const M_UNMARKED: [u32; 10] = [
+    0x10010203, 0x20000003, 0x30000004, 0x40000007, 0x50000004, 0x50010000, 0x50020004, 0x50100003, 0x50110000,
+    0x50120004,
+];
+const M_UNMARKED_FROM_0: [u32; 10] = with(M_UNMARKED, 1, 0x20000001);
+/// Two observations that both show the parked state 2; 0 needs the first action and 1 the second.
+pub const N: [u32; 14] = [
+    0x11020204, 0x20000005, 0x30000008, 0x60000004, 0x40000005, 0x4001000E, 0x50000006, 0x50010000, 0x50020000,
+    0x50030008, 0x50100008, 0x50110001, 0x50120000, 0x50130008,
+];
+pub const N_CARD: [u32; 9] = [
+    0x80220002, 0x90000000, 0x90010000, 0xA0000005, 0xB0000000, 0xB0010001, 0xA0100006, 0xB0000000, 0xB001FFFF,
+];
+pub const N_TEXT: &str = "yes 2 2\nfirst 0 0\nfirst 1 0\ncell 0 5 0\nnext 0 0 0\nnext 0 1 1\n\
+                          cell 1 6 1\nnext 1 0 0\nnext 1 1 -\n";
+/// N without the bit.
+pub const N_UNMARKED: [u32; 13] = [
+    0x10020204, 0x20000005, 0x30000008, 0x40000005, 0x4001000E, 0x50000006, 0x50010000, 0x50020000, 0x50030008,
+    0x50100008, 0x50110001, 0x50120000, 0x50130008,
+];
+/// Three states, all parked; 2 is bad too.
+pub const P: [u32; 8] = [
+    0x11010103, 0x20000003, 0x30000004, 0x60000007, 0x40000007, 0x50000000, 0x50010000, 0x50020000,
+];
+const P_CARD: [u32; 4] = [0x80110001, 0x90000000, 0xA0000003, 0xB000FFFF];
+const P_FROM_2: [u32; 8] = with(P, 1, 0x20000004);
+const P_FROM_BOTH: [u32; 8] = with(P, 1, 0x20000005);
+/// From 0 to 1, which is blocked, or to 2 and 3, which is blocked: parking 1 wins a round.
+const Q: [u32; 8] = [
+    0x10010104, 0x20000001, 0x30000000, 0x4000000F, 0x50000006, 0x50010000, 0x50020008, 0x50030000,
+];
+const Q_PARKED: [u32; 9] = [
+    0x11010104, 0x20000001, 0x30000000, 0x60000002, 0x4000000F, 0x50000006, 0x50010000, 0x50020008, 0x50030000,
+];
+const Q_BOTH_PARKED: [u32; 9] = with(Q_PARKED, 3, 0x6000000A);
+/// A with the bit, and none parked.
+pub const A_NONE: [u32; 11] = [
+    0x11010203, 0x20000001, 0x30000004, 0x60000000, 0x40000007, 0x50000002, 0x50010000, 0x50020004, 0x50100004,
+    0x50110001, 0x50120004,
+];
+/// Twelve states, each moving to itself but the last, which is parked.
+const TWELVE_PARKED: [u32; 17] = [
+    0x1101010C, 0x20000FFF, 0x30000000, 0x60000800, 0x40000FFF, 0x50000001, 0x50010002, 0x50020004, 0x50030008,
+    0x50040010, 0x50050020, 0x50060040, 0x50070080, 0x50080100, 0x50090200, 0x500A0400, 0x500B0000,
+];
+
+/// Stations with parked states, solved, judged, written again and shown.
+pub fn parked_stations() -> Vec<Row> {
+    let again = |table: &'static [u32]| Call::Rewrite { table, out: table.len() };
+    let show = |table, card, cell| Call::Show { table, card, cell };
+    let mut rows = vec![
+        row("E parked", solve(&E_PARKED), yes(0, 1, 8, &E_PARKED_CARD)),
+        row("E lost", solve(&E_LOST), no(1, 8)),
+        row("E, none parked", solve(&E_NONE), no(1, 8)),
+        row("F, none parked", solve(&F_NONE), yes(0, 1, 8, &F_CARD)),
+        row("G parked", solve(&G_PARKED), yes(0, 1, 64, &G_PARKED_CARD)),
+        row("G lost", solve(&G_LOST), no(4, 64)),
+        row("M", solve(&M), yes(1, 1, 32, &M_CARD)),
+        row("M from 0", solve(&M_FROM_0), yes(1, 1, 32, &M_CARD)),
+        row("M without the bit", solve(&M_UNMARKED), no(1, 32)),
+        row("M without the bit, from 0", solve(&M_UNMARKED_FROM_0), no(2, 32)),
+        row("N", solve(&N), yes(2, 2, 64, &N_CARD)),
+        row("N without the bit", solve(&N_UNMARKED), no(1, 64)),
+        row("P", solve(&P), yes(1, 1, 32, &P_CARD)),
+        row("P from 2", solve(&P_FROM_2), no(1, 32)),
+        row("P from 0 and 2", solve(&P_FROM_BOTH), no(1, 32)),
+        row("Q", solve(&Q), no(2, 64)),
+        row("Q, 1 parked", solve(&Q_PARKED), no(3, 64)),
+        row("Q, both parked", solve(&Q_BOTH_PARKED), yes(0, 1, 64, &G_PARKED_CARD)),
+        row("A, none parked", solve(&A_NONE), yes(2, 2, 32, &A_CARD)),
+        row("n 12 parked", solve(&TWELVE_PARKED), yes(0, 1, 16_384, &TWELVE_CARD)),
+        row("E parked again", again(&E_PARKED), list(&E_PARKED)),
+        row("E lost again", again(&E_LOST), list(&E_LOST)),
+        row("E again, none parked", again(&E_NONE), list(&E_NONE)),
+        row("A again, none parked", again(&A_NONE), list(&A_NONE)),
+        row("M again", again(&M), list(&M)),
+        row("N again", again(&N), list(&N)),
+        row("E parked, shown", show(&E_PARKED, &E_PARKED_CARD, 0), Outcome::done(5, 1)),
+        row("G parked, shown", show(&G_PARKED, &G_PARKED_CARD, 0), Outcome::done(5, 4)),
+        row("M shown", show(&M, &M_CARD, 0), Outcome::done(8, 3)),
+        row("N shown, 0", show(&N, &N_CARD, 0), Outcome::done(6, 4)),
+        row("N shown, 1", show(&N, &N_CARD, 1), Outcome::done(10, 4)),
+        row("A shown, 0, none parked", show(&A_NONE, &A_CARD, 0), Outcome::done(5, 3)),
+        row("A shown, 1, none parked", show(&A_NONE, &A_CARD, 1), Outcome::done(8, 3)),
+    ];
+    rows.extend(parked_judged());
+    rows
+}
+
+/// The plain judge: for each table and mask, the most rounds up to 4 for which the set is good.
+fn parked_judged() -> impl Iterator<Item = Row> {
+    let rounds: [(&str, &'static [u32], &[(u32, u32)]); 6] = [
+        ("E parked", &E_PARKED, &[(1, 4)]),
+        ("E lost", &E_LOST, &[(1, 0)]),
+        ("G parked", &G_PARKED, &[(8, 4), (1, 4), (3, 4), (15, 4)]),
+        ("M", &M, &[(2, 4), (3, 4), (6, 0)]),
+        ("N", &N, &[(4, 4), (12, 0), (7, 1), (5, 4), (6, 4)]),
+        ("P", &P, &[(0, 4), (1, 4), (2, 4), (3, 4), (4, 0), (5, 0), (6, 0), (7, 0)]),
+    ];
+    let lost = ("G lost", &G_LOST[..], &[(8, 0), (1, 3)][..]);
+    let judged = |(name, table, sets): (&'static str, &'static [u32], &'static [(u32, u32)])| {
+        sets.iter().flat_map(move |&(mask, most)| {
+            let outcome = move |k| Outcome::done(u64::from(k <= most), 0);
+            (0..=4).map(move |k| row(name, Call::Judge { table, mask, k }, outcome(k)))
+        })
+    };
+    rounds.into_iter().chain([lost]).flat_map(judged)
+}
+
+const A_SPARE_25: [u32; 11] = with(A_NONE, 0, 0x12010203);
+const A_SPARE_26: [u32; 11] = with(A_NONE, 0, 0x14010203);
+const A_SPARE_27: [u32; 11] = with(A_NONE, 0, 0x18010203);
+const A_BOTH_BITS: [u32; 11] = with(A_NONE, 0, 0x13010203);
+// The bit without the word, and the word without the bit.
+const A_BIT_ALONE: [u32; 10] = with(A, 0, 0x11010203);
+const A_WORD_ALONE: [u32; 11] = with(A_NONE, 0, 0x10010203);
+/// The mask 8 names a state from n up.
+const A_PARKED_MASK: [u32; 11] = with(A_NONE, 3, 0x60000008);
+/// Waiting is blocked in 1, dosing is not.
+const A_PARKED_1: [u32; 11] = with(A_NONE, 3, 0x60000002);
+const A_PARKED_0: [u32; 11] = with(A_NONE, 3, 0x60000001);
+
+/// The words of the table with the bit that are refused by 4: kinds and spare bits of the new word.
+const WRONG_WORDS: [[u32; 11]; 9] = [
+    with(A_NONE, 3, 0x70000000),
+    with(A_NONE, 3, 0x40000000),
+    with(A_NONE, 3, 0x30000000),
+    with(A_NONE, 3, 0x00000000),
+    with(A_NONE, 3, 0x60010000),
+    with(A_NONE, 3, 0x60100000),
+    with(A_NONE, 3, 0x61000000),
+    with(A_NONE, 3, 0x68000000),
+    with(A_NONE, 3, 0xE0000000),
+];
+/// Tables with parked states that are refused, with number and place.
+const WRONG_TABLES: [([u32; 11], u32, u64); 22] = [
+    (A_SPARE_25, 2, 0),
+    (A_SPARE_26, 2, 0),
+    (A_SPARE_27, 2, 0),
+    (A_BOTH_BITS, 2, 0),
+    (A_WORD_ALONE, 3, 11),
+    (A_PARKED_MASK, 5, 3),
+    (with(A_NONE, 3, 0x60008000), 5, 3),
+    (with(A_PARKED_MASK, 4, 0x50000007), 5, 3),
+    (with(A_NONE, 3, 0x70000008), 4, 3),
+    (with(with(A_NONE, 2, 0x30000008), 3, 0x70000000), 5, 2),
+    (with(with(A_NONE, 3, 0x40000007), 4, 0x60000000), 4, 3),
+    (with(A_NONE, 4, 0x40000008), 5, 4),
+    (with(A_NONE, 10, 0x50120008), 5, 10),
+    (with(A_NONE, 1, 0x20000000), 6, 1),
+    (with(A_NONE, 4, 0x40000003), 7, 2),
+    (A_PARKED_0, 19, 0),
+    (A_PARKED_1, 19, 1),
+    (with(A_NONE, 3, 0x60000004), 19, 2),
+    (with(A_NONE, 3, 0x60000006), 19, 1),
+    (with(A_NONE, 3, 0x60000007), 19, 0),
+    (with(A_PARKED_0, 4, 0x40000003), 7, 2),
+    (with(A_PARKED_0, 1, 0x20000000), 6, 1),
+];
+/// The order of 5 and 19, and of 19 and what comes behind the table's checks.
+const A_PARKED_0_MASK: [u32; 11] = with(A_PARKED_0, 10, 0x50120008);
+const TWELVE_BEYOND: [u32; 17] = with(TWELVE_PARKED, 3, 0x60001000);
+
+/// What is refused of tables with parked states, and in which order.
+pub fn parked_refusals() -> Vec<Row> {
+    let check = |table| Call::CheckTable { table };
+    let mut rows = vec![
+        row("A, none parked, checked", check(&A_NONE), Outcome::done(0, 0)),
+        row("n 12 parked, checked", check(&TWELVE_PARKED), Outcome::done(0, 0)),
+        row("3, the bit without the word", check(&A_BIT_ALONE), refused(3, 10)),
+        row("3, the head alone", check(&[0x11010203]), refused(3, 1)),
+        row("5, n 12", check(&TWELVE_BEYOND), refused(5, 3)),
+        row("19, F", check(&F_PARKED), refused(19, 0)),
+        row("19, F, solve", solve(&F_PARKED), refused(19, 0)),
+        row("19, G, 2 and 3", check(&G_TWO_PARKED), refused(19, 2)),
+        row("19, G, 1 and 3", check(&G_FIRST_PARKED), refused(19, 1)),
+        row("19, G, all", check(&G_ALL_PARKED), refused(19, 0)),
+        row("5, judge", Call::Judge { table: &A_NONE, mask: 8, k: 4 }, refused(5, 11)),
+        row("10", Call::Rewrite { table: &A_NONE, out: 10 }, refused(10, 11)),
+        row("order: 5 before 19", check(&A_PARKED_0_MASK), refused(5, 10)),
+        row("order: 19 before 8", Call::Solve { table: &A_PARKED_1, work: 0, card: 0 }, refused(19, 1)),
+        row("order: 19 before 17", Call::Judge { table: &A_PARKED_1, mask: 8, k: 5 }, refused(19, 1)),
+        row("order: 19 before 13, show", Call::Show { table: &A_PARKED_1, card: &[], cell: 9 }, refused(19, 1)),
+        row("order: 19 before 13", Call::JudgeCard { table: &A_PARKED_1, card: &[] }, refused(19, 1)),
+        row("order: 19 before 10", Call::Rewrite { table: &A_PARKED_1, out: 0 }, refused(19, 1)),
+    ];
+    rows.extend(WRONG_WORDS.iter().map(|table| row("4, the parked states' word", check(table), refused(4, 3))));
+    let wrong = |(table, number, place): &'static ([u32; 11], u32, u64)| {
+        [check(table), solve(table)].map(|call| row("a table with parked states", call, refused(*number, *place)))
+    };
+    rows.extend(WRONG_TABLES.iter().flat_map(wrong));
+    rows
+}
+
+/// A's fields with the bit, and none parked.
+pub const A_NONE_FIELDS: Fields = Fields { parked_marked: true, ..A_FIELDS };
+/// Fields and the room for their words that are refused, with number and place.
+const WRONG_FIELDS: [(Fields, usize, u32, u64); 20] = [
+    (A_NONE_FIELDS, 10, 10, 11),
+    (A_NONE_FIELDS, 0, 10, 11),
+    // Without the bit the mask is an unused slot.
+    (Fields { parked: 1, ..A_FIELDS }, 12, 11, 0),
+    (Fields { parked: 1 << 16, ..A_FIELDS }, 12, 11, 0),
+    (Fields { parked: 1 << 31, ..A_FIELDS }, 12, 11, 0),
+    (Fields { parked: 8, ..A_NONE_FIELDS }, 12, 5, 3),
+    (Fields { parked: 1 << 16, ..A_NONE_FIELDS }, 12, 5, 3),
+    (Fields { parked: 8, start: 8, ..A_NONE_FIELDS }, 12, 5, 1),
+    (Fields { parked: 8, bad: 8, ..A_NONE_FIELDS }, 12, 5, 2),
+    (Fields { parked: 8, observations: slots([8]), ..A_NONE_FIELDS }, 12, 5, 3),
+    (Fields { observations: slots([15]), ..A_NONE_FIELDS }, 12, 5, 4),
+    (Fields { moves: slots([2, 0, 4, 4, 1, 8]), ..A_NONE_FIELDS }, 12, 5, 10),
+    (Fields { parked: 2, ..A_NONE_FIELDS }, 12, 19, 1),
+    (Fields { parked: 7, ..A_NONE_FIELDS }, 12, 19, 0),
+    (Fields { parked: 2, ..A_NONE_FIELDS }, 0, 19, 1),
+    (Fields { parked: 2, observations: slots([3]), ..A_NONE_FIELDS }, 0, 7, 2),
+    (Fields { parked: 2, start: 0, ..A_NONE_FIELDS }, 0, 6, 1),
+    (Fields { parked: 8, start: 8, ..A_FIELDS }, 0, 11, 0),
+    (Fields { parked: 1, n: 13, ..A_FIELDS }, 0, 2, 0),
+    (Fields { parked: 8, observations: slots([7, 1]), ..A_NONE_FIELDS }, 0, 11, 0),
+];
+
+/// Fields with the bit and without it, written.
+pub fn parked_writes() -> Vec<Row> {
+    let write = |fields, out| Call::Write { fields, out };
+    let mut rows = vec![
+        row("A written, none parked", write(&A_NONE_FIELDS, 11), list(&A_NONE)),
+        row("A written, none parked, more room", write(&A_NONE_FIELDS, 14), list(&A_NONE)),
+    ];
+    let wrong = |(fields, out, number, place): &'static (Fields, usize, u32, u64)| {
+        row("fields with parked states", write(fields, *out), refused(*number, *place))
+    };
+    rows.extend(WRONG_FIELDS.iter().map(wrong));
+    rows
+}
+
+/// Cards judged against tables with parked states.
+pub fn parked_cards() -> Vec<Row> {
+    let judge = |table, card| Call::JudgeCard { table, card };
+    let accepted = || Outcome::done(0, 0);
+    vec![
+        row("E parked, its card", judge(&E_PARKED, &E_PARKED_CARD), accepted()),
+        row("E parked, F's card", judge(&E_PARKED, &F_CARD), accepted()),
+        row("E lost, E parked's card", judge(&E_LOST, &E_PARKED_CARD), refused(18, 2)),
+        row("E, E parked's card", judge(&E, &E_PARKED_CARD), refused(18, 2)),
+        row("E, none parked, E parked's card", judge(&E_NONE, &E_PARKED_CARD), refused(18, 2)),
+        row("F, E parked's card", judge(&F, &E_PARKED_CARD), refused(18, 3)),
+        row("G parked, its card", judge(&G_PARKED, &G_PARKED_CARD), accepted()),
+        row("G parked, a cell for each state", judge(&G_PARKED, &G_CARD), accepted()),
+        row("G parked, the last word names a cell", judge(&G_PARKED, &G_CARD_NAMED), accepted()),
+        row("G, a cell for each state", judge(&G, &G_CARD), refused(18, 8)),
+        row("G lost, a cell for each state", judge(&G_LOST, &G_CARD), refused(18, 8)),
+        row("M, its card", judge(&M, &M_CARD), accepted()),
+        row("M, the other action", judge(&M, &M_CARD_OTHER), refused(18, 3)),
+        row("M without the bit, M's card", judge(&M_UNMARKED, &M_CARD), refused(18, 2)),
+        row("N, its card", judge(&N, &N_CARD), accepted()),
+        row("P, its card", judge(&P, &P_CARD), accepted()),
+        row("A, none parked, A's card", judge(&A_NONE, &A_CARD), accepted()),
+    ]
 }
 
 // A's card, redrawn.
@@ -433,6 +742,14 @@ pub fn printed() -> Vec<(Vec<u8>, &'static str)> {
         (bytes(&F), "yes 0 1\nfirst 0 0\ncell 0 1 0\nnext 0 0 0\n"),
         (bytes(&G), "no 4\n"),
         (bytes(&H), "no 2\n"),
+        (bytes(&E_PARKED), "yes 0 1\nfirst 0 0\ncell 0 1 0\nnext 0 0 -\n"),
+        (bytes(&E_LOST), "no 1\n"),
+        (bytes(&G_PARKED), "yes 0 1\nfirst 0 0\ncell 0 15 0\nnext 0 0 0\n"),
+        (bytes(&G_LOST), "no 4\n"),
+        (bytes(&N), N_TEXT),
+        (bytes(&A_NONE), A_TEXT),
+        (bytes(&A_PARKED_1), "refused 19 1\n"),
+        (bytes(&A_SPARE_25), "refused 2 0\n"),
         (Vec::new(), "refused 1 0\n"),
         (bytes(&THIRTEEN), "refused 2 0\n"),
         (bytes(&A_UNSHOWN), "refused 7 2\n"),

@@ -3,6 +3,7 @@
 
 use kirdanzug_tests::check::{self, holds_by_states, keeps_clear, keeps_within, lasts_played, literal, no_holds, Runner};
 use kirdanzug_tests::fast::{self, Search};
+use kirdanzug_tests::finished::Finished;
 use kirdanzug_tests::game::{self, Game};
 use kirdanzug_tests::gen::{self, Rng, SHAPES};
 use kirdanzug_tests::oracle::{self, Card, Refusal, Verdict};
@@ -78,47 +79,61 @@ fn check_search(solver: &mut fast::Solver, game: &Game, verdict: &Verdict) {
     }
 }
 
-/// All accepted games of n states with a actions and o observations.
+/// All accepted games of n states with a actions and o observations, with parked states and without.
 fn all_games(n: usize, a: usize, o: usize) -> impl Iterator<Item = Game> {
     let sets = 1usize << n;
     let masks = 2 + o + a * n;
-    (0..sets.pow(masks as u32)).filter_map(move |number| {
+    let parked = [None].into_iter().chain((0..sets as u32).map(Some));
+    let pairs = parked.flat_map(move |parked| (0..sets.pow(masks as u32)).map(move |number| (parked, number)));
+    pairs.filter_map(move |(parked, number)| {
         let digits: Vec<u32> = (0..masks).map(|i| (number >> (i * n) & (sets - 1)) as u32).collect();
         let moves = digits[2 + o..].chunks(n).map(|row| row.to_vec()).collect();
-        let game = Game { n, a, o, start: digits[0], bad: digits[1], shows: digits[2..2 + o].to_vec(), moves };
+        let shows = digits[2..2 + o].to_vec();
+        let game = Game { n, a, o, start: digits[0], bad: digits[1], parked, shows, moves };
         oracle::read_table(&oracle::table_words(&game)).is_ok().then_some(game)
     })
+}
+
+/// Some state is parked.
+fn some_parked(game: &Game) -> bool {
+    game.parked.is_some_and(|parked| parked != 0)
 }
 
 /// Every strategy and every play, one by one, on all the smallest games.
 #[test]
 fn verdicts_by_literal_strategies() {
-    let (mut yes, mut no) = (0, [0; 4]);
+    // Without parked states and with some.
+    let (mut yes, mut no) = ([0; 2], [[0; 4]; 2]);
     for (n, a, o) in [(1, 1, 1), (1, 1, 2), (1, 2, 1), (1, 2, 2), (2, 1, 1), (2, 1, 2), (2, 2, 1), (2, 2, 2)] {
         for game in all_games(n, a, o) {
+            let parked = usize::from(some_parked(&game));
             match game::verdict(&game) {
                 None => {
                     // A no has k below 2^n, so lasting 2^n - 1 rounds is enough.
                     assert!(literal::some_strategy_lasts(&game, (1 << n) - 1), "{game:?}");
-                    yes += 1;
+                    yes[parked] += 1;
                 }
                 Some(k) => {
                     assert!(!literal::some_strategy_lasts(&game, k), "{game:?}");
                     assert!(literal::some_strategy_lasts(&game, k - 1), "{game:?}");
-                    no[k as usize] += 1;
+                    no[parked][k as usize] += 1;
                 }
             }
         }
     }
-    report(&format!("literal strategies: {yes} yes, no with 1, 2, 3 rounds: {:?}", &no[1..]));
-    assert!(yes > 1000 && no[1..].iter().all(|&number| number > 10));
+    for (name, yes, no) in [("none", yes[0], no[0]), ("some", yes[1], no[1])] {
+        report(&format!("literal strategies, {name} parked: {yes} yes, no with 1, 2, 3 rounds: {:?}", &no[1..]));
+        assert!(yes > 1000 && no[1] > 1000 && no[2] > 10);
+    }
+    // With two states and one of them parked the third round is never the one that is lost.
+    assert!(no[0][3] > 10 && no[1][3] == 0);
 }
 
 /// The same on random games of three states, where the number of strategies allows it.
 #[test]
 fn verdicts_by_literal_strategies_on_three_states() {
     let seed = seed();
-    let (mut tried, mut longest) = (0, 0);
+    let (mut tried, mut longest, mut parked) = (0, 0, [0; 2]);
     for i in 0..count(50) {
         let mut rng = Rng::new(seed, i);
         let shape = rng.pick(&SHAPES);
@@ -132,11 +147,17 @@ fn verdicts_by_literal_strategies_on_three_states() {
         }
         tried += 1;
         longest = longest.max(rounds);
+        if some_parked(&game) {
+            parked[usize::from(verdict.is_none())] += 1;
+        }
         assert_eq!(literal::some_strategy_lasts(&game, rounds), verdict.is_none(), "{game:?}");
         assert!(literal::some_strategy_lasts(&game, rounds - 1), "{game:?}");
     }
-    report(&format!("literal strategies on three states: seed {seed}, {tried} games, up to {longest} rounds"));
-    assert!(tried < 1000 || longest > 3);
+    report(&format!(
+        "literal strategies on three states: seed {seed}, {tried} games, up to {longest} rounds; with parked states no, \
+         yes: {parked:?}"
+    ));
+    assert!(tried < 1000 || longest > 3 && parked.iter().all(|&games| games > 50));
 }
 
 /// What a comparison of many games came by.
@@ -144,21 +165,27 @@ fn verdicts_by_literal_strategies_on_three_states() {
 struct Tally {
     yes: u64,
     no: u64,
+    /// Those with a parked state.
+    parked_yes: u64,
+    parked_no: u64,
     longest: u32,
     most_cells: usize,
     latest_index: u32,
 }
 
 impl Tally {
-    fn add(&mut self, verdict: &Verdict) {
+    fn add(&mut self, game: &Game, verdict: &Verdict) {
+        let parked = u64::from(some_parked(game));
         match verdict {
             Verdict::Yes { index, card } => {
                 self.yes += 1;
+                self.parked_yes += parked;
                 self.most_cells = self.most_cells.max(card.cells.len());
                 self.latest_index = self.latest_index.max(*index);
             }
             Verdict::No { round } => {
                 self.no += 1;
+                self.parked_no += parked;
                 self.longest = self.longest.max(*round);
             }
         }
@@ -168,6 +195,8 @@ impl Tally {
         parts.into_iter().map(|part| part.1).fold(Tally::default(), |sum, part| Tally {
             yes: sum.yes + part.yes,
             no: sum.no + part.no,
+            parked_yes: sum.parked_yes + part.parked_yes,
+            parked_no: sum.parked_no + part.parked_no,
             longest: sum.longest.max(part.longest),
             most_cells: sum.most_cells.max(part.most_cells),
             latest_index: sum.latest_index.max(part.latest_index),
@@ -192,11 +221,14 @@ fn compare_models(name: &str, games: u64, least: usize, most: usize, by_families
         }
         check_verdict(&game, &verdict);
         check_fast(fast, &game, &verdict);
-        tally.add(&verdict);
+        tally.add(&game, &verdict);
     };
     let tally = Tally::sum(spread(games, work));
     report(&format!("{name}: seed {seed}, {games} games, {tally:?}"));
     assert!(games < 1000 || tally.yes * 5 > games && tally.no * 5 > games, "a verdict is too seldom");
+    // A third of the tables have the bit, and most of these a parked state.
+    let seldom = tally.parked_yes * 20 < games || tally.parked_no * 40 < games;
+    assert!(games < 1000 || !seldom, "a verdict with parked states is too seldom");
 }
 
 #[test]
@@ -276,12 +308,16 @@ fn judges_and_refusals_agree() {
     let seed = seed();
     let mut judge = fast::Judge::new();
     let mut solver = fast::Solver::new(Search::Flat);
-    let (mut good, mut tables_refused) = (0, 0);
+    let (mut good, mut tables_refused, mut moving) = (0, 0, 0);
     for i in 0..count(20) {
         let mut rng = Rng::new(seed, i);
         let shape = SHAPES[i as usize % SHAPES.len()];
         let (n, a, o) = (rng.within(1, 12), rng.within(1, 8), rng.within(1, 8));
-        let mut table = gen::table(&mut rng, shape, n, a, o);
+        let mut game = gen::game(&mut rng, shape, n, a, o);
+        if rng.percent(20) {
+            game = gen::moving_on(&mut rng, game);
+        }
+        let mut table = oracle::table_words(&game);
         let (mask, k) = (rng.set(n + 1, 30), rng.within(0, 5) as u32);
         if rng.percent(50) {
             gen::damage(&mut rng, &mut table);
@@ -294,10 +330,11 @@ fn judges_and_refusals_agree() {
             let expected = fast::Verdict::Refused { number: refusal.number, place: refusal.place as usize };
             assert_eq!(solver.solve(&table, &mut [], &mut []), expected, "{table:x?}");
             tables_refused += 1;
+            moving += u32::from(refusal.number == 19);
         }
     }
-    report(&format!("judges: seed {seed}, {good} good, {tables_refused} tables refused"));
-    assert!(count(20) < 1000 || good > 100 && tables_refused > 100);
+    report(&format!("judges: seed {seed}, {good} good, {tables_refused} tables refused, {moving} of them by 19"));
+    assert!(count(20) < 1000 || good > 100 && tables_refused > 100 && moving > 100);
 }
 
 fn refused(refusal: Refusal) -> (u32, usize) {
@@ -357,7 +394,9 @@ fn card_and_observations(rng: &mut Rng) -> (Vec<u32>, Vec<u32>) {
 fn card_judges_agree() {
     let seed = seed();
     let mut judge = fast::CardJudge::new();
-    let mut answers = [0; 19];
+    let mut answers = [0; 20];
+    // Cards over tables with a parked state, refused and accepted.
+    let mut parked = [0; 2];
     for i in 0..count(2) {
         let mut rng = Rng::new(seed, i);
         let (n, a, o) = (rng.within(1, 6), rng.within(1, 8), rng.within(1, 8));
@@ -372,6 +411,7 @@ fn card_judges_agree() {
         match rng.below(10) {
             0 => gen::damage(&mut rng, &mut table),
             1 => gen::damage(&mut rng, &mut words),
+            2 if rng.percent(20) => table = oracle::table_words(&gen::moving_on(&mut rng, game)),
             _ => (),
         }
         let expected = oracle::judge_card(&table, &words);
@@ -380,14 +420,21 @@ fn card_judges_agree() {
         answers[number] += 1;
         if let (0 | 18, Ok(game), Ok(card)) = (number, oracle::read_table(&table), oracle::read_card(&words)) {
             assert_eq!(holds_by_states(&game, &card), expected.is_ok(), "{game:?} {card:?}");
+            parked[usize::from(expected.is_ok())] += u64::from(some_parked(&game));
             if expected.is_ok() {
                 let set = |cell: u32| card.cells[cell as usize].mask;
                 assert_eq!(keeps_within(&game, &mut CardRunner(&card), set), Ok(()), "{game:?} {card:?}");
             }
         }
     }
-    report(&format!("judges of cards: seed {seed}, accepted {}, refused by 1 to 18: {:?}", answers[0], &answers[1..]));
-    let numbers = [0, 1, 2, 3, 4, 5, 6, 7, 13, 16, 18];
+    report(&format!(
+        "judges of cards: seed {seed}, accepted {}, refused by 1 to 19: {:?}; with parked states refused by 18, \
+         accepted: {parked:?}",
+        answers[0],
+        &answers[1..]
+    ));
+    let numbers = [0, 1, 2, 3, 4, 5, 6, 7, 13, 16, 18, 19];
+    assert!(count(2) < 1000 || parked.iter().all(|&cards| cards * 20 > count(2)));
     assert!(count(2) < 50_000 || numbers.iter().all(|&number: &usize| answers[number] > 0));
     assert!(count(2) < 1000 || answers[0] * 10 > count(2) && answers[18] * 10 > count(2));
 }
@@ -454,5 +501,43 @@ fn searching_agrees_with_judging() {
             let good = game.start_sets().iter().all(|&set| game::good(&game, set, k));
             assert_eq!(search.some_strategy_lasts(k), good, "{game:?}");
         }
+    }
+}
+
+/// What change 2 says of all tables, on all the smallest.
+#[test]
+fn finished_batches_on_all_small_games() {
+    let mut met = Finished::default();
+    for (n, a, o) in [(1, 1, 1), (1, 2, 2), (2, 1, 1), (2, 1, 2), (2, 2, 1)] {
+        all_games(n, a, o).for_each(|game| met.table(&mut |call| oracle::outcome(&call), &game));
+    }
+    report(&format!("finished batches, all small games: {met:?}"));
+    // It takes three states to win a round and lose all the same.
+    met.must_have_all_but(&["a later round", "moving on", "two moving on"]);
+}
+
+/// The same on random games, and on tables in which a parked state moves on.
+#[test]
+fn finished_batches_on_random_games() {
+    let seed = seed();
+    let work = |i: u64, met: &mut Finished| {
+        let mut rng = Rng::new(seed, i);
+        let (n, a, o) = (rng.within(1, 5), rng.within(1, 4), rng.within(1, 4));
+        let mut game = gen::unmarked_game(&mut rng, SHAPES[i as usize % SHAPES.len()], n, a, o);
+        if rng.percent(50) {
+            game = gen::with_ends(&mut rng, game);
+        }
+        if rng.percent(70) {
+            game = gen::parking(&mut rng, game);
+        }
+        met.table(&mut |call| oracle::outcome(&call), &game);
+        met.moving_on(&mut |call| oracle::outcome(&call), &gen::moving_on(&mut rng, game));
+    };
+    let games = count(20);
+    let mut met = Finished::default();
+    spread(games, work).iter().for_each(|part| met.add(part));
+    report(&format!("finished batches, random games: seed {seed}, {games} games, {met:?}"));
+    if games >= 1000 {
+        met.must_have_all_but(&[]);
     }
 }

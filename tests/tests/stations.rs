@@ -1,4 +1,5 @@
-//! The models against what document 01 itself says: stations, refusals, printed text.
+//! The models against what document 01 itself says: stations, refusals, printed text; and against the stations
+//! with parked states, worked out by hand.
 
 use kirdanzug_tests::check::{holds_by_states, keeps_clear, keeps_within, no_holds, Runner};
 use kirdanzug_tests::fast::{self, Search};
@@ -38,10 +39,22 @@ fn oracle_gives_the_judged_cards() {
 }
 
 #[test]
+fn oracle_gives_the_stations_with_parked_states() {
+    check(stations::parked_stations());
+    check(stations::parked_cards());
+}
+
+#[test]
+fn oracle_gives_the_refusals_with_parked_states() {
+    check(stations::parked_refusals());
+    check(stations::parked_writes());
+}
+
+#[test]
 fn every_number_has_a_row() {
     let answers = stations::rows().map(|row| row.outcome.answer);
     let numbers: Vec<u64> = answers.filter(|answer| answer[0] == 2).map(|answer| answer[1]).collect();
-    for number in 1..=18 {
+    for number in 1..=19 {
         assert!(numbers.contains(&number), "{number} has no row");
     }
 }
@@ -75,7 +88,21 @@ fn only_the_empty_set_is_good() {
     assert_eq!(game::maximal(1, &game::families(&game).family), [0]);
 }
 
-/// The write's refusals, 2, 11, 5, 6, 7, 10 in this order.
+/// The families of the stations N and P, with parked states, worked out by hand.
+#[test]
+fn families_with_parked_states() {
+    let good_for = |table: &[u32], k| -> Vec<u32> {
+        let game = oracle::read_table(table).unwrap();
+        let family: Vec<bool> = (0..1 << game.n).map(|set| game::good(&game, set, k)).collect();
+        game::maximal(game.n, &family)
+    };
+    let lists = |table| [0, 1, 2, 3].map(|k| good_for(table, k));
+    assert_eq!(lists(&stations::N), [vec![15], vec![7], vec![5, 6], vec![5, 6]]);
+    assert_eq!(lists(&stations::P), [vec![7], vec![3], vec![3], vec![3]]);
+    assert_eq!(lists(&stations::E_LOST), [vec![1], vec![0], vec![0], vec![0]]);
+}
+
+/// The write's refusals, 2, 11, 5, 6, 7, 10 in this order; 19 and the bit stand among the rows.
 #[test]
 fn writing_fields() {
     let fields = oracle::read_fields(&stations::A).unwrap();
@@ -186,7 +213,25 @@ fn checkers_tell_right_from_wrong() {
     assert!(played(&stations::E, &stations::F_CARD).is_err());
     assert!(played(&stations::A, &stations::with(stations::A_CARD, 5, 0xB000FFFF)).is_err());
     assert!(played(&stations::A, &stations::with(stations::A_CARD, 1, 0x9000FFFF)).is_err());
-    let rounds = [(&stations::B[..], 2), (&stations::D, 1), (&stations::E, 1), (&stations::G, 4), (&stations::H, 2)];
+    // A play that ends in a parked state ended well, but not in one that is bad too.
+    assert_eq!(played(&stations::E_PARKED, &stations::E_PARKED_CARD), Ok(()));
+    assert_eq!(played(&stations::M, &stations::M_CARD), Ok(()));
+    assert_eq!(played(&stations::N, &stations::N_CARD), Ok(()));
+    assert!(played(&stations::E_LOST, &stations::E_PARKED_CARD).is_err());
+    assert!(played(&stations::E, &stations::E_PARKED_CARD).is_err());
+    assert!(played(&stations::M_UNMARKED, &stations::M_CARD).is_err());
+    assert!(played(&stations::N_UNMARKED, &stations::N_CARD).is_err());
+    let rounds = [
+        (&stations::B[..], 2),
+        (&stations::D, 1),
+        (&stations::E, 1),
+        (&stations::G, 4),
+        (&stations::H, 2),
+        (&stations::E_LOST, 1),
+        (&stations::G_LOST, 4),
+        (&stations::M_UNMARKED, 1),
+        (&stations::N_UNMARKED, 1),
+    ];
     for (table, k) in rounds {
         assert_eq!(no_holds(&game_of(table), k), Ok(()));
         assert!(no_holds(&game_of(table), k + 1).is_err());
