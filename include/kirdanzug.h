@@ -21,6 +21,7 @@
 #ifndef KIRDANZUG_H
 #define KIRDANZUG_H
 
+#include <stdbool.h>
 #include <stddef.h>
 #include <stdint.h>
 
@@ -30,9 +31,9 @@ extern "C" {
 
 /* The version of this header and of the archive that it is for. */
 #define KIRDANZUG_VERSION_MAJOR 0
-#define KIRDANZUG_VERSION_MINOR 12
+#define KIRDANZUG_VERSION_MINOR 13
 #define KIRDANZUG_VERSION_PATCH 0
-#define KIRDANZUG_VERSION "0.12.0"
+#define KIRDANZUG_VERSION "0.13.0"
 
 /* The stack that is enough for a call of any function, in bytes. Measured: 6,528 (solve); 9,592 where
  * memcpy and memset are bound at their first call, by the dynamic linker. The rest is margin. */
@@ -62,10 +63,11 @@ enum {
 #define KIRDANZUG_WORK_WORDS(n) ((size_t)4 << (n))
 #define KIRDANZUG_WORK_WORDS_MAX KIRDANZUG_WORK_WORDS(KIRDANZUG_MAX_STATES)
 
-/* The words of a table with this many states, actions and observations. */
+/* The words of a table with this many states, actions and observations that marks no parked states. One that
+ * does has one more, which the second figure has in it. */
 #define KIRDANZUG_TABLE_WORDS(n, a, o) ((size_t)3 + (o) + (size_t)(a) * (n))
 #define KIRDANZUG_TABLE_WORDS_MAX \
-    KIRDANZUG_TABLE_WORDS(KIRDANZUG_MAX_STATES, KIRDANZUG_MAX_ACTIONS, KIRDANZUG_MAX_OBSERVATIONS)
+    (KIRDANZUG_TABLE_WORDS(KIRDANZUG_MAX_STATES, KIRDANZUG_MAX_ACTIONS, KIRDANZUG_MAX_OBSERVATIONS) + 1)
 
 /* The words of a card with this many cells and observations. */
 #define KIRDANZUG_CARD_WORDS(cells, observations) \
@@ -86,6 +88,7 @@ enum {
     KIRDANZUG_KIND_BAD = 3,
     KIRDANZUG_KIND_SHOWN = 4, /* the states that show an observation */
     KIRDANZUG_KIND_MOVE = 5,  /* the successors of a state under an action */
+    KIRDANZUG_KIND_PARKED = 6,
 
     /* of a card */
     KIRDANZUG_KIND_CARD_HEAD = 8,
@@ -120,13 +123,14 @@ enum {
     KIRDANZUG_REFUSED_LIST_ROOM = 15,    /* the room for a list or for actions is too short; the words needed */
     KIRDANZUG_REFUSED_OTHER_TABLE = 16,  /* the card's actions or observations are not the table's; 0 */
     KIRDANZUG_REFUSED_ROUNDS = 17,       /* the judge was asked for more than 4 rounds; k */
-    KIRDANZUG_REFUSED_UNCERTIFIED = 18   /* a word of the card does not hold for the table; the lowest such word */
+    KIRDANZUG_REFUSED_UNCERTIFIED = 18,  /* a word of the card does not hold for the table; the lowest such word */
+    KIRDANZUG_REFUSED_PARKED_MOVES = 19  /* a parked state has a successor; the lowest such state */
 };
 
 /* ---- Tables and cards ------------------------------------------------------------------------ */
 
-/* Whether the words are a table: 0, 0, 0. Refused: 1, 2, 3, then 4 and 5 word by word, 6, 7. These are
- * "the table's checks" below. */
+/* Whether the words are a table: 0, 0, 0. Refused: 1, 2, 3, then 4 and 5 word by word, 6, 7, 19. These
+ * are "the table's checks" below. */
 void kirdanzug_check_table(const uint32_t *table, size_t table_length,
                            uint64_t answer[3]);
 
@@ -135,10 +139,13 @@ void kirdanzug_check_card(const uint32_t *card, size_t card_length,
                           uint64_t answer[3]);
 
 /* Writes a table of n states, a actions and o observations to the front of `out`: 0, length, 0.
- * `shown` has for each observation the states that show it, `moves` at a * n + i the successors of
- * state i under action a; slots that are not used are 0. Refused: 2, 11, 5, 6, 7, 10. */
+ * `parked_marked` says whether the table marks parked states, and `parked` which; not marked, it is an
+ * unused slot. `shown` has for each observation the states that show it, `moves` at a * n + i the
+ * successors of state i under action a; slots that are not used are 0.
+ * Refused: 2, 11, 5, 6, 7, 19, 10. */
 void kirdanzug_write(uint32_t n, uint32_t a, uint32_t o,
                      uint32_t start, uint32_t bad,
+                     bool parked_marked, uint32_t parked,
                      const uint32_t shown[KIRDANZUG_SHOWN_SLOTS],
                      const uint32_t moves[KIRDANZUG_MOVE_SLOTS],
                      uint32_t *out, size_t out_length,

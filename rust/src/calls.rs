@@ -117,7 +117,7 @@ pub fn meet<'a>(
     Ok(&out[..length])
 }
 
-/// Checks a table. Refused: 1, 2, 3, then 4 and 5 word by word, 6, 7.
+/// Checks a table. Refused: 1, 2, 3, then 4 and 5 word by word, 6, 7, 19.
 pub fn check_table(table: &[u32]) -> Result<(), Refusal> {
     done(|answer| raw::check_table(table, answer)).map(|_| ())
 }
@@ -135,12 +135,13 @@ pub fn rewrite<'a>(table: &[u32], out: &'a mut [u32]) -> Result<&'a [u32], Refus
 }
 
 /// The words of a table with these fields; [`TABLE_WORDS_MAX`](crate::TABLE_WORDS_MAX) are always
-/// room enough. Refused: 2, 11, 5, 6, 7, 10.
+/// room enough. Refused: 2, 11, 5, 6, 7, 19, 10.
 pub fn write<'a>(fields: &Fields, out: &'a mut [u32]) -> Result<&'a [u32], Refusal> {
-    let Fields { states, actions, observations, start, bad, .. } = *fields;
+    let Fields { states, actions, observations, start, bad, parked_marked, parked, .. } = *fields;
+    let (start, bad, parked) = (start.0, bad.0, parked.0);
     let (shown, moves) = (fields.shown.map(|set| set.0), fields.moves.map(|set| set.0));
     let length = written(|answer| {
-        raw::write(states, actions, observations, start.0, bad.0, &shown, &moves, out, answer)
+        raw::write(states, actions, observations, start, bad, parked_marked, parked, &shown, &moves, out, answer)
     })?;
     Ok(&out[..length])
 }

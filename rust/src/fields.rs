@@ -16,6 +16,10 @@ pub struct Fields {
     pub start: StateSet,
     /// The bad states.
     pub bad: StateSet,
+    /// Whether the table marks parked states. Without it `parked` is not used and must be empty.
+    pub parked_marked: bool,
+    /// The parked states: where one is not bad, the play has ended well. None has a successor.
+    pub parked: StateSet,
     /// For each observation the states that show it.
     pub shown: [StateSet; SHOWN_SLOTS],
     /// At action · states + state, the successors; none where the action is blocked.
@@ -24,7 +28,7 @@ pub struct Fields {
 
 impl Fields {
     /// A station of so many states, actions and observations, with all sets empty: every action is
-    /// blocked, and no state shows anything.
+    /// blocked, no state shows anything, and parked states are not marked.
     pub fn new(states: u32, actions: u32, observations: u32) -> Fields {
         Fields {
             states,
@@ -32,6 +36,8 @@ impl Fields {
             observations,
             start: StateSet::EMPTY,
             bad: StateSet::EMPTY,
+            parked_marked: false,
+            parked: StateSet::EMPTY,
             shown: [StateSet::EMPTY; SHOWN_SLOTS],
             moves: [StateSet::EMPTY; MOVE_SLOTS],
         }
@@ -44,6 +50,15 @@ impl Fields {
     pub fn set_shown(&mut self, observation: Observation, states: &[State]) {
         assert!(observation.0 < self.observations, "there is no observation {observation}");
         self.shown[observation.0 as usize] = StateSet::of(states);
+    }
+
+    /// These states are parked, and the table marks them.
+    ///
+    /// # Panics
+    /// Where a state is above 31: a mask has no bit for it.
+    pub fn set_parked(&mut self, states: &[State]) {
+        self.parked_marked = true;
+        self.parked = StateSet::of(states);
     }
 
     /// The action leads from the state to one of these.

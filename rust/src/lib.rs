@@ -60,8 +60,8 @@ pub const MAX_ROUNDS: u32 = 4;
 pub const SHOWN_SLOTS: usize = MAX_OBSERVATIONS;
 /// The slots of [`Fields`] for successors.
 pub const MOVE_SLOTS: usize = MAX_ACTIONS * MAX_STATES;
-/// Words that are enough for every table.
-pub const TABLE_WORDS_MAX: usize = table_words(MAX_STATES, MAX_ACTIONS, MAX_OBSERVATIONS);
+/// Words that are enough for every table, one that marks parked states too.
+pub const TABLE_WORDS_MAX: usize = table_words(MAX_STATES, MAX_ACTIONS, MAX_OBSERVATIONS) + 1;
 /// Words that are enough for every card that [`solve`] writes: 924 cells and 8 observations.
 pub const CARD_WORDS_MAX: usize = card_words(924, MAX_OBSERVATIONS);
 /// The words of work that are enough for every table.
@@ -72,7 +72,7 @@ pub const STACK_BYTES: usize = 12_288;
 /// The same for what runs a card: [`check_card`], [`open`], [`step`], [`run`] and [`show`].
 pub const RUN_STACK_BYTES: usize = 384;
 
-/// The words of a table.
+/// The words of a table that marks no parked states; one that does has one more.
 pub const fn table_words(states: usize, actions: usize, observations: usize) -> usize {
     3 + observations + actions * states
 }

@@ -49,7 +49,7 @@ extern "C" {
     /// Writes fields as a table's words.
     pub fn kirdanzug_write(
         n: u32, a: u32, o: u32,
-        start: u32, bad: u32,
+        start: u32, bad: u32, parked_marked: bool, parked: u32,
         shown: *const [u32; SHOWN_SLOTS], moves: *const [u32; MOVE_SLOTS],
         out: *mut u32, out_length: usize,
         answer: *mut Answer,
@@ -157,12 +157,22 @@ pub fn write(
     o: u32,
     start: u32,
     bad: u32,
+    parked_marked: bool,
+    parked: u32,
     shown: &[u32; SHOWN_SLOTS],
     moves: &[u32; MOVE_SLOTS],
     out: &mut [u32],
     answer: &mut Answer,
 ) {
-    unsafe { kirdanzug_write(n, a, o, start, bad, shown, moves, out.as_mut_ptr(), out.len(), answer) }
+    unsafe {
+        kirdanzug_write(
+            n, a, o,
+            start, bad, parked_marked, parked,
+            shown, moves,
+            out.as_mut_ptr(), out.len(),
+            answer,
+        )
+    }
 }
 
 /// 0, cell entered, its action.

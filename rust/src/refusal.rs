@@ -11,12 +11,12 @@ pub struct Refusal {
 }
 
 /// What is wrong and what to do about it, by number from 1 (docs/FORMAT.md).
-const TEXTS: [&str; 18] = [
+const TEXTS: [&str; 19] = [
     "the table has no word: pass the table's words",
     "the table's head (its kind, its spare bits, or the number of states, actions or readings) or the lists' width is \
      out of its limits: correct it, and count states, actions and readings again",
-    "the table does not have 3 + o + a·n words; the place is the words given: a word is missing or too many, or a \
-     number in the head is wrong",
+    "the table does not have 3 + o + a·n words, and one more where it marks parked states; the place is the words \
+     given: a word is missing or too many, or a number in the head or its bit 24 is wrong",
     "a word of the table has another kind, index or spare bit than its place asks for: put the words in order; the \
      upper half of a word must be that of its place",
     "a mask names a state from n up: take the state out of the mask, or raise n",
@@ -26,7 +26,8 @@ const TEXTS: [&str; 18] = [
     "the answer is yes, but the card room is too short for the card: lend as many words as the place says, and call \
      again",
     "the room for the table that is written is too short: lend as many words as the place says",
-    "an unused slot of the fields that are written is not 0: clear it, or raise the number that makes it used",
+    "an unused slot of the fields that are written is not 0: clear it, or raise the number that makes it used (the \
+     parked states: mark them)",
     "the card has no such cell or no such reading: this is not the card of the station, or a number was mixed up; \
      where it is 65535, the opening was refused, so begin again",
     "the words are no card: take the card again from where it came",
@@ -38,6 +39,7 @@ const TEXTS: [&str; 18] = [
     "this word of the card, the place, does not hold for the table (the states in question are not all in the cell \
      named; or the cell's set has a bad state, one from n up, or one where the action is blocked): correct it, or the \
      set of the cell that it names",
+    "a parked state, the place, has a successor under some action: take its moves out, or don't park it",
 ];
 
 impl Refusal {
@@ -77,14 +79,16 @@ impl Refusal {
     pub const ROUNDS: u32 = 17;
     /// 18: a word of the card does not hold for the table.
     pub const UNCERTIFIED: u32 = 18;
+    /// 19: a parked state has a successor.
+    pub const PARKED_MOVES: u32 = 19;
 
-    /// The archive's refusal. It has no number but 1 to 18.
+    /// The archive's refusal. It has no number but 1 to 19.
     pub(crate) fn new(number: u64, place: u64) -> Refusal {
         assert!((1..=TEXTS.len() as u64).contains(&number), "the archive has no refusal {number}");
         Refusal { number: number as u32, place }
     }
 
-    /// The number of the check that failed, 1 to 18.
+    /// The number of the check that failed, 1 to 19.
     pub fn number(&self) -> u32 {
         self.number
     }
@@ -116,7 +120,7 @@ mod tests {
 
     #[test]
     fn every_number_has_a_text_of_its_own() {
-        for number in 1..=18 {
+        for number in 1..=19 {
             let text = Refusal::new(number, 0).text();
             assert!(text.contains(": "), "{text} does not say what to do");
             assert_eq!(TEXTS.iter().filter(|&&other| other == text).count(), 1, "{text}");
@@ -130,8 +134,8 @@ mod tests {
     }
 
     #[test]
-    #[should_panic(expected = "no refusal 19")]
+    #[should_panic(expected = "no refusal 20")]
     fn no_other_number() {
-        Refusal::new(19, 0);
+        Refusal::new(20, 0);
     }
 }

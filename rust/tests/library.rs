@@ -233,6 +233,7 @@ fn numbers() -> Vec<(&'static str, usize)> {
         ("REFUSED_OTHER_TABLE", Refusal::OTHER_TABLE),
         ("REFUSED_ROUNDS", Refusal::ROUNDS),
         ("REFUSED_UNCERTIFIED", Refusal::UNCERTIFIED),
+        ("REFUSED_PARKED_MOVES", Refusal::PARKED_MOVES),
     ];
     let others = [
         ("DONE", 0),
@@ -261,6 +262,7 @@ fn numbers() -> Vec<(&'static str, usize)> {
         ("KIND_BAD", 3),
         ("KIND_SHOWN", 4),
         ("KIND_MOVE", 5),
+        ("KIND_PARKED", 6),
         ("KIND_CARD_HEAD", 8),
         ("KIND_FIRST", 9),
         ("KIND_CELL", 10),

@@ -1,4 +1,4 @@
-//! The typed functions on the stations of docs/FORMAT.md and README.md.
+//! The typed functions on the stations of docs/FORMAT.md and README.md, and on one with a parked state.
 
 use kirdanzug::*;
 
@@ -140,6 +140,67 @@ fn fields_written() {
     assert_eq!(refused(write(&slot, &mut out)), (Refusal::UNUSED_SLOT, 0));
     assert_eq!(rewrite(&A, &mut out), Ok(&A[..]));
     assert_eq!(refused(rewrite(&A, &mut out[..9])), (Refusal::TABLE_ROOM, 10));
+}
+
+/// Document 01's station G: four states in a row; here the last is parked.
+const G_PARKED: [u32; 9] = [
+    0x11010104, 0x20000001, 0x30000000, 0x60000008, 0x4000000F, 0x50000002, 0x50010004, 0x50020008, 0x50030000,
+];
+const G_PARKED_CARD: [u32; 4] = [0x80110001, 0x90000000, 0xA000000F, 0xB0000000];
+
+/// The station G, drawn; no state is parked yet.
+fn station_g() -> Fields {
+    let states = [0, 1, 2, 3].map(State);
+    let mut station = Fields::new(4, 1, 1);
+    station.start = StateSet::of(&states[..1]);
+    station.set_shown(Observation(0), &states);
+    states.windows(2).for_each(|pair| station.set_move(Action(0), pair[0], &pair[1..]));
+    station
+}
+
+#[test]
+fn a_finished_station() {
+    let mut room = [0; TABLE_WORDS_MAX];
+    let (mut work, mut card) = ([0; work_words(4)], [0; 4]);
+    let mut station = station_g();
+    let table = write(&station, &mut room).expect("the station is right");
+    assert_eq!(table.len(), table_words(4, 1, 1));
+    assert_eq!(solve(table, &mut work, &mut card), Ok(Verdict::No { round: 4 }));
+    station.set_parked(&[State(3)]);
+    let table = write(&station, &mut room).expect("the station is right");
+    assert_eq!(table, G_PARKED);
+    let yes = Verdict::Yes { settled: 0, cells: 1, card: &G_PARKED_CARD };
+    assert_eq!(solve(table, &mut work, &mut card), Ok(yes));
+    assert_eq!(judge_card(table, &card), Ok(()));
+    assert_eq!(show(table, &card, Cell(0)), Ok(&G_PARKED[5..]));
+    assert_eq!(judge(table, StateSet(8), MAX_ROUNDS), Ok(true));
+    assert_eq!(rewrite(&G_PARKED, &mut [0; 9]), Ok(&G_PARKED[..]));
+    station.bad = StateSet(8);
+    let table = write(&station, &mut room).expect("the station is right");
+    assert_eq!(solve(table, &mut work, &mut card), Ok(Verdict::No { round: 4 }));
+    assert_eq!(refused(judge_card(table, &G_PARKED_CARD)), (Refusal::UNCERTIFIED, 2));
+}
+
+#[test]
+fn parked_states_refused() {
+    let mut room = [0; TABLE_WORDS_MAX];
+    let mut station = station_g();
+    station.parked = StateSet(8);
+    assert_eq!(refused(write(&station, &mut room)), (Refusal::UNUSED_SLOT, 0));
+    station.set_parked(&[State(1), State(2)]);
+    assert_eq!((station.parked_marked, station.parked), (true, StateSet(6)));
+    assert_eq!(refused(write(&station, &mut [])), (Refusal::PARKED_MOVES, 1));
+    assert_eq!(refused(check_table(&with(G_PARKED, 3, 0x6000000C))), (Refusal::PARKED_MOVES, 2));
+    station.set_parked(&[]);
+    assert_eq!(write(&station, &mut room), Ok(&with(G_PARKED, 3, 0x60000000)[..]));
+    assert_eq!(refused(write(&station, &mut room[..8])), (Refusal::TABLE_ROOM, 9));
+    station.set_parked(&[State(4)]);
+    assert_eq!(refused(write(&station, &mut room)), (Refusal::MASK, 3));
+    assert_eq!(refused(check_table(&with(G_PARKED, 0, 0x10010104))), (Refusal::LENGTH, 9));
+    for head in [0x12010104, 0x14010104, 0x18010104] {
+        assert_eq!(refused(check_table(&with(G_PARKED, 0, head))), (Refusal::HEAD, 0));
+    }
+    assert_eq!(TABLE_WORDS_MAX, 108);
 }
 
 #[test]
