@@ -120,7 +120,12 @@ pub fn parking(rng: &mut Rng, game: Game) -> Game {
         parked |= (0..game.n).filter(|&state| blocked(&game, state)).fold(0, |set, state| set | 1 << state);
     }
     let lost = if rng.percent(15) { parked & rng.set(game.n, 40) } else { 0 };
-    Game { parked: Some(parked), bad: game.bad | lost, ..ended(game, parked) }
+    Game { bad: game.bad | lost, ..parked_at(game, parked) }
+}
+
+/// The game with these states parked; their moves are cleared.
+pub fn parked_at(game: Game, states: u32) -> Game {
+    Game { parked: Some(states), ..ended(game, states) }
 }
 
 /// The game with every action blocked in these states.

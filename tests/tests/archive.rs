@@ -2,11 +2,12 @@
 #![cfg(feature = "archive")]
 
 use kirdanzug_tests::check::{keeps_clear, keeps_within, lasts_played, no_holds};
+use kirdanzug_tests::finished::Finished;
 use kirdanzug_tests::game::{subset, Game};
-use kirdanzug_tests::gen::{self, Rng, SHAPES};
+use kirdanzug_tests::gen::{self, Rng, Shape, SHAPES};
 use kirdanzug_tests::guard::{compare, ArchiveRunner};
 use kirdanzug_tests::oracle::{
-    self, card_length, work_length, Call, Card, Cell, Decided, Fields, Outcome, Spot, Verdict, NO_CELL,
+    self, card_length, work_length, Call, Card, Cell, Decided, Fields, Outcome, Spot, Verdict, NO_CELL, PARKED_BIT,
 };
 use kirdanzug_tests::run::{count, report, seed, spread};
 use kirdanzug_tests::stack;
@@ -16,7 +17,7 @@ use kirdanzug_tests::stations;
 const ENOUGH: u64 = 1000;
 
 /// The numbers of refusals, and 0.
-const NUMBERS: usize = 19;
+const NUMBERS: usize = 20;
 
 /// What the comparisons came by: how often each verdict and each refusal was the right answer.
 #[derive(Default, Clone)]
@@ -30,10 +31,12 @@ struct Tally {
     runs: Runs,
     checks: Checks,
     judged: Judged,
+    parked: Parked,
 }
 
 impl Tally {
     fn add(&mut self, call: &Call, outcome: &Outcome) {
+        self.parked.add_call(call, outcome);
         match *call {
             Call::Run { observations, out, .. } => return self.runs.add_run(observations.len(), out, outcome),
             Call::Drive { .. } => return self.runs.add_drive(outcome),
@@ -69,12 +72,13 @@ impl Tally {
             sum.runs.add(&part.runs);
             sum.checks.add(&part.checks);
             sum.judged.add(&part.judged);
+            sum.parked.add(&part.parked);
             sum
         })
     }
 
     fn report(&self, name: &str, tried: u64) {
-        let Tally { calls, yes, no, longest, most_cells, refusals, runs, checks, judged } = self;
+        let Tally { calls, yes, no, longest, most_cells, refusals, runs, checks, judged, parked } = self;
         report(&format!(
             "{name}: seed {}, {tried} inputs, {calls} calls, solve yes {yes} (up to {most_cells} cells), \
              no {no} (up to {longest} rounds), refusals {}",
@@ -84,6 +88,7 @@ impl Tally {
         runs.report(name);
         checks.report(name);
         judged.report(name);
+        parked.report(name);
     }
 
     /// The same where so many random inputs were tried that each number must have come up.
@@ -110,8 +115,15 @@ impl Tally {
     /// The same for the judge of cards.
     fn must_have_judged_of(&self, tried: u64) {
         if tried >= ENOUGH {
-            self.judged.must_have(&[0, 1, 2, 3, 4, 5, 6, 7, 13, 16, 18]);
+            self.judged.must_have(&[0, 1, 2, 3, 4, 5, 6, 7, 13, 16, 18, 19]);
             self.judged.must_have_drawn(tried / 4, tried / 10);
+        }
+    }
+
+    /// The same for tables with parked states.
+    fn must_have_parked_of(&self, tried: u64) {
+        if tried >= ENOUGH {
+            self.parked.must_have_all(tried / 50);
         }
     }
 
@@ -270,9 +282,9 @@ impl Checks {
 
     /// All that the checks and the write answer.
     fn must_have_all(&self) {
-        self.must_have_tables(&[0, 1, 2, 3, 4, 5, 6, 7]);
+        self.must_have_tables(&[0, 1, 2, 3, 4, 5, 6, 7, 19]);
         self.must_have_cards();
-        self.must_have_writes(&[0, 2, 5, 6, 7, 10, 11]);
+        self.must_have_writes(&[0, 2, 5, 6, 7, 10, 11, 19]);
     }
 }
 
@@ -343,6 +355,103 @@ impl Judged {
     fn must_have_drawn(&self, by_hand: u64, safe: u64) {
         assert!(self.by_hand >= by_hand, "{} cards by hand were accepted", self.by_hand);
         assert!(self.safe >= safe, "{} safe cards were refused", self.safe);
+    }
+}
+
+/// What calls on tables with a parked state came by.
+#[derive(Default, Clone)]
+struct Parked {
+    /// Solve: yes, no. The plain judge: good, not good. The judge of cards: accepted, refused by 18.
+    solved: [u64; 2],
+    good: [u64; 2],
+    cards: [u64; 2],
+    /// Accepted cards of which every play was played out.
+    played: u64,
+    /// Tables shown, written again, and written from fields.
+    shown: u64,
+    again: u64,
+    written: u64,
+    /// Tables written with the bit and no parked state.
+    none: u64,
+    /// Refused by 19: checks, solve, the plain judge, the judge of cards, show, rewrite, write.
+    moving: [u64; 7],
+}
+
+/// The mask of the parked states in a table's words, where it marks them.
+fn parked_in(table: &[u32]) -> Option<u32> {
+    (table.first()? & PARKED_BIT != 0).then(|| table.get(3).map(|word| word & 0xFFFF))?
+}
+
+impl Parked {
+    fn add_call(&mut self, call: &Call, outcome: &Outcome) {
+        let (number, parked) = match *call {
+            Call::CheckTable { table } => (0, parked_in(table)),
+            Call::Solve { table, .. } => (1, parked_in(table)),
+            Call::Judge { table, .. } => (2, parked_in(table)),
+            Call::JudgeCard { table, .. } => (3, parked_in(table)),
+            Call::Show { table, .. } => (4, parked_in(table)),
+            Call::Rewrite { table, .. } => (5, parked_in(table)),
+            Call::Write { fields, .. } => (6, fields.parked_marked.then_some(fields.parked)),
+            _ => return,
+        };
+        let Some(parked) = parked else { return };
+        let count = match (call, outcome.answer) {
+            (_, [2, 19, _]) => &mut self.moving[number],
+            (Call::Write { .. } | Call::Rewrite { .. }, [0, ..]) if parked == 0 => &mut self.none,
+            _ if parked == 0 => return,
+            (Call::JudgeCard { .. }, [0, ..]) => &mut self.cards[0],
+            (Call::JudgeCard { .. }, [2, 18, _]) => &mut self.cards[1],
+            (_, [2, ..]) => return,
+            (Call::Solve { .. }, [tag, ..]) => &mut self.solved[tag as usize],
+            (Call::Judge { .. }, [_, good, _]) => &mut self.good[1 - good as usize],
+            (Call::Show { .. }, _) => &mut self.shown,
+            (Call::Rewrite { .. }, _) => &mut self.again,
+            (Call::Write { .. }, _) => &mut self.written,
+            _ => return,
+        };
+        *count += 1;
+    }
+
+    fn add(&mut self, part: &Parked) {
+        let both = |sum: &mut [u64; 2], part: [u64; 2]| *sum = [0, 1].map(|i| sum[i] + part[i]);
+        both(&mut self.solved, part.solved);
+        both(&mut self.good, part.good);
+        both(&mut self.cards, part.cards);
+        self.played += part.played;
+        self.shown += part.shown;
+        self.again += part.again;
+        self.written += part.written;
+        self.none += part.none;
+        self.moving.iter_mut().zip(part.moving).for_each(|(mine, theirs)| *mine += theirs);
+    }
+
+    fn report(&self, name: &str) {
+        let Parked { solved, good, cards, played, shown, again, written, none, moving } = self;
+        if [solved, good, cards].into_iter().flatten().chain(moving).all(|&times| times == 0) {
+            return;
+        }
+        report(&format!(
+            "{name}, parked states: seed {}, solve yes, no {solved:?}, sets good, not good {good:?}, cards accepted, \
+             refused by 18 {cards:?}, played out {played}, shown {shown}, rewritten {again}, written {written}, with none parked {none}; by \
+             19 checked, solved, judged, card judged, shown, rewritten, written {moving:?}",
+            seed()
+        ));
+    }
+
+    /// Each answer came up, each verdict and each judgement so often, and each function met 19.
+    fn must_have_all(&self, least: u64) {
+        let Parked { solved, good, cards, played, shown, again, written, none, moving } = self;
+        for (name, both) in [("solve", solved), ("judge", good), ("judge of cards", cards)] {
+            assert!(both.iter().all(|&times| times >= least), "{name} with parked states: {both:?}");
+        }
+        assert!(*played >= least, "{played} accepted cards with parked states were played out");
+        assert!([shown, again, written, none].into_iter().all(|&times| times > 0), "shown or written");
+        assert!(moving.iter().all(|&times| times > 0), "19: {moving:?}");
+    }
+
+    /// Each verdict came up on tables with a parked state.
+    fn must_have_verdicts(&self) {
+        assert!(self.solved.iter().all(|&times| times > 0), "yes, no with parked states: {:?}", self.solved);
     }
 }
 
@@ -501,7 +610,9 @@ fn try_play(rng: &Rng, tally: &mut Tally, game: &Game, card: &Card) {
     let observations = &gen::play(rng, game, card, length);
     let card = &oracle::card_words(card);
     let taken = oracle::run(card, observations, length).map(|actions| actions.len());
-    assert_eq!(taken, Ok(length), "{game:?}");
+    assert_eq!(taken, Ok(observations.len()), "{game:?}");
+    // It may have ended before, but only in a parked state.
+    assert!(observations.len() == length || game.parked.is_some(), "{game:?}");
     try_call(rng, tally, Call::Run { card, observations, out: length });
 }
 
@@ -541,6 +652,36 @@ fn try_table(rng: &mut Rng, tally: &mut Tally, table: &[u32]) {
         try_card(rng, tally, table, &card, 1);
     }
     try_damaged(rng, tally, table);
+    try_moving(rng, tally, game);
+}
+
+/// Now and then a table in which a parked state moves on, and its fields.
+fn try_moving(rng: &Rng, tally: &mut Tally, game: Game) {
+    let rng = &mut rng.clone();
+    if rng.percent(10) {
+        let game = gen::moving_on(rng, game);
+        let table = &oracle::table_words(&game);
+        try_solve(rng, tally, table);
+        try_fields_of(rng, tally, &game);
+        try_judge(rng, tally, table, 1);
+        let card = &gen::card(rng, 2, game.a, game.o);
+        for call in [
+            Call::CheckTable { table },
+            Call::Rewrite { table, out: table.len() },
+            Call::Show { table, card, cell: 1 },
+            Call::JudgeCard { table, card },
+        ] {
+            try_call(rng, tally, call);
+        }
+    }
+}
+
+/// The game's fields, whatever its masks, with exact, short, long and no room.
+fn try_fields_of(rng: &mut Rng, tally: &mut Tally, game: &Game) {
+    let fields = &oracle::fields_of(game);
+    for out in lengths(rng, oracle::table_length(game.n, game.a, game.o, game.parked.is_some())) {
+        try_call(rng, tally, Call::Write { fields, out });
+    }
 }
 
 fn try_damaged(rng: &mut Rng, tally: &mut Tally, table: &[u32]) {
@@ -605,6 +746,7 @@ fn try_judged(rng: &mut Rng, tally: &mut Tally, station: &Station, words: &[u32]
             let held = |cell: &Cell| largest.cells.iter().any(|large| subset(cell.mask, large.mask));
             assert!(card.cells.iter().all(held), "{call:?}");
             tally.judged.by_hand += u64::from(card != *largest);
+            tally.parked.played += u64::from(game.parked.is_some_and(|parked| parked != 0));
         }
         18 => tally.judged.safe += u64::from(keeps_clear(game, &mut runner).is_ok()),
         _ => (),
@@ -652,7 +794,7 @@ impl Cards {
 }
 
 /// All cards of one, two or three cells against all tables of one or two states, with a state from n up in
-/// their sets too (alone, where there are many cards).
+/// their sets too (alone, where there are many cards). With the bit and no parked state some of the cards are enough.
 #[test]
 fn all_small_cards() {
     // States, actions, observations, cells, and how many masks.
@@ -667,17 +809,22 @@ fn all_small_cards() {
         (2, 2, 1, 2, 5),
         (2, 2, 2, 1, 5),
     ];
-    for (n, a, o, m, masks) in families {
-        let cards = Cards { a, o, m, masks };
-        let tables = 1u64 << (n * (2 + o + a * n));
+    for ((n, a, o, m, masks), marked) in families.into_iter().flat_map(|family| [(family, false), (family, true)]) {
+        let (cards, small) = (Cards { a, o, m, masks }, Small { n, a, o, marked });
         let work = |number: u64, tally: &mut Tally| {
-            let all = (0..cards.count()).map(|number| cards.words(number));
-            try_cards(&mut Rng::new(seed(), number), tally, &small_game(n, a, o, number), all);
+            let game = small.game(number);
+            let step = if game.parked == Some(0) { 37 } else { 1 };
+            let all = (0..cards.count()).step_by(step).map(|number| cards.words(number));
+            try_cards(&mut Rng::new(seed(), number), tally, &game, all);
         };
-        let tally = Tally::sum(spread(tables, work));
-        tally.judged.report(&format!("all cards of {m} cells, tables of n {n}, a {a}, o {o}"));
-        tally.judged.must_have(&[0, 6, 7, 18]);
-        tally.judged.must_have_drawn(90, 1000);
+        let tally = Tally::sum(spread(small.count(), work));
+        let name = format!("all cards of {m} cells, tables of {}", small.name());
+        tally.judged.report(&name);
+        tally.parked.report(&name);
+        tally.judged.must_have(if marked { &[0, 6, 7, 18, 19] } else { &[0, 6, 7, 18] });
+        tally.judged.must_have_drawn(if marked { 20 } else { 90 }, if marked { 20 } else { 1000 });
+        let Parked { cards, played, .. } = tally.parked;
+        assert!(!marked || played > 0 && cards[1] > 0, "cards played out {played}, {cards:?}");
     }
 }
 
@@ -715,7 +862,7 @@ fn cards_of_other_tables() {
     let tally = Tally::sum(spread(tables, work));
     tally.judged.report("cards of other tables");
     if tables >= ENOUGH {
-        tally.judged.must_have(&[0, 6, 7, 16, 18]);
+        tally.judged.must_have(&[0, 6, 7, 16, 18, 19]);
         tally.judged.must_have_drawn(tables / 50, tables / 20);
     }
 }
@@ -745,8 +892,12 @@ fn cards_of_every_length() {
 fn long_cards_judged() {
     let mut rng = Rng::new(seed(), 10);
     let mut tally = Tally::default();
-    for o in [1, 3, 8] {
-        let game = gen::open_game(&mut rng, 12, 8, o);
+    for (o, marked) in [(1, false), (3, false), (8, false), (1, true), (8, true)] {
+        let mut game = gen::unmarked_game(&mut rng, Shape::Sparse, 12, 8, o);
+        if marked {
+            game = gen::parking(&mut rng, game);
+        }
+        let game = gen::opened(game);
         let card = oracle::card_words(&gen::card_of_all_sets(&mut rng, &game));
         try_cards(&mut rng, &mut tally, &game, [card.clone()].into_iter());
         let first = (1..=o).find(|&place| card[place] & 0xFFFF != NO_CELL).expect("something is shown first");
@@ -767,7 +918,9 @@ fn long_cards_judged() {
     tally.judged.must_have(&[0, 18]);
     // With one observation the last word is at fault where it says that it cannot occur.
     assert!(tally.judged.most_cells == 4096 && tally.judged.highest > 4096 * 2);
-    assert_eq!(tally.judged.by_hand, 3);
+    assert_eq!(tally.judged.by_hand, 5);
+    tally.parked.report("long cards");
+    assert!(tally.parked.cards.iter().all(|&cards| cards > 0));
 }
 
 /// A card that is safe and not accepted: cell 1 is entered, though its set says that it never is.
@@ -789,59 +942,105 @@ fn stations_of_document_01() {
     }
 }
 
-/// All tables of one and two states with one or two actions and observations, those that are refused
-/// for an empty start or a state that shows nothing among them; on each, every mask, k, cell and
-/// observation, and one beyond, and every short run; and their fields written.
+/// The numbers of states, actions and observations of the smallest tables.
+const SMALL: [(usize, usize, usize); 8] =
+    [(1, 1, 1), (1, 1, 2), (1, 2, 1), (1, 2, 2), (2, 1, 1), (2, 1, 2), (2, 2, 1), (2, 2, 2)];
+
+/// All tables of one and two states with one or two actions and observations, with the bit and without, those that
+/// are refused for an empty start, a state that shows nothing or a parked state that moves on among them; on each,
+/// every mask, k, cell and observation, and one beyond, and every short run; and their fields written.
 #[test]
 fn all_small_tables() {
-    for (n, a, o) in [(1, 1, 1), (1, 1, 2), (1, 2, 1), (1, 2, 2), (2, 1, 1), (2, 1, 2), (2, 2, 1), (2, 2, 2)] {
-        let masks = 2 + o + a * n;
-        let tables = 1u64 << (n * masks);
-        let work = |number: u64, tally: &mut Tally| {
-            try_whole(&mut Rng::new(seed(), number), tally, &small_game(n, a, o, number));
-        };
-        let tally = Tally::sum(spread(tables, work));
-        tally.report(&format!("all tables of n {n}, a {a}, o {o}"), tables);
-        tally.must_have(&[5, 6, 7, 8, 9, 12, 17]);
-        // With one observation every state shows it, and it can always occur.
-        tally.runs.must_have(if o == 1 { &[12, 15] } else { &[12, 14, 15] });
-        tally.checks.must_have_tables(&[0, 6, 7]);
-        tally.checks.must_have_writes(&[0, 5, 6, 7, 10, 11]);
-        assert!(tally.checks.card[0] > 0);
+    for (n, a, o) in SMALL {
+        small_tables(Small { n, a, o, marked: false });
+        let tally = small_tables(Small { n, a, o, marked: true });
+        tally.must_have(&[19]);
+        tally.checks.must_have_tables(&[19]);
+        tally.checks.must_have_writes(&[19]);
+        tally.parked.must_have_verdicts();
+        let Parked { good, shown, again, written, none, .. } = tally.parked;
+        let counts = [good[0], good[1], shown, again, written, none];
+        assert!(counts.iter().all(|&times| times > 0), "sets good, not good, shown, written: {counts:?}");
     }
 }
 
-/// A game by its number: n bits for each mask.
-fn small_game(n: usize, a: usize, o: usize, number: u64) -> Game {
-    let digit = |i: usize| (number >> (i * n) & ((1 << n) - 1)) as u32;
-    let moves = (0..a).map(|c| (0..n).map(|state| digit(2 + o + c * n + state)).collect()).collect();
-    let shows = (0..o).map(|r| digit(2 + r)).collect();
-    Game { n, a, o, start: digit(0), bad: digit(1), shows, moves }
+fn small_tables(small: Small) -> Tally {
+    let work = |number: u64, tally: &mut Tally| {
+        try_whole(&mut Rng::new(seed(), number), tally, &small.game(number));
+    };
+    let tally = Tally::sum(spread(small.count(), work));
+    tally.report(&format!("all tables of {}", small.name()), small.count());
+    tally.must_have(&[5, 6, 7, 8, 9, 12, 17]);
+    // With one observation every state shows it, and it can always occur, but where all plays have ended.
+    tally.runs.must_have(if small.o == 1 && !small.marked { &[12, 15] } else { &[12, 14, 15] });
+    tally.checks.must_have_tables(&[0, 6, 7]);
+    tally.checks.must_have_writes(&[0, 5, 6, 7, 10, 11]);
+    assert!(tally.checks.card[0] > 0);
+    tally
 }
 
-/// The game's fields with every room about the length, with one state from n up in each mask, and with
-/// a state in the first and the last unused slots.
+/// The tables of these numbers of states, actions and observations, with the bit or without.
+#[derive(Clone, Copy)]
+struct Small {
+    n: usize,
+    a: usize,
+    o: usize,
+    marked: bool,
+}
+
+impl Small {
+    fn count(&self) -> u64 {
+        let masks = 2 + self.o + self.a * self.n + usize::from(self.marked);
+        1 << (self.n * masks)
+    }
+
+    /// A game by its number: n bits for each mask, the parked states' last.
+    fn game(&self, number: u64) -> Game {
+        let &Small { n, a, o, marked } = self;
+        let digit = |i: usize| (number >> (i * n) & ((1 << n) - 1)) as u32;
+        let moves = (0..a).map(|c| (0..n).map(|state| digit(2 + o + c * n + state)).collect()).collect();
+        let shows = (0..o).map(|r| digit(2 + r)).collect();
+        let parked = marked.then(|| digit(2 + o + a * n));
+        Game { n, a, o, start: digit(0), bad: digit(1), parked, shows, moves }
+    }
+
+    fn name(&self) -> String {
+        let &Small { n, a, o, marked } = self;
+        format!("n {n}, a {a}, o {o}{}", if marked { ", the bit set" } else { "" })
+    }
+}
+
+/// The game's fields with every room about the length, with one state from n up in each mask, with a state in
+/// the first and the last unused slots, and with the bit changed.
 fn try_fields(rng: &Rng, tally: &mut Tally, game: &Game) {
     let rng = &mut rng.clone();
     let fields = oracle::fields_of(game);
-    let length = oracle::table_length(game.n, game.a, game.o);
+    let length = oracle::table_length(game.n, game.a, game.o, game.parked.is_some());
     for out in [0, length - 1, length, length + 1] {
         try_call(rng, tally, Call::Write { fields: &fields, out });
     }
     let used = game.a * game.n;
-    let shown = (0..=game.o).chain([7]).map(|slot| 2 + slot);
-    let moved = (0..=used).chain([95]).map(|slot| 10 + slot);
-    for mask in [0, 1].into_iter().chain(shown).chain(moved) {
+    let shown = (0..=game.o).chain([7]).map(|slot| 3 + slot);
+    let moved = (0..=used).chain([95]).map(|slot| 11 + slot);
+    for mask in [0, 1, 2].into_iter().chain(shown).chain(moved) {
         let mut changed = fields.clone();
-        *masks(&mut changed).nth(mask).expect("there are 106 masks") |= 1 << game.n;
+        *masks(&mut changed).nth(mask).expect("there is such a mask") |= 1 << game.n;
         try_call(rng, tally, Call::Write { fields: &changed, out: length });
+    }
+    for parked in [fields.parked, 0, 1, 1 << game.n] {
+        let changed = &Fields { parked_marked: !fields.parked_marked, parked, ..fields.clone() };
+        for out in [length, length + 1] {
+            try_call(rng, tally, Call::Write { fields: changed, out });
+        }
     }
 }
 
-/// Start, bad, and all slots.
+/// How many masks there are among the fields: start, bad, parked, and all slots.
+const MASKS: usize = 3 + 8 + 96;
+
 fn masks(fields: &mut Fields) -> impl Iterator<Item = &mut u32> {
-    let Fields { start, bad, observations, moves, .. } = fields;
-    [start, bad].into_iter().chain(observations).chain(moves)
+    let Fields { start, bad, parked, observations, moves, .. } = fields;
+    [start, bad, parked].into_iter().chain(observations).chain(moves)
 }
 
 /// Every entry with every small number on one small table.
@@ -915,29 +1114,124 @@ fn random_tables(name: &str, tables: u64, least: usize, most: usize) -> Tally {
 #[test]
 fn random_tables_up_to_six_states() {
     let tally = random_tables("random tables up to 6 states", count(1), 1, 6);
-    tally.must_have_of(count(1), &[1, 2, 3, 4, 5, 6, 7, 8, 9, 10, 12, 13, 14, 16, 17]);
+    tally.must_have_of(count(1), &[1, 2, 3, 4, 5, 6, 7, 8, 9, 10, 12, 13, 14, 16, 17, 19]);
     tally.must_have_runs_of(count(1));
     tally.must_have_checks_of(count(1));
     tally.must_have_judged_of(count(1));
+    tally.must_have_parked_of(count(1));
 }
 
-/// The largest games known to us: long counters and wide rings, with every entry.
+/// The largest games known to us: long counters and wide rings, with every entry; and the same with parked states.
 #[test]
 fn counters_and_rings() {
     let mut rng = Rng::new(seed(), 5);
     let mut tally = Tally::default();
     for n in 2..=12 {
-        try_table(&mut rng, &mut tally, &oracle::table_words(&gen::counter(n)));
         let blocked = gen::WIDE_RING.map(|set| set & ((1 << n) - 1));
-        try_table(&mut rng, &mut tally, &oracle::table_words(&gen::ring(n, &blocked, 8)));
+        for game in [gen::counter(n), gen::ring(n, &blocked, 8)] {
+            try_table(&mut rng, &mut tally, &oracle::table_words(&game));
+            for _ in 0..2 {
+                let parking = gen::parking(&mut rng, game.clone());
+                try_table(&mut rng, &mut tally, &oracle::table_words(&parking));
+            }
+        }
     }
-    tally.report("counters and rings", 22);
+    tally.report("counters and rings", 66);
     assert!(tally.longest >= 64 && tally.most_cells >= 498);
+    tally.parked.must_have_verdicts();
 }
 
 #[test]
 fn random_tables_up_to_twelve_states() {
-    random_tables("random tables up to 12 states", count(25), 7, 12);
+    let tally = random_tables("random tables up to 12 states", count(25), 7, 12);
+    tally.must_have_parked_of(count(25));
+}
+
+// ---- Finished batches --------------------------------------------------------------------------
+
+/// The archive's answer, which must be the oracle's.
+fn asked(rng: &mut Rng, tally: &mut Tally, call: Call) -> Outcome {
+    let expected = oracle::outcome(&call);
+    compare(rng, &call, &expected);
+    tally.add(&call, &expected);
+    expected
+}
+
+/// What change 2 says of all tables, on all the smallest.
+#[test]
+fn finished_batches_on_all_small_tables() {
+    let (mut met, mut tally) = (Finished::default(), Tally::default());
+    for (n, a, o) in SMALL {
+        for small in [false, true].map(|marked| Small { n, a, o, marked }) {
+            let work = |number: u64, (met, tally): &mut (Finished, Tally)| {
+                let (rng, game) = (&mut Rng::new(seed(), number), small.game(number));
+                if oracle::read_table(&oracle::table_words(&game)).is_ok() {
+                    met.table(&mut |call| asked(rng, tally, call), &game);
+                }
+            };
+            for (part, calls) in spread(small.count(), work) {
+                met.add(&part);
+                tally = Tally::sum(vec![tally, calls]);
+            }
+        }
+    }
+    report(&format!("finished batches, all small tables: {met:?}"));
+    tally.report("finished batches, all small tables", 1);
+    // It takes three states to win a round and lose all the same.
+    met.must_have_all_but(&["a later round", "moving on", "two moving on"]);
+}
+
+/// The same on random tables, and on those in which a parked state moves on.
+#[test]
+fn finished_batches_on_random_tables() {
+    let work = |i: u64, (met, tally): &mut (Finished, Tally)| {
+        let rng = &mut Rng::new(seed(), i);
+        let most = rng.pick(&[5, 5, 5, 8]);
+        let (n, a, o) = (rng.within(1, most), rng.within(1, 8), rng.within(1, 8));
+        let mut game = gen::unmarked_game(rng, SHAPES[i as usize % SHAPES.len()], n, a, o);
+        if rng.percent(50) {
+            game = gen::with_ends(rng, game);
+        }
+        if rng.percent(70) {
+            game = gen::parking(rng, game);
+        }
+        met.table(&mut |call| asked(rng, tally, call), &game);
+        let moving = gen::moving_on(rng, game);
+        met.moving_on(&mut |call| asked(rng, tally, call), &moving);
+    };
+    let (mut met, tables) = (Finished::default(), count(10));
+    spread(tables, work).iter().for_each(|(part, _)| met.add(part));
+    report(&format!("finished batches, random tables: seed {}, {tables} tables, {met:?}", seed()));
+    if tables >= ENOUGH {
+        met.must_have_all_but(&[]);
+    }
+}
+
+/// The head's bits about the one for parked states: 25, 26 and 27 are spare (2), 24 is not: a word is missing or
+/// too many (3).
+#[test]
+fn bits_of_the_head() {
+    let mut rng = Rng::new(seed(), 11);
+    let tables: [&[u32]; 5] = [&stations::A, &stations::A_NONE, &stations::E_PARKED, &stations::G_LOST, &stations::N];
+    for table in tables {
+        for bits in 1..16 {
+            let mut changed = table.to_vec();
+            changed[0] ^= bits << 24;
+            let expected = if bits == 1 { Outcome::refused(3, table.len() as u64) } else { Outcome::refused(2, 0) };
+            let (table, card) = (&changed, &stations::A_CARD);
+            for call in [
+                Call::CheckTable { table },
+                Call::Solve { table, work: 64, card: 64 },
+                Call::Judge { table, mask: 1, k: 1 },
+                Call::Rewrite { table, out: 40 },
+                Call::Show { table, card, cell: 0 },
+                Call::JudgeCard { table, card },
+            ] {
+                compare(&mut rng, &call, &expected);
+                assert_eq!(oracle::outcome(&call), expected, "{call:?}");
+            }
+        }
+    }
 }
 
 /// Every bit of every word of the stations' tables and cards flipped, and each word cut or doubled.
@@ -945,8 +1239,9 @@ fn random_tables_up_to_twelve_states() {
 fn every_single_damage_to_the_stations() {
     let mut rng = Rng::new(seed(), 1);
     let mut tally = Tally::default();
-    let tables: [&[u32]; 8] = [
+    let tables: [&[u32]; 14] = [
         &stations::A, &stations::B, &stations::C, &stations::D, &stations::E, &stations::F, &stations::G, &stations::H,
+        &stations::A_NONE, &stations::E_PARKED, &stations::E_LOST, &stations::G_PARKED, &stations::M, &stations::N,
     ];
     for table in tables {
         for damaged in all_damages(table) {
@@ -955,13 +1250,19 @@ fn every_single_damage_to_the_stations() {
             try_call(&mut rng, &mut tally, Call::Judge { table: &damaged, mask: 1, k: 2 });
             try_call(&mut rng, &mut tally, Call::Rewrite { table: &damaged, out: table.len() });
             try_call(&mut rng, &mut tally, Call::Show { table: &damaged, card: &stations::A_CARD, cell: 1 });
-            for card in [&stations::A_CARD[..], &stations::C_CARD, &stations::F_CARD] {
+            for card in [&stations::A_CARD[..], &stations::C_CARD, &stations::F_CARD, &stations::N_CARD] {
                 try_check(&rng, &mut tally, Call::JudgeCard { table: &damaged, card });
             }
         }
     }
-    let cards: [(&[u32], &[u32]); 3] =
-        [(&stations::A, &stations::A_CARD), (&stations::C, &stations::C_CARD), (&stations::F, &stations::F_CARD)];
+    let cards: [(&[u32], &[u32]); 6] = [
+        (&stations::A, &stations::A_CARD),
+        (&stations::C, &stations::C_CARD),
+        (&stations::F, &stations::F_CARD),
+        (&stations::E_PARKED, &stations::E_PARKED_CARD),
+        (&stations::M, &stations::M_CARD),
+        (&stations::N, &stations::N_CARD),
+    ];
     for (table, card) in cards {
         for damaged in all_damages(card) {
             try_check(&rng, &mut tally, Call::CheckCard { card: &damaged });
@@ -974,35 +1275,55 @@ fn every_single_damage_to_the_stations() {
             try_all_runs(&rng, &mut tally, &damaged, 2);
         }
     }
-    tally.report("every single damage", 11);
-    tally.must_have(&[1, 2, 3, 4, 5, 6, 7, 13, 14, 16]);
+    tally.report("every single damage", 20);
+    tally.must_have(&[1, 2, 3, 4, 5, 6, 7, 13, 14, 16, 19]);
     tally.runs.must_have_all();
-    tally.checks.must_have_tables(&[0, 1, 2, 3, 4, 5, 6, 7]);
+    tally.checks.must_have_tables(&[0, 1, 2, 3, 4, 5, 6, 7, 19]);
     tally.checks.must_have_cards();
-    tally.judged.must_have(&[0, 1, 2, 3, 4, 5, 6, 7, 13, 16, 18]);
+    tally.judged.must_have(&[0, 1, 2, 3, 4, 5, 6, 7, 13, 16, 18, 19]);
+    tally.parked.must_have_verdicts();
 }
 
-/// Every bit of every number, mask and slot of the stations' fields flipped, with exact and no room.
+/// Every bit of every number, mask and slot of the stations' fields flipped, with the bit of parked states and with
+/// it changed, with exact, more and no room.
 #[test]
 fn every_single_damage_to_the_fields() {
     let mut rng = Rng::new(seed(), 9);
     let mut tally = Tally::default();
-    for table in [&stations::A[..], &stations::B, &stations::C, &stations::D, &stations::E, &stations::TWELVE] {
+    let unmarked: [&[u32]; 6] =
+        [&stations::A, &stations::B, &stations::C, &stations::D, &stations::E, &stations::TWELVE];
+    let marked: [&[u32]; 5] =
+        [&stations::A_NONE, &stations::E_PARKED, &stations::G_PARKED, &stations::M, &stations::N];
+    for table in unmarked.into_iter().chain(marked) {
         let fields = oracle::read_fields(table).expect("the table is accepted");
-        for (place, bit) in (0..3 + 106).flat_map(|place| (0..32).map(move |bit| (place, bit))) {
-            let mut changed = fields.clone();
-            let Fields { n, a, o, .. } = &mut changed;
-            match place {
-                0..=2 => *[n, a, o][place] ^= 1 << bit,
-                _ => *masks(&mut changed).nth(place - 3).expect("there are 106 masks") ^= 1 << bit,
-            }
-            for out in [table.len(), 0] {
-                try_call(&mut rng, &mut tally, Call::Write { fields: &changed, out });
-            }
+        let other = Fields { parked_marked: !fields.parked_marked, ..fields.clone() };
+        for fields in [fields, other] {
+            try_flipped(&mut rng, &mut tally, &fields, table.len());
         }
     }
     tally.checks.report("every single damage to fields");
-    tally.checks.must_have_writes(&[0, 2, 5, 6, 7, 10, 11]);
+    tally.parked.report("every single damage to fields");
+    tally.checks.must_have_writes(&[0, 2, 5, 6, 7, 10, 11, 19]);
+    assert!(tally.parked.written > 0 && tally.parked.none > 0);
+}
+
+/// The fields as they are, and with every bit flipped.
+fn try_flipped(rng: &mut Rng, tally: &mut Tally, fields: &Fields, length: usize) {
+    let mut one = |fields: &Fields| {
+        for out in [length, length + 1, 0] {
+            try_call(rng, tally, Call::Write { fields, out });
+        }
+    };
+    one(fields);
+    for (place, bit) in (0..3 + MASKS).flat_map(|place| (0..32).map(move |bit| (place, bit))) {
+        let mut changed = fields.clone();
+        let Fields { n, a, o, .. } = &mut changed;
+        match place {
+            0..=2 => *[n, a, o][place] ^= 1 << bit,
+            _ => *masks(&mut changed).nth(place - 3).expect("there is such a mask") ^= 1 << bit,
+        }
+        one(&changed);
+    }
 }
 
 fn all_damages(words: &[u32]) -> Vec<Vec<u32>> {
@@ -1166,25 +1487,30 @@ fn tables_at_the_limits() {
     for n in [0, 1, 2, 11, 12, 13, 16, 255] {
         for a in [0, 1, 7, 8, 9, 255] {
             for o in [0, 1, 7, 8, 9, 255] {
-                try_size(&mut rng, &mut tally, n, a, o);
+                try_size(&mut rng, &mut tally, n, a, o, false);
+                try_size(&mut rng, &mut tally, n, a, o, true);
             }
         }
     }
-    tally.report("tables at the limits", 8 * 6 * 6);
+    tally.report("tables at the limits", 2 * 8 * 6 * 6);
     tally.must_have(&[2, 3, 8]);
     tally.checks.must_have_tables(&[0, 2, 3]);
     tally.checks.must_have_writes(&[0, 2, 10]);
+    assert!(tally.parked.solved[0] > 0 && tally.parked.written > 0);
 }
 
-fn try_size(rng: &mut Rng, tally: &mut Tally, n: usize, a: usize, o: usize) {
+/// Where parked states are marked, the highest is parked.
+fn try_size(rng: &mut Rng, tally: &mut Tally, n: usize, a: usize, o: usize, marked: bool) {
     let shows = vec![(1u64 << n.min(16)) as u32 - 1; o];
-    let moves = vec![vec![1; n]; a];
-    let game = Game { n, a, o, start: 1, bad: 0, shows, moves };
+    let row = (0..n).map(|state| u32::from(!marked || state + 1 < n)).collect();
+    let parked = marked.then_some((1u32 << n.min(16)) >> 1);
+    let game = Game { n, a, o, start: 1, bad: 0, parked, shows, moves: vec![row; a] };
     // The words fit where the numbers do; elsewhere only the head counts.
     let fits = n <= 12 && a <= 8 && o <= 8;
+    let head = 0x1000_0000 | u32::from(marked) << 24 | (o as u32) << 16 | (a as u32) << 8 | n as u32;
     let mut table = match fits && n > 0 {
         true => oracle::table_words(&game),
-        false => vec![0x1000_0000 | (o as u32) << 16 | (a as u32) << 8 | n as u32; 3 + o + a * n],
+        false => vec![head; oracle::table_length(n, a, o, marked)],
     };
     try_sized(rng, tally, &game, table.len());
     let mut both = |table: &[u32]| {
@@ -1204,10 +1530,11 @@ fn try_sized(rng: &Rng, tally: &mut Tally, game: &Game, length: usize) {
     let rng = &mut rng.clone();
     let mut fields = Fields { n: game.n as u32, a: game.a as u32, o: game.o as u32, ..stations::A_FIELDS };
     (fields.start, fields.bad) = (1, 0);
+    (fields.parked_marked, fields.parked) = (game.parked.is_some(), game.parked.unwrap_or(0));
     let states = (1u32 << game.n.min(16)) - 1;
     fields.observations = [0, 1, 2, 3, 4, 5, 6, 7].map(|slot| if slot < game.o { states } else { 0 });
-    let used = game.a * game.n;
-    (0..96).for_each(|slot| fields.moves[slot] = u32::from(slot < used));
+    let moves = game.moves.concat();
+    (0..96).for_each(|slot| fields.moves[slot] = moves.get(slot).copied().unwrap_or(0));
     for out in [0, length.saturating_sub(1), length, length + 1] {
         try_call(rng, tally, Call::Write { fields: &fields, out });
     }

@@ -123,22 +123,38 @@ fn program_prints_what_the_oracle_says() {
     let Some(program) = program() else { return };
     let seed = seed();
     let inputs = count(100);
-    let work = |i: u64, kinds: &mut [u64; 3]| {
+    let work = |i: u64, kinds: &mut [u64; 6]| {
         let mut rng = Rng::new(seed, i);
         let input = input(&mut rng, i as usize);
         let expected = oracle::program(&input);
         assert_eq!(printed(&program, &input), expected, "{input:?}");
-        kinds[["y", "n", "r"].iter().position(|&start| expected.starts_with(start)).unwrap()] += 1;
+        let kind = KINDS.iter().position(|&start| expected.starts_with(start)).expect("it is an answer");
+        // The parked states' word is the fourth.
+        let parked = input.get(3) == Some(&0x11) && input.get(12..14).is_some_and(|mask| mask != [0, 0]);
+        kinds[kind] += 1;
+        kinds[3 + kind] += u64::from(parked && (kind < 2 || expected.starts_with("refused 19 ")));
     };
-    let kinds = spread(inputs, work).into_iter().fold([0; 3], |sum, part| [0, 1, 2].map(|i| sum[i] + part[i]));
-    report(&format!("program: seed {seed}, {inputs} inputs, yes, no, refused: {kinds:?}"));
-    assert!(kinds.iter().all(|&kind| kind > 0) || inputs < 100);
+    let sum = |sum: [u64; 6], part: [u64; 6]| [0, 1, 2, 3, 4, 5].map(|i| sum[i] + part[i]);
+    let kinds = spread(inputs, work).into_iter().fold([0; 6], sum);
+    report(&format!(
+        "program: seed {seed}, {inputs} inputs, yes, no, refused: {:?}; with parked states yes, no, refused by 19: {:?}",
+        &kinds[..3],
+        &kinds[3..]
+    ));
+    assert!(kinds.iter().all(|&kind| kind > 0) || inputs < 1000);
 }
 
-/// A table's bytes, sometimes damaged as words, sometimes as bytes, sometimes very long.
+/// How the answers begin.
+const KINDS: [&str; 3] = ["yes", "no", "refused"];
+
+/// A table's bytes, sometimes with a parked state that moves on, sometimes damaged as words, sometimes as bytes, sometimes very long.
 fn input(rng: &mut Rng, i: usize) -> Vec<u8> {
     let (n, a, o) = (rng.within(1, 12), rng.within(1, 8), rng.within(1, 8));
-    let mut table = gen::table(rng, SHAPES[i % SHAPES.len()], n, a, o);
+    let mut game = gen::game(rng, SHAPES[i % SHAPES.len()], n, a, o);
+    if rng.percent(5) {
+        game = gen::moving_on(rng, game);
+    }
+    let mut table = oracle::table_words(&game);
     if rng.percent(20) {
         gen::damage(rng, &mut table);
     }

@@ -96,13 +96,37 @@ struct Tables {
 }
 
 fn random_tables(shape: Shape, n: usize, count: u64) -> Vec<Vec<u32>> {
-    let table = |i| gen::table(&mut Rng::new(seed(), i), shape, n, 8, 8);
+    let table = |i| table_words(&gen::unmarked_game(&mut Rng::new(seed(), i), shape, n, 8, 8));
     (0..count).map(table).collect()
 }
 
+/// The shapes of the mixed rows.
+fn mixed_shapes() -> impl Iterator<Item = Shape> {
+    SHAPES.into_iter().filter(|&shape| shape != Shape::Counter && shape != Shape::Ring)
+}
+
 fn mixed_tables(n: usize, count: u64) -> Vec<Vec<u32>> {
-    let shapes = SHAPES.iter().filter(|&&shape| shape != Shape::Counter && shape != Shape::Ring);
-    shapes.flat_map(|&shape| random_tables(shape, n, count)).collect()
+    mixed_shapes().flat_map(|shape| random_tables(shape, n, count)).collect()
+}
+
+/// The random tables with some states parked in each; none is bad as well.
+fn parked_tables(shape: Shape, n: usize, count: u64) -> Vec<Vec<u32>> {
+    let table = |i| {
+        let rng = &mut Rng::new(seed(), i);
+        let game = gen::unmarked_game(rng, shape, n, 8, 8);
+        let parked = rng.some_set(n, 25) & !game.bad;
+        table_words(&gen::parked_at(game, parked))
+    };
+    (0..count).map(table).collect()
+}
+
+fn mixed_parked_tables(n: usize, count: u64) -> Vec<Vec<u32>> {
+    mixed_shapes().flat_map(|shape| parked_tables(shape, n, count)).collect()
+}
+
+/// The ring with 498 cells, and its last state parked.
+fn parked_ring(o: usize) -> Vec<Vec<u32>> {
+    vec![table_words(&gen::parked_at(gen::ring(12, &gen::WIDE_RING, o), 1 << 11))]
 }
 
 /// The ring with 498 cells.
@@ -120,6 +144,18 @@ fn rows_at_twelve() -> Vec<Tables> {
     add("knowledge counter, n 12".into(), vec![table_words(&gen::counter(12))]);
     add("large antichain, n 12, o 1".into(), wide_ring(1));
     add("large antichain, n 12, o 8".into(), wide_ring(8));
+    rows
+}
+
+/// The same with parked states.
+fn parked_rows_at_twelve() -> Vec<Tables> {
+    let mut rows = Vec::new();
+    let mut add = |name: &str, tables| rows.push(Tables { name: format!("parked, {name}"), tables });
+    for shape in [Shape::Sparse, Shape::Blocked] {
+        add(&format!("random, {shape:?}, n 12, a 8, o 8"), parked_tables(shape, 12, 20));
+    }
+    add("random, mixed, n 12, a 8, o 8", mixed_parked_tables(12, 5));
+    add("ring, n 12, o 8", parked_ring(8));
     rows
 }
 
@@ -315,7 +351,15 @@ fn solved(tables: Vec<Vec<u32>>) -> Vec<Pair> {
 /// A card drawn by hand with a cell for each of the 4,096 sets of twelve states.
 fn all_sets(o: usize) -> Pair {
     let mut rng = Rng::new(seed(), 4);
-    let game = gen::open_game(&mut rng, 12, 8, o);
+    let game = gen::opened(gen::unmarked_game(&mut rng, Shape::Sparse, 12, 8, o));
+    (table_words(&game), card_words(&gen::card_of_all_sets(&mut rng, &game)))
+}
+
+/// The same with three of the states parked.
+fn all_parked_sets(o: usize) -> Pair {
+    let mut rng = Rng::new(seed(), 4);
+    let game = gen::opened(gen::unmarked_game(&mut rng, Shape::Sparse, 12, 8, o));
+    let game = gen::parked_at(game, 0x888);
     (table_words(&game), card_words(&gen::card_of_all_sets(&mut rng, &game)))
 }
 
@@ -395,6 +439,7 @@ fn main() {
     print_cards();
     print_card_judges();
     println!("\nMedian ratio of the solve rows: {:.2}\n", median(ratios));
+    print_parked();
     print_head();
     let curves = growth();
     match plot {
@@ -450,6 +495,27 @@ fn print_card_judges() {
         row(&format!("all sets, by hand, n 12, o {o}"), &[all_sets(o)]);
         row(&format!("all sets, refused at a first word, o {o}"), &[refused_early(all_sets(o), o)]);
     }
+}
+
+/// The rows with parked states: solve, the plain judge, the judge of cards.
+fn print_parked() {
+    print_head();
+    for row in parked_rows_at_twelve() {
+        print_row(&format!("solve: {}", row.name), &measure_solve(&row.tables));
+    }
+    let mut rng = Rng::new(seed(), 2);
+    for shape in [Shape::Sparse, Shape::Blocked] {
+        let tables = parked_tables(shape, 12, 20);
+        let masks: Vec<u32> = tables.iter().map(|_| rng.some_set(12, 15)).collect();
+        print_row(&format!("judge: parked, {shape:?}, n 12, k 4"), &measure_judge(&tables, &masks, 4));
+    }
+    let row = |name: &str, pairs: &[Pair]| {
+        print_row(&format!("judge of cards: parked, {name}"), &measure_card_judge(pairs));
+    };
+    row("station N", &[(stations::N.to_vec(), stations::N_CARD.to_vec())]);
+    row("random, mixed, n 12, a 8, o 8", &solved(mixed_parked_tables(12, 5)));
+    row("all sets, by hand, n 12, o 8", &[all_parked_sets(8)]);
+    println!();
 }
 
 /// A curve of the plot: its name and, for each n, the medians.
