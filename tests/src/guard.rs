@@ -24,6 +24,9 @@ impl Draw for u64 {
     }
 }
 
+/// So many words of a buffer are printed where one is wrong.
+const SHOWN: usize = 40;
+
 /// A lent buffer between guard words.
 struct Lent<T> {
     all: Vec<T>,
@@ -65,7 +68,10 @@ impl<T: Draw> Lent<T> {
     fn check(&self, what: &str, call: &Call) {
         if let Some(i) = (0..self.all.len()).find(|&i| self.all[i] != self.expected[i]) {
             let (place, held, wanted) = (i as i64 - self.from as i64, self.all[i], self.expected[i]);
-            panic!("{what}: word {place} of {} is {held:x?}, not {wanted:x?}\n{call:?}", self.length);
+            let (from, to) = (self.from, self.from + self.length.min(SHOWN));
+            let (got, expected) = (&self.all[from..to], &self.expected[from..to]);
+            let both = format!("     got {got:x?}\nexpected {expected:x?}");
+            panic!("{what}: word {place} of {} is {held:x?}, not {wanted:x?}\n{call:?}\n{both}", self.length);
         }
     }
 }

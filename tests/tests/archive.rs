@@ -13,8 +13,9 @@ use kirdanzug_tests::run::{count, report, seed, spread};
 use kirdanzug_tests::stack;
 use kirdanzug_tests::stations;
 
-/// How many random inputs are enough for every verdict and refusal to come up.
-const ENOUGH: u64 = 1000;
+/// How many random inputs are enough for every verdict and refusal to come up; the rarest, 6 and 7, come up in
+/// one of some hundreds.
+const ENOUGH: u64 = 4000;
 
 /// The numbers of refusals, and 0.
 const NUMBERS: usize = 20;
@@ -432,8 +433,8 @@ impl Parked {
         }
         report(&format!(
             "{name}, parked states: seed {}, solve yes, no {solved:?}, sets good, not good {good:?}, cards accepted, \
-             refused by 18 {cards:?}, played out {played}, shown {shown}, rewritten {again}, written {written}, with none parked {none}; by \
-             19 checked, solved, judged, card judged, shown, rewritten, written {moving:?}",
+             refused by 18 {cards:?}, played out {played}, shown {shown}, rewritten {again}, written {written}, with \
+             none parked {none}; by 19 checked, solved, judged, card judged, shown, rewritten, written {moving:?}",
             seed()
         ));
     }

@@ -134,11 +134,13 @@ fn verdicts_by_literal_strategies() {
 fn verdicts_by_literal_strategies_on_three_states() {
     let seed = seed();
     let (mut tried, mut longest, mut parked) = (0, 0, [0; 2]);
-    for i in 0..count(50) {
+    let random = (0..count(50)).map(|i| {
         let mut rng = Rng::new(seed, i);
         let shape = rng.pick(&SHAPES);
         let (a, o) = (rng.within(1, 2), rng.within(1, 2));
-        let game = gen::game(&mut rng, shape, 3, a, o);
+        gen::game(&mut rng, shape, 3, a, o)
+    });
+    for game in random.chain(long_games()) {
         let verdict = game::verdict(&game);
         let rounds = verdict.unwrap_or(3);
         // At most 2^14 strategies.
@@ -154,10 +156,24 @@ fn verdicts_by_literal_strategies_on_three_states() {
         assert!(literal::some_strategy_lasts(&game, rounds - 1), "{game:?}");
     }
     report(&format!(
-        "literal strategies on three states: seed {seed}, {tried} games, up to {longest} rounds; with parked states no, \
-         yes: {parked:?}"
+        "literal strategies on three states: seed {seed}, {tried} games, up to {longest} rounds; with parked states \
+         no, yes: {parked:?}"
     ));
-    assert!(tried < 1000 || longest > 3 && parked.iter().all(|&games| games > 50));
+    assert!(longest >= 6 && (tried < 1000 || parked.iter().all(|&games| games > 50)));
+}
+
+/// Games of three states that are lost late, found by search: no with 6, and with a parked state no with 4.
+fn long_games() -> [Game; 2] {
+    let game = |start, bad, parked, moves: [[u32; 3]; 2]| {
+        let moves = moves.map(Vec::from).to_vec();
+        Game { n: 3, a: 2, o: 1, start, bad, parked, shows: vec![7], moves }
+    };
+    [game(2, 0, None, [[4, 0, 3], [4, 1, 0]]), game(1, 4, Some(4), [[4, 3, 0], [2, 0, 0]])]
+}
+
+#[test]
+fn long_games_are_long() {
+    assert_eq!(long_games().map(|game| game::verdict(&game)), [Some(6), Some(4)]);
 }
 
 /// What a comparison of many games came by.

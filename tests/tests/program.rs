@@ -136,10 +136,10 @@ fn program_prints_what_the_oracle_says() {
     };
     let sum = |sum: [u64; 6], part: [u64; 6]| [0, 1, 2, 3, 4, 5].map(|i| sum[i] + part[i]);
     let kinds = spread(inputs, work).into_iter().fold([0; 6], sum);
+    let (kinds_of_all, parked) = kinds.split_at(3);
     report(&format!(
-        "program: seed {seed}, {inputs} inputs, yes, no, refused: {:?}; with parked states yes, no, refused by 19: {:?}",
-        &kinds[..3],
-        &kinds[3..]
+        "program: seed {seed}, {inputs} inputs, yes, no, refused: {kinds_of_all:?}; with parked states yes, no, \
+         refused by 19: {parked:?}"
     ));
     assert!(kinds.iter().all(|&kind| kind > 0) || inputs < 1000);
 }
@@ -147,7 +147,8 @@ fn program_prints_what_the_oracle_says() {
 /// How the answers begin.
 const KINDS: [&str; 3] = ["yes", "no", "refused"];
 
-/// A table's bytes, sometimes with a parked state that moves on, sometimes damaged as words, sometimes as bytes, sometimes very long.
+/// A table's bytes, sometimes with a parked state that moves on, sometimes damaged as words, sometimes as bytes,
+/// sometimes very long.
 fn input(rng: &mut Rng, i: usize) -> Vec<u8> {
     let (n, a, o) = (rng.within(1, 12), rng.within(1, 8), rng.within(1, 8));
     let mut game = gen::game(rng, SHAPES[i % SHAPES.len()], n, a, o);
