@@ -967,7 +967,13 @@ fn all_small_tables() {
 
 fn small_tables(small: Small) -> Tally {
     let work = |number: u64, tally: &mut Tally| {
-        try_whole(&mut Rng::new(seed(), number), tally, &small.game(number));
+        let (rng, game) = (&mut Rng::new(seed(), number), small.game(number));
+        // Most of those with the bit are refused, in the same ways: seven of eight are only tried for that.
+        let refused = small.marked && number % 8 != 0 && oracle::read_table(&oracle::table_words(&game)).is_err();
+        match refused {
+            true => try_refused(rng, tally, &game),
+            false => try_whole(rng, tally, &game),
+        }
     };
     let tally = Tally::sum(spread(small.count(), work));
     tally.report(&format!("all tables of {}", small.name()), small.count());
@@ -1042,6 +1048,21 @@ const MASKS: usize = 3 + 8 + 96;
 fn masks(fields: &mut Fields) -> impl Iterator<Item = &mut u32> {
     let Fields { start, bad, parked, observations, moves, .. } = fields;
     [start, bad, parked].into_iter().chain(observations).chain(moves)
+}
+
+/// The checks of a table that is refused, by itself and in front of others, and of its fields.
+fn try_refused(rng: &mut Rng, tally: &mut Tally, game: &Game) {
+    let (table, fields) = (&oracle::table_words(game), &oracle::fields_of(game));
+    let out = table.len();
+    for call in [
+        Call::CheckTable { table },
+        Call::Solve { table, work: 32, card: 16 },
+        Call::Judge { table, mask: 1, k: 2 },
+        Call::Rewrite { table, out },
+        Call::Write { fields, out },
+    ] {
+        try_call(rng, tally, call);
+    }
 }
 
 /// Every entry with every small number on one small table.
