@@ -63,8 +63,8 @@ enum {
 #define KIRDANZUG_WORK_WORDS(n) ((size_t)4 << (n))
 #define KIRDANZUG_WORK_WORDS_MAX KIRDANZUG_WORK_WORDS(KIRDANZUG_MAX_STATES)
 
-/* The words of a table with this many states, actions and observations that marks no parked states. One that
- * does has one more, which the second figure has in it. */
+/* The words of a table with this many states, actions and observations that marks no parked states; one
+ * that does has one more. The second is enough for both. */
 #define KIRDANZUG_TABLE_WORDS(n, a, o) ((size_t)3 + (o) + (size_t)(a) * (n))
 #define KIRDANZUG_TABLE_WORDS_MAX \
     (KIRDANZUG_TABLE_WORDS(KIRDANZUG_MAX_STATES, KIRDANZUG_MAX_ACTIONS, KIRDANZUG_MAX_OBSERVATIONS) + 1)

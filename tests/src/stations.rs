@@ -389,8 +389,6 @@ const TWELVE_PARKED: [u32; 17] = [
 
 /// Stations with parked states, solved, judged, written again and shown.
 pub fn parked_stations() -> Vec<Row> {
-    let again = |table: &'static [u32]| Call::Rewrite { table, out: table.len() };
-    let show = |table, card, cell| Call::Show { table, card, cell };
     let mut rows = vec![
         row("E parked", solve(&E_PARKED), yes(0, 1, 8, &E_PARKED_CARD)),
         row("E lost", solve(&E_LOST), no(1, 8)),
@@ -412,6 +410,17 @@ pub fn parked_stations() -> Vec<Row> {
         row("Q, both parked", solve(&Q_BOTH_PARKED), yes(0, 1, 64, &G_PARKED_CARD)),
         row("A, none parked", solve(&A_NONE), yes(2, 2, 32, &A_CARD)),
         row("n 12 parked", solve(&TWELVE_PARKED), yes(0, 1, 16_384, &TWELVE_CARD)),
+    ];
+    rows.extend(parked_words());
+    rows.extend(parked_judged());
+    rows
+}
+
+/// Written again and shown: every place behind the new word is one more.
+fn parked_words() -> Vec<Row> {
+    let again = |table: &'static [u32]| Call::Rewrite { table, out: table.len() };
+    let show = |table, card, cell| Call::Show { table, card, cell };
+    vec![
         row("E parked again", again(&E_PARKED), list(&E_PARKED)),
         row("E lost again", again(&E_LOST), list(&E_LOST)),
         row("E again, none parked", again(&E_NONE), list(&E_NONE)),
@@ -425,9 +434,7 @@ pub fn parked_stations() -> Vec<Row> {
         row("N shown, 1", show(&N, &N_CARD, 1), Outcome::done(10, 4)),
         row("A shown, 0, none parked", show(&A_NONE, &A_CARD, 0), Outcome::done(5, 3)),
         row("A shown, 1, none parked", show(&A_NONE, &A_CARD, 1), Outcome::done(8, 3)),
-    ];
-    rows.extend(parked_judged());
-    rows
+    ]
 }
 
 /// The plain judge: for each table and mask, the most rounds up to 4 for which the set is good.

@@ -1266,16 +1266,8 @@ fn every_single_damage_to_the_stations() {
         &stations::A_NONE, &stations::E_PARKED, &stations::E_LOST, &stations::G_PARKED, &stations::M, &stations::N,
     ];
     for table in tables {
-        for damaged in all_damages(table) {
-            try_solve(&mut rng, &mut tally, &damaged);
-            try_check(&rng, &mut tally, Call::CheckTable { table: &damaged });
-            try_call(&mut rng, &mut tally, Call::Judge { table: &damaged, mask: 1, k: 2 });
-            try_call(&mut rng, &mut tally, Call::Rewrite { table: &damaged, out: table.len() });
-            try_call(&mut rng, &mut tally, Call::Show { table: &damaged, card: &stations::A_CARD, cell: 1 });
-            for card in [&stations::A_CARD[..], &stations::C_CARD, &stations::F_CARD, &stations::N_CARD] {
-                try_check(&rng, &mut tally, Call::JudgeCard { table: &damaged, card });
-            }
-        }
+        let damages = all_damages(table);
+        damages.iter().for_each(|damaged| try_damaged_table(&mut rng, &mut tally, damaged, table.len()));
     }
     let cards: [(&[u32], &[u32]); 6] = [
         (&stations::A, &stations::A_CARD),
@@ -1286,16 +1278,7 @@ fn every_single_damage_to_the_stations() {
         (&stations::N, &stations::N_CARD),
     ];
     for (table, card) in cards {
-        for damaged in all_damages(card) {
-            try_check(&rng, &mut tally, Call::CheckCard { card: &damaged });
-            try_check(&rng, &mut tally, Call::JudgeCard { table, card: &damaged });
-            for observation in 0..2 {
-                try_call(&mut rng, &mut tally, Call::Open { card: &damaged, observation });
-                try_call(&mut rng, &mut tally, Call::Step { card: &damaged, cell: observation, observation: 0 });
-            }
-            try_call(&mut rng, &mut tally, Call::Show { table, card: &damaged, cell: 0 });
-            try_all_runs(&rng, &mut tally, &damaged, 2);
-        }
+        all_damages(card).iter().for_each(|damaged| try_damaged_card(&mut rng, &mut tally, table, damaged));
     }
     tally.report("every single damage", 20);
     tally.must_have(&[1, 2, 3, 4, 5, 6, 7, 13, 14, 16, 19]);
@@ -1304,6 +1287,28 @@ fn every_single_damage_to_the_stations() {
     tally.checks.must_have_cards();
     tally.judged.must_have(&[0, 1, 2, 3, 4, 5, 6, 7, 13, 16, 18, 19]);
     tally.parked.must_have_verdicts();
+}
+
+fn try_damaged_table(rng: &mut Rng, tally: &mut Tally, table: &[u32], out: usize) {
+    try_solve(rng, tally, table);
+    try_check(rng, tally, Call::CheckTable { table });
+    try_call(rng, tally, Call::Judge { table, mask: 1, k: 2 });
+    try_call(rng, tally, Call::Rewrite { table, out });
+    try_call(rng, tally, Call::Show { table, card: &stations::A_CARD, cell: 1 });
+    for card in [&stations::A_CARD[..], &stations::C_CARD, &stations::F_CARD, &stations::N_CARD] {
+        try_check(rng, tally, Call::JudgeCard { table, card });
+    }
+}
+
+fn try_damaged_card(rng: &mut Rng, tally: &mut Tally, table: &[u32], card: &[u32]) {
+    try_check(rng, tally, Call::CheckCard { card });
+    try_check(rng, tally, Call::JudgeCard { table, card });
+    for observation in 0..2 {
+        try_call(rng, tally, Call::Open { card, observation });
+        try_call(rng, tally, Call::Step { card, cell: observation, observation: 0 });
+    }
+    try_call(rng, tally, Call::Show { table, card, cell: 0 });
+    try_all_runs(rng, tally, card, 2);
 }
 
 /// Every bit of every number, mask and slot of the stations' fields flipped, with the bit of parked states and with

@@ -424,12 +424,7 @@ fn card_judges_agree() {
             }
         }
         let mut words = gen::card_for(&mut rng, &game, solved.as_ref());
-        match rng.below(10) {
-            0 => gen::damage(&mut rng, &mut table),
-            1 => gen::damage(&mut rng, &mut words),
-            2 if rng.percent(20) => table = oracle::table_words(&gen::moving_on(&mut rng, game)),
-            _ => (),
-        }
+        spoil(&mut rng, game, &mut table, &mut words);
         let expected = oracle::judge_card(&table, &words);
         assert_eq!(judge.judge(&table, &words), expected.map_err(refused), "{table:x?} {words:x?}");
         let number = expected.map_or_else(|refusal| refusal.number as usize, |()| 0);
@@ -443,16 +438,23 @@ fn card_judges_agree() {
             }
         }
     }
-    report(&format!(
-        "judges of cards: seed {seed}, accepted {}, refused by 1 to 19: {:?}; with parked states refused by 18, \
-         accepted: {parked:?}",
-        answers[0],
-        &answers[1..]
-    ));
+    let (accepted, refused) = answers.split_at(1);
+    report(&format!("judges of cards: seed {seed}, accepted {accepted:?}, refused by 1 to 19: {refused:?}"));
+    report(&format!("judges of cards: seed {seed}, with parked states refused by 18, accepted {parked:?}"));
     let numbers = [0, 1, 2, 3, 4, 5, 6, 7, 13, 16, 18, 19];
     assert!(count(2) < 1000 || parked.iter().all(|&cards| cards * 20 > count(2)));
     assert!(count(2) < 50_000 || numbers.iter().all(|&number: &usize| answers[number] > 0));
     assert!(count(2) < 1000 || answers[0] * 10 > count(2) && answers[18] * 10 > count(2));
+}
+
+/// Now and then the table or the card is damaged, or the table has a parked state that moves on.
+fn spoil(rng: &mut Rng, game: Game, table: &mut Vec<u32>, card: &mut Vec<u32>) {
+    match rng.below(50) {
+        0..=4 => gen::damage(rng, table),
+        5..=9 => gen::damage(rng, card),
+        10 => *table = oracle::table_words(&gen::moving_on(rng, game)),
+        _ => (),
+    }
 }
 
 /// The solver's card of a game, where it has one.
