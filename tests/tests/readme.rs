@@ -1,4 +1,5 @@
-//! The README's first hour, as it stands on the page: its table file is made, looked at and solved by its own lines.
+//! The README's first hour, as it stands on the page: its table file is made, looked at and solved by its own lines. And the
+//! stations of tables/, each with the verdict that the pages say.
 
 use std::fs;
 use std::path::{Path, PathBuf};
@@ -39,14 +40,20 @@ fn shell(folder: &Path, lines: &str) -> String {
     String::from_utf8(output.stdout).expect("text is printed")
 }
 
-/// A folder that has what the page's lines name: the solving program and the tables.
-fn folder() -> Option<PathBuf> {
+/// The solving program; none where it wasn't built and nobody asked for it.
+fn program() -> Option<PathBuf> {
     let program = std::env::var_os("KIRDANZUG_SOLVE").map(PathBuf::from).unwrap_or(root().join("target/bin/solve"));
     if !program.exists() {
         assert!(std::env::var_os("KIRDANZUG_SOLVE").is_none(), "KIRDANZUG_SOLVE names {}, which is missing", program.display());
         eprintln!("skipped: {} does not exist", program.display());
         return None;
     }
+    Some(program)
+}
+
+/// A folder that has what the page's lines name: the solving program and the tables.
+fn folder() -> Option<PathBuf> {
+    let program = program()?;
     let folder = std::env::temp_dir().join(format!("kirdanzug-readme-{}", std::process::id()));
     fs::create_dir_all(folder.join("target/bin")).expect("a folder for the test");
     fs::copy(program, folder.join("target/bin/solve")).expect("the program is copied");
@@ -73,4 +80,43 @@ fn readme_first_hour_works() {
     let lines = block(&blocks, "sh", "perl");
     assert_eq!(shell(&folder, lines), format!("{}{seen}", answers[1]));
     fs::remove_dir_all(folder).expect("the folder is removed");
+}
+
+/// What the first line says of each file in tables/.
+const VERDICTS: [(&str, &str); 10] = [
+    ("A", "yes 2 2"),
+    ("B", "no 2"),
+    ("C", "yes 2 2"),
+    ("D", "no 1"),
+    ("E", "no 1"),
+    ("F", "yes 0 1"),
+    ("G", "no 4"),
+    ("H", "no 2"),
+    ("finished", "yes 2 2"),
+    ("unfinished", "no 3"),
+];
+
+#[test]
+fn stations_of_the_tables_folder() {
+    let Some(program) = program() else { return };
+    let files = fs::read_dir(root().join("tables")).expect("tables/ is there");
+    let mut names: Vec<_> = files.map(|file| file.expect("a file").file_name().into_string().expect("a name")).collect();
+    names.sort();
+    assert_eq!(names, VERDICTS.map(|(name, _)| name));
+    for (name, verdict) in VERDICTS {
+        let table = fs::File::open(root().join("tables").join(name)).expect("the table is there");
+        let output = Command::new(&program).stdin(table).output().expect("the program starts");
+        let text = String::from_utf8(output.stdout).expect("text is printed");
+        assert_eq!(text.lines().next(), Some(verdict), "tables/{name}");
+    }
+}
+
+/// The station that finishes, as the pages have it: A's card, with 3 in both sets.
+#[test]
+fn finished_station() {
+    let Some(program) = program() else { return };
+    let table = fs::File::open(root().join("tables/finished")).expect("the table is there");
+    let output = Command::new(&program).stdin(table).output().expect("the program starts");
+    let expected = "yes 2 2\nfirst 0 0\ncell 0 9 0\nnext 0 0 1\ncell 1 10 1\nnext 1 0 0\n";
+    assert_eq!(String::from_utf8(output.stdout).expect("text is printed"), expected);
 }

@@ -15,7 +15,7 @@ use Rattle.games.specs.Stations.{tableA, tableB, tableC, cardA, cardC}
 use Rattle.games.specs.declared.Checked.{Checked}
 use Rattle.games.specs.declared.Checked.the-variants.{Fine, Refused}
 use Rattle.tables.specs.Layout.{bareWord}
-use Rattle.tables.specs.Check.{limitsHold, headRight, sizeChecked, placed, faulty, wordsChecked as tableWords, unseen, departs, statesChecked, setsChecked, checked as tableChecked}
+use Rattle.tables.specs.Check.{limitsHold, headRight, sizeChecked, placed, faulty, wordsChecked as tableWords, unseen, departs, parkedChecked, setsChecked, checked as tableChecked}
 use Rattle.cards.specs.Card.{headFits, cellNamed, cellFits, partSpot, spotAt, wordFits, wordsChecked, automaton, checked as cardChecked}
 use Rattle.pairs.specs.Pair.{agree, checked}
 use Rattle.certificates.specs.Certificate.{lies, firstHolds, setFits, cellHolds, nextHolds, wordHolds, wordsCertified, certified}
@@ -46,5 +46,5 @@ rows =
     ∷ []
 
 pub every-row : Rows rows
-unfolding rows certified wordsCertified wordHolds firstHolds setFits cellHolds nextHolds lies safe enabledAt enabled post after startSet unionOver all checked agree tableChecked sizeChecked tableWords setsChecked statesChecked headRight limitsHold placed faulty unseen departs hasSuccessor parkedWords placeAt bareWord game first any cardChecked wordsChecked wordFits headFits cellNamed cellFits partSpot spotAt automaton
+unfolding rows certified wordsCertified wordHolds firstHolds setFits cellHolds nextHolds lies safe enabledAt enabled post after startSet unionOver all checked agree tableChecked sizeChecked tableWords setsChecked parkedChecked headRight limitsHold placed faulty unseen departs hasSuccessor parkedWords placeAt bareWord game first any cardChecked wordsChecked wordFits headFits cellNamed cellFits partSpot spotAt automaton
 every-row = row refl (row refl (row refl (row refl (row refl (row refl (row refl (row refl (row refl (row refl (row refl none))))))))))

@@ -4,31 +4,36 @@ use mathlib.Core.Path.{_≡_, refl, sym, ap, _∙_}
 use mathlib.Core.Bool.{true, false, cond, not, _&&_}
 use mathlib.Core.List.{List}
 use Prim.Native.Nat.{ℕ, _+_, _*_, _^_, _≤_, _<_}
+use native.Mathlib.Nat.{mod-eq-of-lt}
 use native.Mathlib.Omega.{arith}
 use borrow.Author.Tests.{leb-false, eq-eqb, ne-eqb, lt-ltb, le-ltb, le-leb, lt-leb, not-false}
 use lib.Dec.{ltb}
-use lib.ListN.{length}
+use lib.ListN.{length, getD}
+use lib.Pow.{pow-mono}
 use Rattle.sets.specs.Bounded.{all, first, nothing, filledBy}
 use Rattle.sets.proofs.Logic.{and-intro, and-false-right}
 use Rattle.sets.proofs.Bounded.{all-refuted, first-zero, first-skip, first-stop, first-nothing}
 use Rattle.games.specs.Answers.{unless, leaves}
-use Rattle.games.specs.Format.{maxObservations, maxMoves}
-use Rattle.games.specs.Places.{placeAt, Within, Limited}
+use Rattle.games.specs.Format.{maxStates, maxObservations, maxMoves}
+use Rattle.games.specs.Fields.{lowField}
+use Rattle.games.specs.Places.{move, placeOf, placeAt, Within, Limited}
 use Rattle.games.specs.declared.State.{State}
 use Rattle.games.specs.declared.Action.{Action}
 use Rattle.games.specs.declared.Observation.{Observation}
+use Rattle.games.specs.declared.Shape.{Shape}
 use Rattle.games.specs.declared.Place.{Place}
 use Rattle.games.specs.declared.Place.the-variants.{Shown, Move}
 use Rattle.games.specs.declared.Checked.the-variants.{Fine, Refused}
 use Rattle.games.specs.declared.Written.the-variants.{Words}
 use Rattle.games.specs.declared.Written.the-variants as written
 use Rattle.games.proofs.Answers.{never, cond-passed, found-none, then-fine}
+use Rattle.games.proofs.Places.{place-from, place-below, place-there}
 use Rattle.tables.specs.Layout.{headWord, bareWord}
-use Rattle.tables.specs.Check.{limitsHold, tooWide, setsChecked, checked}
-use Rattle.tables.specs.Fields.{fieldsShape, fieldsOf, gameOf}
+use Rattle.tables.specs.Check.{limitsHold, tooWide, setsChecked, parkedChecked, parkedFrom, checked}
+use Rattle.tables.specs.Fields.{fieldsShape, fieldsOf, fieldAt, gameOf}
 use Rattle.tables.specs.declared.Fields.{Fields}
 use Rattle.tables.proofs.Bounds.{slot-inside}
-use Rattle.tables.proofs.Checks.{limits-hold}
+use Rattle.tables.proofs.Checks.{limits-hold, by-words}
 use Rattle.fields.specs.Read.{noFields, readOf}
 use Rattle.fields.specs.Write.{maskOf, wordsLength, slotClean, unusedZero, slotsClean, wideAt, slotsChecked, masksChecked, fieldsChecked, wordAt, writtenTo, writeOf}
 
@@ -93,6 +98,24 @@ module _ (f : Fields) where
       let wide : (ltb 0 p && tooWide (f .states) (maskOf f p)) ≡ false = first-nothing (wordsLength f) (wideAt f) none p k in
       leb-false (2 ^ f .states) (maskOf f p) (rw (lt-ltb 0 p l) at wide)
 
+  -- a move's mask is as it stands, without a kind
+  pub move-low : Limited (fieldsShape f) → masksChecked f ≡ Fine → (a i : ℕ) → a < f .actions → i < f .states → lowField (getD (f .moves) (0 + (a * f .states + i)) 0) ≡ getD (f .moves) (a * f .states + i) 0
+  move-low l e a i p q =
+      let s = fieldsShape f in
+      let x = move a i in
+      let at = place-there s x (p, q) in
+      let low : fieldAt f (placeAt s (placeOf s x)) < 2 ^ f .states = mask-low e (placeOf s x) (place-from s x) (place-below s x (p, q)) in
+      let mask : getD (f .moves) (a * f .states + i) 0 < 2 ^ f .states = rw at at low in
+      let slot : 0 + (a * f .states + i) ≡ a * f .states + i = omega arith in
+      ap (λ (j : ℕ). lowField (getD (f .moves) j 0)) slot ∙ mod-eq-of-lt (omega (arith, mask, pow-mono {j = maxStates} (l .most-states)))
+
+  -- the moves as the code has them
+  pub moves-parked : Limited (fieldsShape f) → masksChecked f ≡ Fine → (s : Shape) → s ≡ fieldsShape f → parkedFrom (f .moves) 0 s (f .parked) ≡ parkedChecked (gameOf f)
+  unfolding gameOf
+  moves-parked l e s same =
+      ap (λ (t : Shape). parkedFrom (f .moves) 0 t (f .parked)) same
+      ∙ by-words (gameOf f) (f .moves) 0 (fieldsShape f) refl refl (move-low l e)
+
   -- ---- 2 and 11
 
   pub slots-limits : limitsHold (fieldsShape f) ≡ false → slotsChecked f ≡ Refused 2 0
@@ -129,16 +152,23 @@ module _ (f : Fields) where
   unfolding fieldsChecked
   masks-stop k p e d = rw (e, d)
 
-  pub sets-end : slotsChecked f ≡ Fine → masksChecked f ≡ Fine → fieldsChecked f ≡ setsChecked (gameOf f)
-  unfolding fieldsChecked
-  sets-end e d = rw (e, d)
+  module _ (slots : slotsChecked f ≡ Fine) (masks : masksChecked f ≡ Fine) where
+    pub sets-stop : (k p : ℕ) → setsChecked (gameOf f) ≡ Refused k p → fieldsChecked f ≡ Refused k p
+    unfolding fieldsChecked
+    sets-stop k p e = rw (slots, masks, e)
 
-  pub fields-passed : fieldsChecked f ≡ Fine → (slotsChecked f ≡ Fine) × (masksChecked f ≡ Fine) × (setsChecked (gameOf f) ≡ Fine)
+    pub parked-end : setsChecked (gameOf f) ≡ Fine → fieldsChecked f ≡ parkedChecked (gameOf f)
+    unfolding fieldsChecked
+    parked-end e = rw (slots, masks, e)
+
+  pub fields-passed : fieldsChecked f ≡ Fine → (slotsChecked f ≡ Fine) × (masksChecked f ≡ Fine) × (setsChecked (gameOf f) ≡ Fine) × (parkedChecked (gameOf f) ≡ Fine)
   unfolding fieldsChecked
   fields-passed e =
-      let a = then-fine (slotsChecked f) (unless (masksChecked f) Refused (setsChecked (gameOf f))) e in
-      let d = then-fine (masksChecked f) (setsChecked (gameOf f)) (a .1) in
-      (a .0, d .0, d .1)
+      let sets = unless (setsChecked (gameOf f)) Refused (parkedChecked (gameOf f)) in
+      let a = then-fine (slotsChecked f) (unless (masksChecked f) Refused sets) e in
+      let d = then-fine (masksChecked f) sets (a .1) in
+      let h = then-fine (setsChecked (gameOf f)) (parkedChecked (gameOf f)) (d .1) in
+      (a .0, d .0, h .0, h .1)
 
   pub write-refused : (k p : ℕ) (d : List ℕ) → fieldsChecked f ≡ Refused k p → leaves (written.Refused k p) d ≡ writeOf f d
   unfolding writeOf

@@ -32,17 +32,17 @@ use Rattle.games.specs.declared.Written.the-variants.{Words}
 use Rattle.games.proofs.Limits.{moves-below}
 use Rattle.games.proofs.Places.{place-back, place-within, place-from, place-below, place-there, slot-within}
 use Rattle.tables.specs.Layout.{shapeIn, headWord, headTop, bareWord}
-use Rattle.tables.specs.Check.{limitsHold, headRight, placed, faulty, setsChecked, checked}
+use Rattle.tables.specs.Check.{limitsHold, headRight, placed, faulty, setsChecked, parkedChecked, checked}
 use Rattle.tables.specs.Fields.{fieldsShape, fieldsOf, fieldAt, gameOf}
 use Rattle.tables.specs.declared.Fields.{Fields}
 use Rattle.tables.proofs.Layouts.{head-back, shape-back, head-above, mask-back}
-use Rattle.tables.proofs.Checks.{size-fine, sets-decide, words-fine, faulty-is, sized, fine-words, fine-head, fine-sets, head-top, head-limits, word-placed, word-below}
-use Rattle.tables.proofs.Same.{field-is, sets-ext, sets-same}
+use Rattle.tables.proofs.Checks.{size-fine, parked-decides, words-fine, faulty-is, sized, fine-words, fine-head, fine-sets, fine-parked, head-top, head-limits, word-placed, word-below}
+use Rattle.tables.proofs.Same.{field-is, sets-ext, parked-ext, sets-same, parked-same}
 use Rattle.fields.specs.Read.{readOf}
 use Rattle.fields.specs.Write.{maskOf, wordAt, wordsLength, slotClean, unusedZero, parkedClean, slotsClean, wideAt, fieldsChecked, writtenTo, writeOf}
 use Rattle.fields.specs.RoundTrip.{WritesBack, ReadsBack}
 use Rattle.fields.specs.declared.ReadFields.{ReadFields}
-use Rattle.fields.proofs.Laws.{slots-passed, slots-limited, fields-passed, mask-low, read-fine, masks-fine, narrow-at, slots-fine, sets-end, write-fine, write-refused, word-head, word-place, written-short, written-full}
+use Rattle.fields.proofs.Laws.{slots-passed, slots-limited, fields-passed, mask-low, read-fine, masks-fine, narrow-at, slots-fine, parked-end, write-fine, write-refused, word-head, word-place, written-short, written-full}
 
 -- ---- slots
 
@@ -146,7 +146,7 @@ module _ (w : List ℕ) (fine : checked w ≡ Fine) where
       (and-intro (parked-clean w)
       (and-intro (unused-filled (s .observations) maxObservations (λ j. maskAt w (shown j))) (unused-filled (s .actions * s .states) maxMoves (λ j. maskAt w (move (j / s .states) (j % s .states)))))) in
       let masks = masks-fine f (first-none (wordsLength f) (wideAt f) narrow) in
-      sets-end f slots masks ∙ sets-same w ∙ fine-sets w fine
+      parked-end f slots masks (sets-same w ∙ fine-sets w fine) ∙ parked-same w ∙ fine-parked w fine
 
   -- read, then write: the same words
   pub read-then-write : (d : List ℕ) → length w ≤ length d → writeOf (readOf w .fields) d ≡ leaves (Words (length w)) (w ++ drop (length w) d)
@@ -247,23 +247,23 @@ module _ (f : Fields) (fine : fieldsChecked f ≡ Fine) where
   sets-back : setsChecked (game (wordsOf f)) ≡ Fine
   unfolding game gameOf
   sets-back =
-      sets-ext (game (wordsOf f)) (gameOf f)
-      (record {
-        states = ap (λ (s : Shape). s .states) shape-same;
-        actions = ap (λ (s : Shape). s .actions) shape-same;
-        observations = ap (λ (s : Shape). s .observations) shape-same;
-        start = mask-same Start tt;
-        parked = parked-back;
-        shown = λ j l. mask-same (shown j) (subst (λ (s : Shape). j < s .observations) shape-same l);
-        successors = λ a i l m. mask-same (move a i) (subst (λ (s : Shape). (a < s .actions) × (i < s .states)) shape-same (l, m));
-      })
+      sets-ext (game (wordsOf f)) (gameOf f) (ap (λ (s : Shape). s .states) shape-same) (ap (λ (s : Shape). s .observations) shape-same) (mask-same Start tt)
+      (λ j l. mask-same (shown j) (subst (λ (s : Shape). j < s .observations) shape-same l))
       ∙ fields-passed f fine .2
+
+  parked-fine : parkedChecked (game (wordsOf f)) ≡ Fine
+  unfolding game gameOf
+  parked-fine =
+      parked-ext (game (wordsOf f)) (gameOf f) (ap (λ (s : Shape). s .states) shape-same) (ap (λ (s : Shape). s .actions) shape-same) parked-back
+      (λ a i l m. mask-same (move a i) (subst (λ (s : Shape). (a < s .actions) × (i < s .states)) shape-same (l, m)))
+      ∙ fields-passed f fine .3
 
   written-fine : checked (wordsOf f) ≡ Fine
   written-fine =
       let w = wordsOf f in
       let long : length w ≡ tableLength (shapeIn w) = length-same f ∙ ap tableLength (sym shape-same) in
-      sets-decide w (size-fine w (λ e. omega (arith, length-same f)) head-right long) (words-fine w (first-none (length w) (faulty w) sound-at)) ∙ sets-back
+      parked-decides w (size-fine w (λ e. omega (arith, length-same f)) head-right long) (words-fine w (first-none (length w) (faulty w) sound-at)) sets-back
+      ∙ parked-fine
 
   slots-zero : (unusedZero (f .observations) (f .shown) && unusedZero (f .actions * f .states) (f .moves)) ≡ true
   slots-zero = and-right (parkedClean f) (unusedZero (f .observations) (f .shown) && unusedZero (f .actions * f .states) (f .moves)) slots-clean

@@ -14,7 +14,7 @@ use Rattle.games.specs.declared.Written.{Written}
 use Rattle.games.specs.declared.Written.the-variants.{Words}
 use Rattle.games.specs.declared.Written.the-variants as written
 use Rattle.tables.specs.Layout.{headWord, bareWord}
-use Rattle.tables.specs.Check.{limitsHold, tooWide, setsChecked}
+use Rattle.tables.specs.Check.{limitsHold, tooWide, setsChecked, parkedChecked}
 use Rattle.tables.specs.Fields.{fieldsShape, fieldAt, gameOf}
 use Rattle.tables.specs.declared.Fields.{Fields}
 
@@ -65,7 +65,8 @@ unfoldable pub fieldsChecked : Fields → Checked
 fieldsChecked f =
     unless (slotsChecked f) Refused
     (unless (masksChecked f) Refused
-    (setsChecked (gameOf f)))
+    (unless (setsChecked (gameOf f)) Refused
+    (parkedChecked (gameOf f))))
 
 -- 10, or the table's words in front
 unfoldable pub writtenTo : Fields → List ℕ → Leaves Written (List ℕ)

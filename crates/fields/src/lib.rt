@@ -3,7 +3,8 @@ ghost use mathlib.Core.Path.{_≡_};
 ghost use Prim.Native.Nat.{_<_, _≤_};
 ghost use Rattle.games.specs.Answers.{leaves};
 ghost use Rattle.games.specs.Places.{Limited};
-ghost use Rattle.tables.specs.Fields.{fieldsShape};
+ghost use Rattle.tables.specs.Check.{parkedChecked};
+ghost use Rattle.tables.specs.Fields.{fieldsShape, gameOf};
 ghost use Rattle.fields.specs.Read.{noFields, readOf};
 ghost use Rattle.fields.specs.RoundTrip.{WritesBack, ReadsBack};
 ghost use Rattle.fields.specs.Write.{maskOf, wordAt, unusedZero, slotsChecked, masksChecked, fieldsChecked, wordsLength, writtenTo, writeOf};
@@ -121,6 +122,15 @@ fn check_slots(f: Fields) -> Checked
     Checked::Fine
 }
 
+// Refusal 19, by the moves, which are masks without a kind.
+fn check_departures(f: Fields) -> Checked
+    requires { ⌜ Limited (fieldsShape f) × (masksChecked f ≡ Checked.Fine) ⌝ }
+    ensures { λ r. ⌜ r ≡ parkedChecked (gameOf f) ⌝ }
+{
+    let moves = f.moves;
+    tables::check_parked(&moves, 0, tables::fields_shape(f), f.parked)
+}
+
 // Refusals 2, 11, 5, 6, 7 and 19.
 fn check_fields(f: Fields) -> Checked
     ensures { λ r. ⌜ r ≡ fieldsChecked f ⌝ }
@@ -129,7 +139,10 @@ fn check_fields(f: Fields) -> Checked
         Checked::Refused(number, place) => Checked::Refused(number, place),
         Checked::Fine => match check_masks(f) {
             Checked::Refused(number, place) => Checked::Refused(number, place),
-            Checked::Fine => tables::check_sets(f),
+            Checked::Fine => match tables::check_sets(f) {
+                Checked::Refused(number, place) => Checked::Refused(number, place),
+                Checked::Fine => check_departures(f),
+            },
         },
     }
 }

@@ -1,24 +1,21 @@
 -- Parked states end a play well, and words without the bit mean what they meant.
 -- Assumes nothing.
 use mathlib.Core.Path.{_≡_, refl, sym, ap, _∙_}
-use mathlib.Core.Bool.{Bool, true, false, not, _&&_, _||_}
+use mathlib.Core.Bool.{true, false}
 use mathlib.Core.Logic.{⊎-elim}
 use mathlib.Core.List.{List}
 use Prim.Native.Nat.{ℕ, zero, suc, _<_}
-use lib.Dec.{eqb}
 use lib.ListN.{getD}
-use borrow.Author.Tests.{eqb-true, eqb-false}
 use Rattle.sets.specs.Mask.{member, subset, without}
-use Rattle.sets.specs.Bounded.{all}
 use Rattle.sets.proofs.Logic.{decided, clash, same-truth, refuted}
-use Rattle.sets.proofs.Mask.{member-zero, member-below, ext-all, subset-member, subset-refl, without-subset, member-without-other, unionOver-found, unionOver-intro}
+use Rattle.sets.proofs.Mask.{member-zero, member-below, ext-all, subset-member, without-subset, member-without-other, unionOver-found, unionOver-intro}
 use Rattle.games.specs.Fields.{headMarked}
 use Rattle.games.specs.Places.{parkedWords}
-use Rattle.games.specs.Game.{Game, Accepted, hasSuccessor, enabled}
-use Rattle.games.specs.Play.{Strategy, Play, begin, more, PlayOf, Survives, last, seen}
+use Rattle.games.specs.Game.{Game, Accepted}
+use Rattle.games.specs.Play.{Play, more, PlayOf, last, seen}
 use Rattle.games.specs.Step.{safe, enabledAt, post, after, step, good}
 use Rattle.games.specs.Words.{game}
-use Rattle.games.specs.Parked.{Finishes, plainGame, AsBefore, Unmarked}
+use Rattle.games.specs.Parked.{Finishes, plainGame, Unmarked}
 use Rattle.games.proofs.Enabled.{enabled-parked, enabled-unparked}
 use Rattle.games.proofs.Steps.{enabled-at, enabled-intro, enabled-subset, after-found, meets-intro, step-safe, step-intro, good-empty}
 

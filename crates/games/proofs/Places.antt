@@ -1,8 +1,8 @@
 -- The places of a table's words: what stands at a place stands there, and a set that the table has stands at a place of it.
 -- Assumes nothing.
 use mathlib.Core.Path.{_≡_, refl, sym, ap, ap₂, _∙_, subst}
-use mathlib.Core.Bool.{true, false, cond}
-use mathlib.Core.Logic.{_⊎_, ⊎-elim}
+use mathlib.Core.Bool.{true, false}
+use mathlib.Core.Logic.{⊎-elim}
 use Prim.Native.Nat.{ℕ, suc, _+_, _-_, _*_, _/_, _%_, _≤_, _<_}
 use native.Mathlib.Nat.{div-add-mod', mod-lt, mod-eq-of-lt, div-eq-of-lt, div-lt-iff-lt-mul, mul-add-div-right, mul-add-mod-self-right, mul-le-mul-right, suc-mul}
 use native.Mathlib.Omega.{arith}
@@ -131,6 +131,10 @@ shown-from s j = omega arith
 
 pub move-from : (s : Shape) (j : ℕ) → placeOf s (move 0 0) + j ≡ placeOf s (move (j / s .states) (j % s .states))
 move-from s j = omega (arith, div-add-mod' j (s .states))
+
+-- a move stands behind the first by its slot
+pub move-at : (s : Shape) (a i : ℕ) → placeOf s (move 0 0) + (a * s .states + i) ≡ placeOf s (move a i)
+move-at s a i = omega arith
 
 -- a move's slot is its action's and its state's
 pub move-slot : (s : Shape) (a i : ℕ) → placeOf s (move ((a * s .states + i) / s .states) ((a * s .states + i) % s .states)) ≡ placeOf s (move a i)

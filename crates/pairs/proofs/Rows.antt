@@ -12,7 +12,7 @@ use Rattle.games.specs.Stations.{tableA, tableC, tableD, cardA}
 use Rattle.games.specs.declared.Checked.{Checked}
 use Rattle.games.specs.declared.Checked.the-variants.{Fine, Refused}
 use Rattle.tables.specs.Layout.{bareWord}
-use Rattle.tables.specs.Check.{limitsHold, headRight, sizeChecked, placed, faulty, wordsChecked as tableWords, unseen, departs, statesChecked, setsChecked, checked as tableChecked}
+use Rattle.tables.specs.Check.{limitsHold, headRight, sizeChecked, placed, faulty, wordsChecked as tableWords, unseen, departs, parkedChecked, setsChecked, checked as tableChecked}
 use Rattle.cards.specs.Card.{headFits, cellNamed, cellFits, partSpot, spotAt, wordFits, wordsChecked, checked as cardChecked}
 use Rattle.pairs.specs.Pair.{agree, checked}
 
@@ -35,5 +35,5 @@ rows =
     ∷ []
 
 pub every-row : Rows rows
-unfolding rows checked agree tableChecked sizeChecked tableWords setsChecked statesChecked headRight limitsHold placed faulty unseen departs hasSuccessor parkedWords placeAt bareWord game first any cardChecked wordsChecked wordFits headFits cellNamed cellFits partSpot spotAt
+unfolding rows checked agree tableChecked sizeChecked tableWords setsChecked parkedChecked headRight limitsHold placed faulty unseen departs hasSuccessor parkedWords placeAt bareWord game first any cardChecked wordsChecked wordFits headFits cellNamed cellFits partSpot spotAt
 every-row = row refl (row refl (row refl (row refl (row refl (row refl none)))))

@@ -10,7 +10,7 @@ use Rattle.games.specs.Places.{parkedWords, placeAt}
 use Rattle.games.specs.Words.{game}
 use Rattle.games.specs.Stations.{tableA, tableC, cardA}
 use Rattle.tables.specs.Layout.{bareWord}
-use Rattle.tables.specs.Check.{limitsHold, headRight, sizeChecked, placed, faulty, wordsChecked as tableWords, unseen, departs, statesChecked, setsChecked, checked as tableChecked}
+use Rattle.tables.specs.Check.{limitsHold, headRight, sizeChecked, placed, faulty, wordsChecked as tableWords, unseen, departs, parkedChecked, setsChecked, checked as tableChecked}
 use Rattle.cards.specs.Card.{automaton, headFits, cellNamed, cellFits, partSpot, spotAt, wordFits, wordsChecked, checked}
 use Rattle.pairs.specs.Pair.{agree, checked as pairChecked}
 use Rattle.show.specs.Show.{located, found, handed, partOf}
@@ -36,7 +36,7 @@ rows =
     ∷ []
 
 pub every-row : Rows rows
-unfolding rows found located pairChecked agree tableChecked sizeChecked tableWords setsChecked statesChecked headRight limitsHold placed faulty unseen departs hasSuccessor parkedWords placeAt bareWord game first any automaton checked wordsChecked wordFits headFits cellNamed cellFits partSpot spotAt
+unfolding rows found located pairChecked agree tableChecked sizeChecked tableWords setsChecked parkedChecked headRight limitsHold placed faulty unseen departs hasSuccessor parkedWords placeAt bareWord game first any automaton checked wordsChecked wordFits headFits cellNamed cellFits partSpot spotAt
 every-row = row refl (row refl (row refl (row refl (row refl (row refl (row refl none))))))
 
 -- cell 1's action is dose: its words stand 28 bytes behind the table's first

@@ -1,18 +1,18 @@
 -- The table checks, one answer after the other, and what `Fine` tells of a table.
 -- Assumes nothing.
-use mathlib.Core.Path.{_≡_, refl}
+use mathlib.Core.Path.{_≡_, refl, ap, _∙_}
 use mathlib.Core.Bool.{Bool, true, false, cond, not, _&&_, _||_}
 use mathlib.Core.Logic.{⊎-elim}
 use mathlib.Core.List.{List}
-use Prim.Native.Nat.{ℕ, zero, suc, _+_, _/_, _^_, _≤_, _<_}
+use Prim.Native.Nat.{ℕ, zero, suc, _+_, _*_, _/_, _^_, _≤_, _<_}
 use native.Mathlib.Omega.{arith}
 use borrow.Author.Tests.{eq-eqb, ne-eqb, eqb-true, eqb-false, leb-false, lt-ltb, not-false}
 use lib.Dec.{eqb}
 use lib.Pow.{pow-pos}
 use lib.ListN.{length, getD}
-use Rattle.sets.specs.Bounded.{first, any, nothing, atFound}
+use Rattle.sets.specs.Bounded.{first, any, Found, nothing, atFound}
 use Rattle.sets.proofs.Logic.{decided, and-intro, and-left, and-right, or-false-left, or-false-right, false-not, true-not}
-use Rattle.sets.proofs.Bounded.{first-zero, first-skip, first-stop, first-nothing, any-intro, any-found, any-none}
+use Rattle.sets.proofs.Bounded.{first-zero, first-skip, first-stop, first-nothing, first-ext, any-intro, any-found, any-none, any-ext}
 use Rattle.sets.specs.Mask.{member}
 use Rattle.games.specs.Format.{within, maxStates, maxActions, maxObservations, headSpareAt}
 use Rattle.games.specs.Game.{Game, Shows, Accepted, hasSuccessor}
@@ -28,9 +28,7 @@ use Rattle.games.proofs.Answers.{never, then-fine, cond-fine, cond-passed, foun
 use Rattle.games.proofs.Limits.{within-low, within-high}
 use Rattle.games.proofs.Places.{place-from}
 use Rattle.tables.specs.Layout.{shapeIn, headTop, bareWord, Sized}
-use Rattle.tables.specs.Check.{tooWide, limitsHold, headRight, sizeChecked, placed, faulty, wordsChecked, unseen, departs, faultAt, faultNumber, statesChecked, setsChecked, checked}
-use Rattle.tables.specs.declared.Fault.{Fault}
-use Rattle.tables.specs.declared.Fault.the-variants.{Unseen, Departing}
+use Rattle.tables.specs.Check.{tooWide, limitsHold, headRight, sizeChecked, placed, faulty, wordsChecked, unseen, setsChecked, departs, parkedChecked, departsFrom, parkedFrom, checked}
 use Rattle.tables.proofs.Bounds.{place-inside}
 
 -- ---- 1, 2 and 3
@@ -78,7 +76,7 @@ pub faulty-is : (w : List ℕ) (p : ℕ) (a b : Bool) → 1 ≤ p → a ≡ plac
 unfolding faulty
 faulty-is w p a b l e f = rw (e, f, lt-ltb 0 p l)
 
--- ---- 6, 7 and 19
+-- ---- 6 and 7
 
 module _ (g : Game) (i : ℕ) where
   -- an observation that i shows
@@ -90,41 +88,63 @@ module _ (g : Game) (i : ℕ) where
   unfolding unseen
   seen-none e = false-not e
 
-  -- i isn't parked; it has a successor; it has none
-  pub not-parked : member (g .parked) i ≡ false → departs g i ≡ false
-  unfolding departs
-  not-parked e = rw e
-
-  module _ (parked : member (g .parked) i ≡ true) where
-    pub departs-by : (a : ℕ) → a < g .actions → hasSuccessor g i a ≡ true → departs g i ≡ true
-    unfolding departs
-    departs-by a l e = and-intro parked (any-intro (g .actions) (hasSuccessor g i) a l e)
-
-    pub departs-never : any (g .actions) (hasSuccessor g i) ≡ false → departs g i ≡ false
-    unfolding departs
-    departs-never e = rw (parked, e)
-
 module _ (g : Game) where
-  pub state-stops : (x : Fault) (i : ℕ) → i < g .states → first i (faultAt x g) ≡ nothing → faultAt x g i ≡ true → statesChecked x g ≡ Refused (faultNumber x) i
-  unfolding statesChecked
-  state-stops x i l e t = rw (first-stop (g .states) (faultAt x g) i l e t)
-
-  pub states-fine : (x : Fault) → first (g .states) (faultAt x g) ≡ nothing → statesChecked x g ≡ Fine
-  unfolding statesChecked
-  states-fine x e = rw e
-
   pub sets-empty : g .start ≡ 0 → setsChecked g ≡ Refused 6 startPlace
   unfolding setsChecked
   sets-empty e = rw (eq-eqb (g .start) 0 e)
 
-  module _ (some : g .start ≡ 0 → ⊥) where
-    pub unseen-stops : (k p : ℕ) → statesChecked Unseen g ≡ Refused k p → setsChecked g ≡ Refused k p
-    unfolding setsChecked
-    unseen-stops k p e = rw (ne-eqb (g .start) 0 some, e)
+  pub sets-unseen : (g .start ≡ 0 → ⊥) → (i : ℕ) → i < g .states → first i (unseen g) ≡ nothing → unseen g i ≡ true → setsChecked g ≡ Refused 7 i
+  unfolding setsChecked
+  sets-unseen d i l e t = rw (ne-eqb (g .start) 0 d, first-stop (g .states) (unseen g) i l e t)
 
-    pub departing-decides : statesChecked Unseen g ≡ Fine → setsChecked g ≡ statesChecked Departing g
-    unfolding setsChecked
-    departing-decides e = rw (ne-eqb (g .start) 0 some, e)
+  pub sets-fine : (g .start ≡ 0 → ⊥) → first (g .states) (unseen g) ≡ nothing → setsChecked g ≡ Fine
+  unfolding setsChecked
+  sets-fine d e = rw (ne-eqb (g .start) 0 d, e)
+
+-- ---- 19
+
+-- as the code asks it
+module _ (w : List ℕ) (base : ℕ) (s : Shape) (parked : ℕ) where
+  module _ (i : ℕ) where
+    abbrev goesOn : ℕ → Bool
+    goesOn a = not (eqb (lowField (getD w (base + (a * s .states + i)) 0)) 0)
+
+    -- i isn't parked; it has a successor; it has none
+    pub not-parked : member parked i ≡ false → departsFrom w base s parked i ≡ false
+    unfolding departsFrom
+    not-parked e = rw e
+
+    module _ (here : member parked i ≡ true) where
+      pub departs-by : (a : ℕ) → a < s .actions → goesOn a ≡ true → departsFrom w base s parked i ≡ true
+      unfolding departsFrom
+      departs-by a l e = and-intro here (any-intro (s .actions) goesOn a l e)
+
+      pub departs-never : any (s .actions) goesOn ≡ false → departsFrom w base s parked i ≡ false
+      unfolding departsFrom
+      departs-never e = rw (here, e)
+
+  pub parked-departs : (i : ℕ) → i < s .states → first i (departsFrom w base s parked) ≡ nothing → departsFrom w base s parked i ≡ true → parkedFrom w base s parked ≡ Refused 19 i
+  unfolding parkedFrom
+  parked-departs i l e t = rw (first-stop (s .states) (departsFrom w base s parked) i l e t)
+
+  pub parked-fine : first (s .states) (departsFrom w base s parked) ≡ nothing → parkedFrom w base s parked ≡ Fine
+  unfolding parkedFrom
+  parked-fine e = rw e
+
+-- and of a game that has this parked set and these moves
+module _ (g : Game) (w : List ℕ) (base : ℕ) (s : Shape) (states : s .states ≡ g .states) (actions : s .actions ≡ g .actions) (moves : (a i : ℕ) → a < s .actions → i < s .states → lowField (getD w (base + (a * s .states + i)) 0) ≡ g .successors a i) where
+  departs-same : (i : ℕ) → i < s .states → departsFrom w base s (g .parked) i ≡ departs g i
+  unfolding departsFrom departs hasSuccessor
+  departs-same i l =
+      ap (λ (b : Bool). member (g .parked) i && b)
+      (any-ext (s .actions) (goesOn w base s (g .parked) i) (hasSuccessor g i) (λ a m. ap (λ (t : ℕ). not (eqb t 0)) (moves a i m l))
+      ∙ ap (λ (k : ℕ). any k (hasSuccessor g i)) actions)
+
+  pub by-words : parkedFrom w base s (g .parked) ≡ parkedChecked g
+  unfolding parkedFrom parkedChecked
+  by-words =
+      ap (λ (x : Found). atFound x (λ i. Refused 19 i) Fine)
+      (first-ext (s .states) (departsFrom w base s (g .parked)) (departs g) departs-same ∙ ap (λ (k : ℕ). first k (departs g)) states)
 
 -- ---- one after the other
 
@@ -137,9 +157,14 @@ module _ (w : List ℕ) where
   unfolding checked
   words-stop k p e f = rw (e, f)
 
-  pub sets-decide : sizeChecked w ≡ Fine → wordsChecked w ≡ Fine → checked w ≡ setsChecked (game w)
-  unfolding checked
-  sets-decide e f = rw (e, f)
+  module _ (size : sizeChecked w ≡ Fine) (words : wordsChecked w ≡ Fine) where
+    pub sets-stop : (k p : ℕ) → setsChecked (game w) ≡ Refused k p → checked w ≡ Refused k p
+    unfolding checked
+    sets-stop k p e = rw (size, words, e)
+
+    pub parked-decides : setsChecked (game w) ≡ Fine → checked w ≡ parkedChecked (game w)
+    unfolding checked
+    parked-decides e = rw (size, words, e)
 
 -- ---- what `Fine` tells
 
@@ -210,18 +235,11 @@ module _ (w : List ℕ) where
     word-below = leb-false (2 ^ shapeIn w .states) (lowField (getD w p 0)) (word-sound .1)
 
 module _ (g : Game) (fine : setsChecked g ≡ Fine) where
-  sets-passed : (eqb (g .start) 0 ≡ false) × (statesChecked Unseen g ≡ Fine) × (statesChecked Departing g ≡ Fine)
+  sets-passed : (eqb (g .start) 0 ≡ false) × (first (g .states) (unseen g) ≡ nothing)
   unfolding setsChecked
   sets-passed =
-      let h = cond-passed (eqb (g .start) 0) 6 startPlace (unless (statesChecked Unseen g) Refused (statesChecked Departing g)) fine in
-      let k = then-fine (statesChecked Unseen g) (statesChecked Departing g) (h .1) in
-      (h .0, k .0, k .1)
-
-  no-fault : (x : Fault) → statesChecked x g ≡ Fine → (i : ℕ) → i < g .states → faultAt x g i ≡ false
-  unfolding statesChecked
-  no-fault x e =
-      first-nothing (g .states) (faultAt x g)
-      (found-none (first (g .states) (faultAt x g)) (λ i. Refused (faultNumber x) i) (λ i f. never (faultNumber x) i f) e)
+      let h = cond-passed (eqb (g .start) 0) 6 startPlace (atFound (first (g .states) (unseen g)) (λ i. Refused 7 i) Fine) fine in
+      (h .0, found-none (first (g .states) (unseen g)) (λ i. Refused 7 i) (λ i f. never 7 i f) (h .1))
 
   pub start-some : g .start ≡ 0 → ⊥
   start-some = eqb-false (g .start) 0 (sets-passed .0)
@@ -229,15 +247,16 @@ module _ (g : Game) (fine : setsChecked g ≡ Fine) where
   pub all-show : (i : ℕ) → i < g .states → (o : ℕ) × Shows g i o
   unfolding unseen
   all-show i l =
-      let h = any-found (g .observations) (λ o. member (g .shown o) i) (not-false (any (g .observations) (λ o. member (g .shown o) i)) (no-fault Unseen (sets-passed .1) i l)) in
+      let h = any-found (g .observations) (λ o. member (g .shown o) i) (not-false (any (g .observations) (λ o. member (g .shown o) i)) (first-nothing (g .states) (unseen g) (sets-passed .1) i l)) in
       (h .0, (h .1, h .2))
 
-  pub parked-end : (a i : ℕ) → a < g .actions → i < g .states → member (g .parked) i ≡ true → g .successors a i ≡ 0
-  unfolding departs hasSuccessor
-  parked-end a i l m e =
-      let none = no-fault Departing (sets-passed .2) i m in
-      let still : any (g .actions) (hasSuccessor g i) ≡ false = rw e at none in
-      eqb-true (g .successors a i) 0 (not-false (eqb (g .successors a i) 0) (any-none (g .actions) (hasSuccessor g i) still a l))
+-- a parked state has no successor
+pub parked-end : (g : Game) → parkedChecked g ≡ Fine → (a i : ℕ) → a < g .actions → i < g .states → member (g .parked) i ≡ true → g .successors a i ≡ 0
+unfolding parkedChecked departs hasSuccessor
+parked-end g fine a i l m e =
+    let none = first-nothing (g .states) (departs g) (found-none (first (g .states) (departs g)) (λ i. Refused 19 i) (λ i f. never 19 i f) fine) i m in
+    let still : any (g .actions) (hasSuccessor g i) ≡ false = rw e at none in
+    eqb-true (g .successors a i) 0 (not-false (eqb (g .successors a i) 0) (any-none (g .actions) (hasSuccessor g i) still a l))
 
 -- ---- an accepted table
 
@@ -246,12 +265,14 @@ positive zero h = absurd (h refl)
 positive (suc x) h = omega arith
 
 module _ (w : List ℕ) (fine : checked w ≡ Fine) where
-  fine-parts : (sizeChecked w ≡ Fine) × (wordsChecked w ≡ Fine) × (setsChecked (game w) ≡ Fine)
+  fine-parts : (sizeChecked w ≡ Fine) × (wordsChecked w ≡ Fine) × (setsChecked (game w) ≡ Fine) × (parkedChecked (game w) ≡ Fine)
   unfolding checked
   fine-parts =
-      let a = then-fine (sizeChecked w) (unless (wordsChecked w) Refused (setsChecked (game w))) fine in
-      let b = then-fine (wordsChecked w) (setsChecked (game w)) (a .1) in
-      (a .0, b .0, b .1)
+      let sets = unless (setsChecked (game w)) Refused (parkedChecked (game w)) in
+      let a = then-fine (sizeChecked w) (unless (wordsChecked w) Refused sets) fine in
+      let b = then-fine (wordsChecked w) sets (a .1) in
+      let c = then-fine (setsChecked (game w)) (parkedChecked (game w)) (b .1) in
+      (a .0, b .0, c .0, c .1)
 
   pub sized : Sized w
   sized = size-sized w (fine-parts .0)
@@ -261,6 +282,9 @@ module _ (w : List ℕ) (fine : checked w ≡ Fine) where
 
   pub fine-sets : setsChecked (game w) ≡ Fine
   fine-sets = fine-parts .2
+
+  pub fine-parked : parkedChecked (game w) ≡ Fine
+  fine-parked = fine-parts .3
 
   pub fine-head : headRight (getD w 0 0) ≡ true
   fine-head = size-passed w (fine-parts .0) .0
@@ -291,5 +315,5 @@ module _ (w : List ℕ) (fine : checked w ≡ Fine) where
         successors-below = λ a i l m. mask-below (move a i) (l, m);
         start-some = positive (maskAt w Start) (start-some (game w) fine-sets);
         all-show = all-show (game w) fine-sets;
-        parked-end = parked-end (game w) fine-sets;
+        parked-end = parked-end (game w) fine-parked;
       }

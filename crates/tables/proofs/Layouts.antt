@@ -1,12 +1,10 @@
 -- Heads and their numbers; the words of the places, and their masks.
 -- Assumes nothing.
 use mathlib.Core.Path.{_≡_, _∙_, sym}
-use mathlib.Core.Bool.{true, false}
 use mathlib.Core.Logic.{⊎-elim}
-use Prim.Native.Nat.{ℕ, _+_, _*_, _/_, _%_, _^_, _≤_, _<_}
+use Prim.Native.Nat.{ℕ, _+_, _*_, _/_, _%_, _^_, _<_}
 use native.Mathlib.Omega.{arith}
 use borrow.Author.Tests.{eq-eqb, ne-eqb, eqb-true, eqb-false}
-use lib.Dec.{eqb}
 use Rattle.sets.proofs.Logic.{decided}
 use Rattle.games.specs.Format.{kindTable, kindAt, headValues, headActionsAt, headObservationsAt, lowValues, numberValues, actionValues, headMarkedAt, bitValues, headSpareAt}
 use Rattle.games.specs.Fields.{lowField, headStates, headActions, headObservations, headMarked}

@@ -14,7 +14,7 @@ use Rattle.games.specs.Stations.{tableA, parkedE}
 use Rattle.games.specs.declared.Checked.{Checked}
 use Rattle.games.specs.declared.Checked.the-variants.{Fine, Refused}
 use Rattle.tables.specs.Layout.{bareWord}
-use Rattle.tables.specs.Check.{limitsHold, headRight, sizeChecked, placed, faulty, wordsChecked, unseen, departs, statesChecked, setsChecked, checked}
+use Rattle.tables.specs.Check.{limitsHold, headRight, sizeChecked, placed, faulty, wordsChecked, unseen, departs, parkedChecked, setsChecked, checked}
 
 pub data Rows : List (record { input : List ℕ; answer : Checked }) → Type 0 where
   none : Rows []
@@ -43,6 +43,6 @@ rows =
     ∷ []
 
 pub every-row : Rows rows
-unfolding rows checked sizeChecked wordsChecked setsChecked statesChecked headRight limitsHold placed faulty unseen departs hasSuccessor parkedWords placeAt bareWord game first any
+unfolding rows checked sizeChecked wordsChecked setsChecked parkedChecked headRight limitsHold placed faulty unseen departs hasSuccessor parkedWords placeAt bareWord game first any
 every-row =
     row refl (row refl (row refl (row refl (row refl (row refl (row refl (row refl (row refl (row refl (row refl (row refl (row refl (row refl (row refl (row refl (row refl (row refl none)))))))))))))))))

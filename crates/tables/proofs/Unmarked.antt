@@ -1,7 +1,7 @@
 -- Words without the bit are checked as document 01 says.
 -- Assumes nothing.
-use mathlib.Core.Path.{_≡_, refl, sym, ap, _∙_}
-use mathlib.Core.Bool.{Bool, true, false, cond, _&&_}
+use mathlib.Core.Path.{_≡_, refl, ap, _∙_}
+use mathlib.Core.Bool.{Bool, false, _&&_}
 use mathlib.Core.List.{List}
 use Prim.Native.Nat.{ℕ, _/_, _%_, _^_}
 use native.Mathlib.Omega.{arith}
@@ -14,17 +14,15 @@ use Rattle.sets.proofs.Mask.{member-zero}
 use Rattle.games.specs.Answers.{unless}
 use Rattle.games.specs.Fields.{headMarked}
 use Rattle.games.specs.Game.{Game}
-use Rattle.games.specs.Places.{shapeOf, startPlace}
+use Rattle.games.specs.Places.{shapeOf}
 use Rattle.games.specs.Words.{game}
 use Rattle.games.specs.declared.Checked.{Checked}
 use Rattle.games.specs.declared.Checked.the-variants.{Fine, Refused}
 use Rattle.games.proofs.Parked.{unparked}
 use Rattle.games.proofs.Places.{unmarked-word}
 use Rattle.tables.specs.Layout.{shapeIn}
-use Rattle.tables.specs.Check.{limitsHold, headRight, sizeChecked, wordsChecked, faultAt, statesChecked, setsChecked, checked}
-use Rattle.tables.specs.Unmarked.{plainSets, ChecksAsBefore, Unmarked}
-use Rattle.tables.specs.declared.Fault.the-variants.{Unseen, Departing}
-use Rattle.tables.proofs.Checks.{not-parked, states-fine}
+use Rattle.tables.specs.Check.{limitsHold, headRight, sizeChecked, wordsChecked, setsChecked, departs, parkedChecked, checked}
+use Rattle.tables.specs.Unmarked.{Unmarked}
 
 -- a last check that passes changes no answer
 kept : (c : Checked) → unless c Refused Fine ≡ c
@@ -32,14 +30,9 @@ kept Fine = refl
 kept (Refused k p) = refl
 
 -- 19 needs a parked state
-none-departs : (g : Game) → g .parked ≡ 0 → statesChecked Departing g ≡ Fine
-none-departs g e = states-fine g Departing (first-none (g .states) (faultAt Departing g) (λ i l. not-parked g i (rw e (member-zero i))))
-
-sets-plain : (g : Game) → g .parked ≡ 0 → setsChecked g ≡ plainSets g
-unfolding setsChecked plainSets
-sets-plain g e =
-    ap (λ (c : Checked). cond (eqb (g .start) 0) (Refused 6 startPlace) (unless (statesChecked Unseen g) Refused c)) (none-departs g e)
-    ∙ ap (λ (c : Checked). cond (eqb (g .start) 0) (Refused 6 startPlace) c) (kept (statesChecked Unseen g))
+none-departs : (g : Game) → g .parked ≡ 0 → parkedChecked g ≡ Fine
+unfolding parkedChecked departs
+none-departs g e = rw (first-none (g .states) (departs g) (λ i l. rw (e, member-zero i)))
 
 -- the bits from 25 up and the bit 24, together
 spare : (w : ℕ) → headMarked w ≡ false → eqb (w / 2 ^ 25) 8 ≡ eqb (w / 2 ^ 24) 16
@@ -55,5 +48,7 @@ unmarked w none =
     record {
       head = ap (λ (b : Bool). b && limitsHold (shapeOf (getD w 0 0))) (spare (getD w 0 0) none);
       long = omega (arith, unmarked-word (shapeIn w) none);
-      answer = ap (λ (c : Checked). unless (sizeChecked w) Refused (unless (wordsChecked w) Refused c)) (sets-plain (game w) (unparked w none));
+      answer =
+          ap (λ (c : Checked). unless (sizeChecked w) Refused (unless (wordsChecked w) Refused (unless (setsChecked (game w)) Refused c))) (none-departs (game w) (unparked w none))
+          ∙ ap (λ (c : Checked). unless (sizeChecked w) Refused (unless (wordsChecked w) Refused c)) (kept (setsChecked (game w)));
     }

@@ -2,7 +2,7 @@
 -- Assumes nothing.
 use mathlib.Core.Bool.{Bool, cond, not, _&&_, _||_}
 use mathlib.Core.List.{List}
-use Prim.Native.Nat.{ℕ, _+_, _/_, _^_}
+use Prim.Native.Nat.{ℕ, _+_, _*_, _/_, _^_}
 use lib.Dec.{eqb, leb, ltb}
 use lib.ListN.{length, getD}
 use Rattle.sets.specs.Mask.{member}
@@ -17,8 +17,6 @@ use Rattle.games.specs.declared.Shape.{Shape}
 use Rattle.games.specs.declared.Checked.{Checked}
 use Rattle.games.specs.declared.Checked.the-variants.{Fine, Refused}
 use Rattle.tables.specs.Layout.{shapeIn, headTop, bareWord}
-use Rattle.tables.specs.declared.Fault.{Fault}
-use Rattle.tables.specs.declared.Fault.the-variants.{Unseen, Departing}
 
 -- the numbers of states, actions and observations are within the limits
 unfoldable pub limitsHold : Shape → Bool
@@ -56,33 +54,33 @@ wordsChecked w = atFound (first (length w) (faulty w)) (λ p. cond (placed w p) 
 unfoldable pub unseen : Game → ℕ → Bool
 unseen g i = not (any (g .observations) (λ o. member (g .shown o) i))
 
+-- 6 and 7: the start set is empty, a state shows no observation
+unfoldable pub setsChecked : Game → Checked
+setsChecked g =
+    cond (eqb (g .start) 0) (Refused 6 startPlace)
+    (atFound (first (g .states) (unseen g)) (λ i. Refused 7 i)
+    Fine)
+
 -- state i is parked, and has a successor under some action
 unfoldable pub departs : Game → ℕ → Bool
 departs g i = member (g .parked) i && any (g .actions) (hasSuccessor g i)
 
--- what a state is refused for, 7 and 19
-abbrev pub faultAt : Fault → Game → ℕ → Bool
-faultAt Unseen g i = unseen g i
-faultAt Departing g i = departs g i
+-- 19: the lowest such state
+unfoldable pub parkedChecked : Game → Checked
+parkedChecked g = atFound (first (g .states) (departs g)) (λ i. Refused 19 i) Fine
 
-abbrev pub faultNumber : Fault → ℕ
-faultNumber Unseen = 7
-faultNumber Departing = 19
+-- as the code asks it: of a parked set, and of move words, or masks, that stand from a place on
+unfoldable pub departsFrom : (words : List ℕ) (base : ℕ) → Shape → (parked state : ℕ) → Bool
+departsFrom w base s parked i =
+    member parked i && any (s .actions) (λ a. not (eqb (lowField (getD w (base + (a * s .states + i)) 0)) 0))
 
--- the lowest state that is refused for it
-unfoldable pub statesChecked : Fault → Game → Checked
-statesChecked x g = atFound (first (g .states) (faultAt x g)) (λ i. Refused (faultNumber x) i) Fine
-
--- 6, the start set is empty; 7; 19
-unfoldable pub setsChecked : Game → Checked
-setsChecked g =
-    cond (eqb (g .start) 0) (Refused 6 startPlace)
-    (unless (statesChecked Unseen g) Refused
-    (statesChecked Departing g))
+unfoldable pub parkedFrom : (words : List ℕ) (base : ℕ) → Shape → (parked : ℕ) → Checked
+parkedFrom w base s parked = atFound (first (s .states) (departsFrom w base s parked)) (λ i. Refused 19 i) Fine
 
 -- the table checks; a table is accepted where the answer is `Fine`
 unfoldable pub checked : List ℕ → Checked
 checked w =
     unless (sizeChecked w) Refused
     (unless (wordsChecked w) Refused
-    (setsChecked (game w)))
+    (unless (setsChecked (game w)) Refused
+    (parkedChecked (game w))))

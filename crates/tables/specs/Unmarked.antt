@@ -1,25 +1,18 @@
 -- Words without the bit are checked as document 01 says: a statement that is proved of all words.
 -- Assumes nothing.
 use mathlib.Core.Path.{_≡_}
-use mathlib.Core.Bool.{false, cond, _&&_}
+use mathlib.Core.Bool.{false, _&&_}
 use mathlib.Core.List.{List}
 use Prim.Native.Nat.{ℕ, _+_, _*_, _/_, _^_}
 use lib.Dec.{eqb}
 use lib.ListN.{getD}
 use Rattle.games.specs.Answers.{unless}
 use Rattle.games.specs.Fields.{headMarked}
-use Rattle.games.specs.Game.{Game}
-use Rattle.games.specs.Places.{shapeOf, startPlace, tableLength}
+use Rattle.games.specs.Places.{shapeOf, tableLength}
 use Rattle.games.specs.Words.{game}
-use Rattle.games.specs.declared.Checked.{Checked}
 use Rattle.games.specs.declared.Checked.the-variants.{Refused}
 use Rattle.tables.specs.Layout.{shapeIn}
-use Rattle.tables.specs.Check.{limitsHold, headRight, sizeChecked, wordsChecked, statesChecked, checked}
-use Rattle.tables.specs.declared.Fault.the-variants.{Unseen}
-
--- 6 and 7 alone
-unfoldable pub plainSets : Game → Checked
-plainSets g = cond (eqb (g .start) 0) (Refused 6 startPlace) (statesChecked Unseen g)
+use Rattle.tables.specs.Check.{limitsHold, headRight, sizeChecked, wordsChecked, setsChecked, checked}
 
 pub record ChecksAsBefore (w : List ℕ) : Type 0 where
   -- 2: the kind, the bits 24 to 27, and the limits
@@ -27,7 +20,7 @@ pub record ChecksAsBefore (w : List ℕ) : Type 0 where
   -- 3
   pub long : tableLength (shapeIn w) ≡ 3 + shapeIn w .observations + shapeIn w .actions * shapeIn w .states
   -- the whole answer: 1 to 7
-  pub answer : checked w ≡ unless (sizeChecked w) Refused (unless (wordsChecked w) Refused (plainSets (game w)))
+  pub answer : checked w ≡ unless (sizeChecked w) Refused (unless (wordsChecked w) Refused (setsChecked (game w)))
 
 abbrev pub Unmarked : List ℕ → Type 0
 Unmarked w = headMarked (getD w 0 0) ≡ false → ChecksAsBefore w

@@ -1,6 +1,6 @@
 // The words of a station table: checks, what the words say, and its fields.
 ghost use mathlib.Core.Path.{_≡_};
-ghost use Prim.Native.Nat.{_<_, _+_, _≤_};
+ghost use Prim.Native.Nat.{_<_, _+_, _*_, _≤_};
 ghost use lib.ListN.{length};
 ghost use Rattle.sets.specs.Bounded.{filledBy};
 ghost use Rattle.games.specs.Format.{maxObservations};
@@ -11,7 +11,7 @@ ghost use Rattle.games.specs.Words.{maskAt, game};
 ghost use Rattle.tables.specs.Layout.{shapeIn, headWord, bareWord, Sized};
 ghost use Rattle.tables.specs.Walk.{walked};
 ghost use Rattle.tables.specs.Fields.{fieldsShape, masksFrom, fieldsOf, gameOf};
-ghost use Rattle.tables.specs.Check.{limitsHold, headRight, sizeChecked, placed, faulty, wordsChecked, unseen, departs, faultAt, faultNumber, statesChecked, setsChecked, checked};
+ghost use Rattle.tables.specs.Check.{limitsHold, headRight, sizeChecked, placed, faulty, wordsChecked, unseen, setsChecked, parkedChecked, departsFrom, parkedFrom, checked};
 use games::Action;
 use games::Checked;
 use games::Observation;
@@ -259,6 +259,15 @@ fn check_words(table: &[u32]) -> Checked
     Checked::Fine
 }
 
+// Refusal 19, by the table's move words.
+fn check_departures(table: &[u32]) -> Checked
+    requires { ⌜ Sized (now table) ⌝ }
+    ensures { λ r. ⌜ r ≡ parkedChecked (game (now (table .entry))) ⌝ }
+{
+    let first_move = place_in(table, Place::Move(Action(0), State(0)));
+    check_parked(table, first_move, shape_in(table), parked(table))
+}
+
 // The table checks, 1 to 7 and 19.
 pub fn check(table: &[u32]) -> Checked
     ensures { λ r. ⌜ r ≡ checked (now (table .entry)) ⌝ }
@@ -267,7 +276,10 @@ pub fn check(table: &[u32]) -> Checked
         Checked::Refused(number, place) => Checked::Refused(number, place),
         Checked::Fine => match check_words(table) {
             Checked::Refused(number, place) => Checked::Refused(number, place),
-            Checked::Fine => check_sets(fields_of(table)),
+            Checked::Fine => match check_sets(fields_of(table)) {
+                Checked::Refused(number, place) => Checked::Refused(number, place),
+                Checked::Fine => check_departures(table),
+            },
         },
     }
 }
@@ -358,71 +370,7 @@ fn is_unseen(f: Fields, i: State) -> bool
     true
 }
 
-// State i is parked, and has a successor under some action.
-fn is_departing(f: Fields, i: State) -> bool
-    requires { ⌜ Limited (fieldsShape f) × (i .0 < f .states) ⌝ }
-    ensures { λ r. ⌜ r ≡ departs (gameOf f) (i .0) ⌝ }
-{
-    if !sets::member(f.parked, i.0) {
-        return false;
-    }
-    let n = f.states;
-    let actions = f.actions;
-    let moves = f.moves;
-    let mut a: u32 = 0;
-    while a < actions {
-        if moves[(a * n + i.0) as usize] != 0 {
-            return true;
-        }
-        a += 1;
-    }
-    false
-}
-
-// What a state is refused for.
-enum Fault {
-    // it shows no observation
-    Unseen,
-    // it is parked, and has a successor under some action
-    Departing,
-}
-
-fn fault_number(x: Fault) -> u32
-    ensures { λ r. ⌜ r ≡ faultNumber x ⌝ }
-{
-    match x {
-        Fault::Unseen => 7,
-        Fault::Departing => 19,
-    }
-}
-
-fn is_at_fault(x: Fault, f: Fields, i: State) -> bool
-    requires { ⌜ Limited (fieldsShape f) × (i .0 < f .states) ⌝ }
-    ensures { λ r. ⌜ r ≡ faultAt x (gameOf f) (i .0) ⌝ }
-{
-    match x {
-        Fault::Unseen => is_unseen(f, i),
-        Fault::Departing => is_departing(f, i),
-    }
-}
-
-// Refusal 7, and refusal 19.
-fn check_states(x: Fault, f: Fields) -> Checked
-    requires { ⌜ Limited (fieldsShape f) ⌝ }
-    ensures { λ r. ⌜ r ≡ statesChecked x (gameOf f) ⌝ }
-{
-    let n = f.states;
-    let mut i: u32 = 0;
-    while i < n {
-        if is_at_fault(x, f, State(i)) {
-            return Checked::Refused(fault_number(x), i as usize);
-        }
-        i += 1;
-    }
-    Checked::Fine
-}
-
-// Refusals 6, 7 and 19.
+// Refusals 6 and 7.
 pub fn check_sets(f: Fields) -> Checked
     requires { ⌜ Limited (fieldsShape f) ⌝ }
     ensures { λ r. ⌜ r ≡ setsChecked (gameOf f) ⌝ }
@@ -430,8 +378,49 @@ pub fn check_sets(f: Fields) -> Checked
     if f.start == 0 {
         return Checked::Refused(6, games::place_of(fields_shape(f), Place::Start));
     }
-    match check_states(Fault::Unseen, f) {
-        Checked::Refused(number, place) => Checked::Refused(number, place),
-        Checked::Fine => check_states(Fault::Departing, f),
+    let n = f.states;
+    let mut i: u32 = 0;
+    while i < n {
+        if is_unseen(f, State(i)) {
+            return Checked::Refused(7, i as usize);
+        }
+        i += 1;
     }
+    Checked::Fine
+}
+
+// State i is parked, and has a successor under some action: `words` has the moves from `base` on.
+fn is_departing(words: &[u32], base: usize, s: Shape, parked: u32, i: State) -> bool
+    requires { ⌜ Limited s × (base + s .actions * s .states ≤ length (now words)) × (i .0 < s .states) ⌝ }
+    ensures { λ r. ⌜ r ≡ departsFrom (now (words .entry)) base s parked (i .0) ⌝ }
+{
+    if !sets::member(parked, i.0) {
+        return false;
+    }
+    let n = s.states;
+    let actions = s.actions;
+    let mut a: u32 = 0;
+    while a < actions {
+        if games::low_field(words[base + (a * n + i.0) as usize]) != 0 {
+            return true;
+        }
+        a += 1;
+    }
+    false
+}
+
+// Refusal 19.
+pub fn check_parked(words: &[u32], base: usize, s: Shape, parked: u32) -> Checked
+    requires { ⌜ Limited s × (base + s .actions * s .states ≤ length (now words)) ⌝ }
+    ensures { λ r. ⌜ r ≡ parkedFrom (now (words .entry)) base s parked ⌝ }
+{
+    let n = s.states;
+    let mut i: u32 = 0;
+    while i < n {
+        if is_departing(words, base, s, parked, State(i)) {
+            return Checked::Refused(19, i as usize);
+        }
+        i += 1;
+    }
+    Checked::Fine
 }

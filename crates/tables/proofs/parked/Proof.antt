@@ -1,11 +1,9 @@
 -- `tables::parked` meets its contract: the mask at its place where the bit is set.
 -- Assumes nothing.
-use mathlib.Core.Path.{_≡_, sym, ap, _∙_}
-use mathlib.Core.Bool.{true}
+use mathlib.Core.Path.{sym, ap, _∙_}
 use borrow.Author.Needs.{needs}
 use Rattle.games.specs.Words.{game}
 use Rattle.games.specs.declared.Shape.{Shape}
-use Rattle.tables.specs.Layout.{shapeIn}
 use Rattle.tables.proofs.parked.Statement.{statement}
 use Rattle.tables.proofs.parked.Tie as tie
 
