@@ -1,6 +1,6 @@
 -- `abi::card_words` meets its contract: the numbers of a checked card's head, or the words of the refusal.
 -- Assumes nothing.
-use mathlib.Core.Path.{_∙_}
+use mathlib.Core.Path.{sym, _∙_}
 use borrow.Author.Needs.{needs}
 use Rattle.abi.proofs.Told.{card-fine, card-refused}
 use Rattle.abi.proofs.card_words.Statement.{statement}
@@ -23,8 +23,8 @@ card-words-spec =
     (tie.spec
     (λ c κs. search needs)
     (λ c. search needs)
-    (λ c κs. (cc))
-    (λ c κs. (cc))
+    (λ c κs. sym (c .before .before .check .ensures) ∙ c .enum-told .given .1)
+    (λ c κs. sym (c .before .before .before .check .ensures) ∙ c .before .enum-told .given .1)
     (λ c κs. search needs)
     (λ c. search needs)
     (λ c κs. search needs)

@@ -10,14 +10,14 @@ returns : tie.Need-returns
 returns c =
     let got = c .before .before .before in
     let start = got .before .before .before in
-    rewrite-refused (start .args .table .now) (start .args .out .now) _ (got .read .ensures .0) (c .before .answer .given .0 .0) (c .before .answer .given .0 .1 .0) (cc)
+    rewrite-refused (start .args .table .now) (start .args .out .now) _ (got .read .ensures .0) (c .before .answer .given .0 .0) (c .before .answer .given .0 .1 .0) (c .before .answer .given .1)
 
 returns-2 : tie.Need-returns-2
 returns-2 c =
     let written = c .before .before in
     let got = written .before .before .before .before in
     let start = got .before .before .before in
-    written .write .ensures .0 ∙ rewrite-fine (start .args .table .now) (start .args .out .now) _ (got .read .ensures .0) (cc)
+    written .write .ensures .0 ∙ rewrite-fine (start .args .table .now) (start .args .out .now) _ (got .read .ensures .0) (written .before .before .enum-told .given .1)
 
 pub rewrite-spec : {M : Type 1} → statement M
 rewrite-spec =

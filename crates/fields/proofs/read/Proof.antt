@@ -1,6 +1,6 @@
 -- `fields::read` meets its contract: the answer of `check`, with its fields; what was read is written back.
 -- Assumes nothing.
-use mathlib.Core.Path.{_≡_}
+use mathlib.Core.Path.{_≡_, sym, _∙_}
 use mathlib.Core.List.{List}
 use Prim.Native.Nat.{ℕ}
 use borrow.Author.Needs.{needs}
@@ -24,6 +24,6 @@ read-spec =
     (λ c. search needs)
     (λ c κs. search needs)
     (λ c. search needs)
-    (λ c κs. sized (c .before .before .before .before .args .table .now) (cc))
-    (λ c. let w = c .before .before .before .before .before .before .args .table .now in both w (read-refused w _ _ _ (cc) (c .no-fields .ensures)))
-    (λ c. let w = c .before .before .before .before .before .args .table .now in both w (read-fine w _ (cc) (c .fields-of .ensures))))
+    (λ c κs. sized (c .before .before .before .before .args .table .now) (sym (c .before .before .check .ensures) ∙ c .enum-told .given .1))
+    (λ c. let w = c .before .before .before .before .before .before .args .table .now in both w (read-refused w _ _ _ (sym (c .before .before .before .before .check .ensures) ∙ c .before .before .number .given .1) (c .no-fields .ensures)))
+    (λ c. let w = c .before .before .before .before .before .args .table .now in both w (read-fine w _ (sym (c .before .before .before .check .ensures) ∙ c .before .enum-told .given .1) (c .fields-of .ensures))))

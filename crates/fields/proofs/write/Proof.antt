@@ -19,19 +19,19 @@ both c e = (e, reads-back (c .args .f) (c .args .out .now) (search needs) (searc
 write-words-requires : tie.Need-write-words-requires
 write-words-requires c κs =
     let f = c .before .before .before .before .before .args .f in
-    let passed = fields-passed f (cc) in
+    let passed = fields-passed f (sym (c .before .before .before .check-fields .ensures) ∙ c .before .enum-told .given .1) in
     (slots-limited f (passed .0), passed .1)
 
 returns : tie.Need-returns
 returns c =
     let start = c .before .before .before .before .before in
-    both start (write-refused (start .args .f) _ _ (start .args .out .now) (cc))
+    both start (write-refused (start .args .f) _ _ (start .args .out .now) (sym (c .before .before .before .check-fields .ensures) ∙ c .before .number .given .1))
 
 returns-2 : tie.Need-returns-2
 returns-2 c =
     let called = c .before .before in
     let start = called .before .before .before .before .before .before in
-    both start (called .write-words .ensures ∙ sym (write-fine (start .args .f) (start .args .out .now) (cc)))
+    both start (called .write-words .ensures ∙ sym (write-fine (start .args .f) (start .args .out .now) (sym (called .before .before .before .before .check-fields .ensures) ∙ called .before .before .enum-told .given .1)))
 
 pub write-spec : {M : Type 1} → statement M
 write-spec =

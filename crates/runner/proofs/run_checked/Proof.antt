@@ -1,6 +1,6 @@
 -- A refusal on the way stands; else 15 where the buffer is short; else the second pass writes what the first has seen.
 -- Assumes nothing.
-use mathlib.Core.Path.{_≡_}
+use mathlib.Core.Path.{_≡_, sym, _∙_}
 use borrow.Author.Needs.{needs}
 use lib.ListN.{length}
 use denote.Ref.{now}
@@ -14,7 +14,7 @@ use Rattle.runner.proofs.run_checked.Tie as tie
 done : (c : tie.After-taken)
     → let x = c .before .before .before .before .before .before .args in
     ranUpTo (now (x .card)) (now (x .seen)) (length (now (x .seen))) ≡ Done (c .taken .given .0 .0)
-done c = cc
+done c = sym (c .before .before .try-run .ensures) ∙ c .taken .given .1
 
 pub run-checked-spec : {M : Type 1} → statement M
 run-checked-spec =
@@ -29,7 +29,7 @@ run-checked-spec =
     writable _ _ _ _ (told .before .before .before .before .before .before .pre) (done told) (c .before .if1 .left))
     (λ c.
     let v = c .before .number .given .0 in
-    run-refused _ _ _ (v .0) (v .1 .0) (v .1 .1 .0) (cc))
+    run-refused _ _ _ (v .0) (v .1 .0) (v .1 .1 .0) (sym (c .before .before .before .try-run .ensures) ∙ c .before .number .given .1))
     (λ c. search needs)
     (λ c.
     let wrote = c .before .before in

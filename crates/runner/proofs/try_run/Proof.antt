@@ -1,5 +1,6 @@
 -- Invariant: the first i observations were taken, and the card is in the cell after them.
 -- Assumes nothing.
+use mathlib.Core.Path.{sym, _∙_}
 use Prim.Native.Nat.{_-_}
 use native.Mathlib.Omega.{arith}
 use borrow.Author.Needs.{needs}
@@ -32,7 +33,7 @@ try-run-spec =
     let loop = turn .before in
     let x = loop .before .before .before .args in
     let v = c .before .number .given .0 in
-    run-stops (now (x .card)) (now (x .seen)) (loop .loop .i) (loop .loop .cell) (loop .loop .inv) (turn .loop-test .taken) (v .0) (v .1 .0) (cc))
+    run-stops (now (x .card)) (now (x .seen)) (loop .loop .i) (loop .loop .cell) (loop .loop .inv) (turn .loop-test .taken) (v .0) (v .1 .0) (sym (moves .move-on .ensures) ∙ c .before .number .given .1))
     (λ c. search needs)
     (λ c. omega arith)
     (λ c. omega arith)
@@ -42,7 +43,7 @@ try-run-spec =
     let loop = turn .before in
     let x = loop .before .before .before .args in
     let v = c .before .entered .given .0 in
-    at-more (now (x .card)) (now (x .seen)) (loop .loop .i) (loop .loop .cell) (loop .loop .inv) (turn .loop-test .taken) (v .0) (v .1 .0) (cc))
+    at-more (now (x .card)) (now (x .seen)) (loop .loop .i) (loop .loop .cell) (loop .loop .inv) (turn .loop-test .taken) (v .0) (v .1 .0) (sym (moves .move-on .ensures) ∙ c .before .entered .given .1))
     (λ c.
     let x = c .before .before .before .before .args in
     run-ends (now (x .card)) (now (x .seen)) (c .before .loop .i) (c .before .loop .cell) (c .before .loop .inv) (c .loop-test .left)))

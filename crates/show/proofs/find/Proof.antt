@@ -1,6 +1,6 @@
 -- `show::find` meets its contract: the check of both first, then the part.
 -- Assumes nothing.
-use mathlib.Core.Path.{_∙_}
+use mathlib.Core.Path.{sym, _∙_}
 use borrow.Author.Needs.{needs}
 use denote.Ref.{now}
 use Rattle.show.proofs.Laws.{pair-refused, pair-fine}
@@ -14,10 +14,10 @@ find-spec =
     (λ c κs. search needs)
     (λ c. search needs)
     (λ c. search needs)
-    (λ c κs. (cc))
+    (λ c κs. sym (c .before .before .check .ensures) ∙ c .enum-told .given .1)
     (λ c.
     let x = c .before .before .before .before .before .before .args in
-    pair-refused (now (x .table)) (now (x .card)) (x .cell .0) (c .before .number .given .0 .0) (c .before .number .given .0 .1 .0) (cc))
+    pair-refused (now (x .table)) (now (x .card)) (x .cell .0) (c .before .number .given .0 .0) (c .before .number .given .0 .1 .0) (sym (c .before .before .before .check .ensures) ∙ c .before .number .given .1))
     (λ c.
     let x = c .before .before .before .before .before .before .args in
-    c .locate .ensures ∙ pair-fine (now (x .table)) (now (x .card)) (x .cell .0) (cc)))
+    c .locate .ensures ∙ pair-fine (now (x .table)) (now (x .card)) (x .cell .0) (sym (c .before .before .before .check .ensures) ∙ c .before .enum-told .given .1)))

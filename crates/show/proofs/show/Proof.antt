@@ -1,5 +1,6 @@
 -- `show::show` meets its contract: the part that `find` names lies in the table.
 -- Assumes nothing.
+use mathlib.Core.Path.{sym, _∙_}
 use Prim.Native.Nat.{_+_, _≤_}
 use native.Mathlib.Omega.{arith}
 use borrow.Author.Needs.{needs}
@@ -12,7 +13,7 @@ use Rattle.show.proofs.show.Tie as tie
 inside : (c : tie.After-at) → c .at .given .0 .0 + c .at .given .0 .1 .0 ≤ length (now (c .before .before .before .before .before .args .table))
 inside c =
     let x = c .before .before .before .before .before .args in
-    part-in (now (x .table)) (now (x .card)) (x .cell .0) (c .at .given .0 .0) (c .at .given .0 .1 .0) (cc)
+    part-in (now (x .table)) (now (x .card)) (x .cell .0) (c .at .given .0 .0) (c .at .given .0 .1 .0) (sym (c .before .before .find .ensures) ∙ c .at .given .1)
 
 pub show-spec : {M : Type 1} → statement M
 show-spec =
@@ -27,7 +28,7 @@ show-spec =
     (λ c.
     let v = c .before .enum-told .given .0 in
     let x = c .before .before .before .before .before .before .args in
-    hands-none (now (x .table)) (now (x .card)) (x .cell .0) (x .table .ptr) (v .0) (v .1 .0) (cc))
+    hands-none (now (x .table)) (now (x .card)) (x .cell .0) (x .table .ptr) (v .0) (v .1 .0) (sym (c .before .before .before .find .ensures) ∙ c .before .enum-told .given .1))
     (λ c. omega (arith, inside (c .before)))
     (λ c. omega (arith, inside (c .before)))
     (λ c. search needs)
@@ -36,4 +37,4 @@ show-spec =
     (λ c.
     let v = c .before .before .at .given .0 in
     let x = c .before .before .before .before .before .before .before .args in
-    hands-part (now (x .table)) (now (x .card)) (x .cell .0) (x .table .ptr) (v .0) (v .1 .0) (cc)))
+    hands-part (now (x .table)) (now (x .card)) (x .cell .0) (x .table .ptr) (v .0) (v .1 .0) (sym (c .before .before .before .before .find .ensures) ∙ c .before .before .at .given .1)))

@@ -1,6 +1,6 @@
 -- `tables::check_parked` meets its contract: before each turn no state so far departs.
 -- Assumes nothing.
-use mathlib.Core.Path.{_≡_, sym}
+use mathlib.Core.Path.{_≡_, sym, _∙_}
 use Prim.Native.Nat.{_≤_, _-_}
 use native.Mathlib.Omega.{arith}
 use borrow.Author.Needs.{needs}
@@ -21,13 +21,13 @@ returns : tie.Need-returns Inv-loop μ-loop
 returns c =
     let at = c .before .before .before in
     let x = at .before .before .args in
-    sym (parked-departs (x .words .now) (x .base) (x .s) (x .parked) (at .loop .i) (search needs) (at .loop .inv .1) (cc))
+    sym (parked-departs (x .words .now) (x .base) (x .s) (x .parked) (at .loop .i) (search needs) (at .loop .inv .1) (sym (c .before .is-departing .ensures) ∙ c .if1 .taken))
 
 loop-again : tie.Need-loop-again Inv-loop μ-loop
 loop-again c =
     let at = c .before .before .before in
     let x = at .before .before .args in
-    (search needs, first-skip (at .loop .i) (departsFrom (x .words .now) (x .base) (x .s) (x .parked)) (at .loop .inv .1) (cc))
+    (search needs, first-skip (at .loop .i) (departsFrom (x .words .now) (x .base) (x .s) (x .parked)) (at .loop .inv .1) (sym (c .before .is-departing .ensures) ∙ c .if1 .left))
 
 returns-2 : tie.Need-returns-2 Inv-loop μ-loop
 returns-2 c =

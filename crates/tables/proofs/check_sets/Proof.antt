@@ -29,12 +29,12 @@ returns-2 : tie.Need-returns-2 Inv-loop μ-loop
 unfolding gameOf
 returns-2 c =
     let at = c .before .before .before in
-    sym (sets-unseen (gameOf (at .before .before .before .args .f)) (at .before .if1 .left) (at .loop .i) (search needs) (at .loop .inv .1) (cc))
+    sym (sets-unseen (gameOf (at .before .before .before .args .f)) (at .before .if1 .left) (at .loop .i) (search needs) (at .loop .inv .1) (sym (c .before .is-unseen .ensures) ∙ c .if2 .taken))
 
 loop-again : tie.Need-loop-again Inv-loop μ-loop
 loop-again c =
     let at = c .before .before .before in
-    (search needs, first-skip (at .loop .i) (unseen (gameOf (at .before .before .before .args .f))) (at .loop .inv .1) (cc))
+    (search needs, first-skip (at .loop .i) (unseen (gameOf (at .before .before .before .args .f))) (at .loop .inv .1) (sym (c .before .is-unseen .ensures) ∙ c .if2 .left))
 
 returns-3 : tie.Need-returns-3 Inv-loop μ-loop
 unfolding gameOf

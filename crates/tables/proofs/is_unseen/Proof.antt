@@ -26,13 +26,13 @@ unfolding gameOf
 returns c =
     let at = c .before .before .before in
     let args = at .before .before .before .args in
-    sym (seen-at (gameOf (args .f)) (args .i .0) (at .loop .j) (search needs) (cc))
+    sym (seen-at (gameOf (args .f)) (args .i .0) (at .loop .j) (search needs) (sym (c .before .member .ensures) ∙ c .if1 .taken))
 
 loop-again : tie.Need-loop-again Inv-loop μ-loop
 loop-again c =
     let at = c .before .before .before in
     let args = at .before .before .before .args in
-    (search needs, any-more (at .loop .j) (λ k. member (getD (args .f .shown) k 0) (args .i .0)) ∙ or-false-intro (at .loop .inv .1) (cc))
+    (search needs, any-more (at .loop .j) (λ k. member (getD (args .f .shown) k 0) (args .i .0)) ∙ or-false-intro (at .loop .inv .1) (sym (c .before .member .ensures) ∙ c .if1 .left))
 
 returns-2 : tie.Need-returns-2 Inv-loop μ-loop
 unfolding gameOf
