@@ -1,15 +1,16 @@
 -- What an answer of `post` says of the set and the action, and whether the action meets the step.
 -- Assumes nothing.
-use mathlib.Core.Path.{_≡_, sym, ap, _∙_}
+use mathlib.Core.Path.{_≡_, sym, ap, _∙_, subst}
 use mathlib.Core.Logic.{_⊎_, ⊎-elim}
 use mathlib.Core.Bool.{Bool, true, false, _&&_}
-use Prim.Native.Nat.{ℕ}
+use Prim.Native.Nat.{ℕ, _^_, _<_}
 use native.Mathlib.Omega.{arith}
 use Rattle.sets.specs.Mask.{common}
 use Rattle.sets.specs.Bounded.{all}
 use Rattle.sets.specs.Family.{Family}
 use Rattle.sets.proofs.Logic.{decided, refuted, and-false-left}
-use Rattle.games.specs.Game.{Game}
+use Rattle.sets.proofs.Mask.{unionOver-lt}
+use Rattle.games.specs.Game.{Game, Accepted}
 use Rattle.games.specs.Step.{enabledAt, post, after, meets}
 use Rattle.moves.specs.declared.Posted.{Posted}
 use Rattle.moves.specs.declared.Posted.the-variants.{Blocked, Post}
@@ -29,6 +30,12 @@ module _ (g : Game) (s a : ℕ) (r : Posted) (is : r ≡ posted g s a) where
       (λ h. (h, let w : posted g s a ≡ Post (post g s a) = rw h in (cc)))
       (λ h. let w : posted g s a ≡ Blocked = rw h in let z : _≡_ {A = ℕ} 0 1 = cc in absurd (omega arith))
       (decided (enabledAt g s a))
+
+-- the successors are states of the game
+pub posted-below : (g : Game) → Accepted g → (s a : ℕ) → a < g .actions → (r : Posted) → r ≡ posted g s a → (u : ℕ) → r ≡ Post u → u < 2 ^ g .states
+unfolding post
+posted-below g A s a b r is u e =
+    subst (λ (v : ℕ). v < 2 ^ g .states) (posted-post g s a r is u e .1) (unionOver-lt (g .states) s (g .successors a) (g .states) (λ i l. A .successors-below a i b l))
 
 module _ (g : Game) (F : Family) (s a : ℕ) (r : Posted) (is : r ≡ posted g s a) where
   -- the action meets the step where the sets after it are good

@@ -22,20 +22,20 @@ use moves::Posted;
 // The place of the last set of a lane.
 const LAST: u32 = LANE_SETS - 1;
 
-// For every observation, the states of u that show it form a set of the family. One that shows all of u decides: the others show subsets.
+// For every observation, the states of u that show it form a set of the family. Where u itself is one, they do: they are its subsets.
 fn shown_in(table: &[u32], family: &[u64], u: u32) -> bool
-    requires { ⌜ (checked (now table) ≡ Fine) × Stage (game (now table)) (now family) ⌝ }
+    requires { ⌜ (checked (now table) ≡ Fine) × Stage (game (now table)) (now family) × (u < 2 ^ game (now table) .states) ⌝ }
     ensures { λ r. ⌜ r ≡ shownIn (game (now (table .entry))) (isIn (now (family .entry))) u ⌝ }
 {
+    if families::has(family, u) {
+        return true;
+    }
     let o = tables::observations(table);
     let mut j: u32 = 0;
     while j < o {
         let t = u & tables::shown(table, Observation(j));
         if !families::has(family, t) {
             return false;
-        }
-        if t == u {
-            return true;
         }
         j += 1;
     }

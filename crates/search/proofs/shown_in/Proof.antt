@@ -27,10 +27,21 @@ abbrev μ-loop : tie.MeasureT-loop
 
 -- where the function begins
 abbrev entry : tie.At-loop Inv-loop μ-loop → tie.Start Inv-loop μ-loop
-entry at = at .before .before .before .before
+entry at = at .before .before .before .before .before .before
+
+has-requires : tie.Need-has-requires Inv-loop μ-loop
+has-requires c κs =
+    let start = c .before .before in
+    rw (start .pre .1 .size) (lane-there (game (start .args .table .now) .states) (start .args .u) (start .pre .2))
+
+returns : tie.Need-returns Inv-loop μ-loop
+returns c =
+    let tested = c .before in
+    let start = tested .before .before .before in
+    shown-whole (game (start .args .table .now)) (has (start .args .family .now)) (start .args .u) (start .pre .1 .down) (sym (tested .has .ensures) ∙ c .if1 .taken)
 
 observations-requires : tie.Need-observations-requires Inv-loop μ-loop
-observations-requires c κs = let start = c .before .before in sized (start .args .table .now) (start .pre .0)
+observations-requires c κs = let start = c .before .before .before .before in sized (start .args .table .now) (start .pre .0)
 
 loop-holds : tie.Need-loop-holds Inv-loop μ-loop
 loop-holds c = (search needs, all-zero _)
@@ -40,8 +51,8 @@ shown-requires c κs =
     let start = entry (c .before) in
     (sized (start .args .table .now) (start .pre .0), omega arith)
 
-has-requires : tie.Need-has-requires Inv-loop μ-loop
-has-requires c κs =
+has-requires-2 : tie.Need-has-requires-2 Inv-loop μ-loop
+has-requires-2 c κs =
     let at = c .before .before in
     let start = entry at in
     let w = start .args .table .now in
@@ -49,28 +60,22 @@ has-requires c κs =
     let j = at .loop .j in
     rw (start .pre .1 .size, c .shown .ensures) (lane-there (game w .states) (common u (game w .shown j)) (shown-below (game w) (accepted w (start .pre .0)) u j (omega arith)))
 
-returns : tie.Need-returns Inv-loop μ-loop
-returns c =
+returns-2 : tie.Need-returns-2 Inv-loop μ-loop
+returns-2 c =
     let tested = c .before in
     let at = tested .before .before .before in
     let start = entry at in
     shown-fails (game (start .args .table .now)) (has (start .args .family .now)) (start .args .u) (at .loop .j) (omega arith)
-    (rw (tested .before .shown .ensures) at (sym (tested .has .ensures) ∙ not-true (tested .has .result) (c .if1 .taken)))
-
-returns-2 : tie.Need-returns-2 Inv-loop μ-loop
-returns-2 c =
-    let tested = c .before .before in
-    let start = entry (tested .before .before .before) in
-    shown-whole (game (start .args .table .now)) (has (start .args .family .now)) (start .args .u) (start .pre .1 .down) (rw (c .if2 .taken) at (sym (tested .has .ensures) ∙ not-false (tested .has .result) (c .before .if1 .left)))
+    (rw (tested .before .shown .ensures) at (sym (tested .has2 .ensures) ∙ not-true (tested .has2 .result) (c .if2 .taken)))
 
 loop-again : tie.Need-loop-again Inv-loop μ-loop
 loop-again c =
-    let tested = c .before .before in
+    let tested = c .before in
     let at = tested .before .before .before in
     let start = entry at in (
       search needs,
       all-more (at .loop .j) (λ i. has (start .args .family .now) (common (start .args .u) (game (start .args .table .now) .shown i)))
-          ∙ and-intro (at .loop .inv .1) (rw (tested .before .shown .ensures) at (sym (tested .has .ensures) ∙ not-false (tested .has .result) (c .before .if1 .left))),
+          ∙ and-intro (at .loop .inv .1) (rw (tested .before .shown .ensures) at (sym (tested .has2 .ensures) ∙ not-false (tested .has2 .result) (c .if2 .left))),
     )
 
 returns-3 : tie.Need-returns-3 Inv-loop μ-loop
@@ -87,11 +92,12 @@ shown-in-spec =
     (tie.spec
     Inv-loop
     μ-loop
+    has-requires
+    returns
     observations-requires
     loop-holds
     shown-requires
-    has-requires
-    returns
+    has-requires-2
     returns-2
     (λ c. search needs)
     (λ c. search needs)
