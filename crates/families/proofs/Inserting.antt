@@ -41,7 +41,7 @@ none-inserted list bits e s =
 pub mask-lane : (n : ℕ) (list bits : List ℕ) → Holding n list bits → (i : ℕ) → i < length list → getD list i 0 / laneSets < length bits
 mask-lane n list bits h i l = omega (arith, lane-there n (getD list i 0) (h .masks (getD list i 0) (at-mem list i l)), h .size)
 
-single-is : (k t : ℕ) → member (2 ^ k) t ≡ eqb k t
+pub single-is : (k t : ℕ) → member (2 ^ k) t ≡ eqb k t
 single-is k t =
     ⊎-elim (λ e. ap (member (2 ^ k)) (sym (eqb-true k t e)) ∙ member-single k ∙ sym e)
     (λ e. member-single-other k t (λ d. eqb-false k t e (sym d)) ∙ sym e) (decided (eqb k t))

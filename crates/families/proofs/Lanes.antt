@@ -64,6 +64,29 @@ lacks-end h t l =
     (λ e. all-intro laneStates (λ i. member h i || not (member t i))
     (λ i b. ⊎-elim (λ m. or-left (not (member t i)) (subset-member t h e i m)) (λ m. or-right (member h i) (false-not m)) (decided (member t i))))
 
+-- ---- the sets that hold a set, by the states that it has: it has nothing of what they lack
+
+not-twice : (b : Bool) → not (not b) ≡ b
+not-twice true = refl
+not-twice false = refl
+
+-- before the first turn
+pub haves-none : (h t : ℕ) → t < laneSets → member (2 ^ laneSets - 1) t ≡ lacks t 0 h
+unfolding all
+haves-none h t l = member-rest laneSets 0 t (pow-pos laneSets) l ∙ false-not (member-zero t)
+
+-- h has i
+pub haves-more : (h i word lacking : ℕ) → lacking < 2 ^ laneSets → member h i ≡ true → ((t : ℕ) → t < laneSets → member word t ≡ lacks t i h) → ((t : ℕ) → t < laneSets → member lacking t ≡ not (member t i)) → (t : ℕ) → t < laneSets → member (common word ((2 ^ laneSets - 1) - lacking)) t ≡ lacks t (i + 1) h
+haves-more h i word lacking small m w k t l =
+    member-and word ((2 ^ laneSets - 1) - lacking) t
+    ∙ ap₂ _&&_ (w t l) (member-rest laneSets lacking t small l ∙ ap not (k t l) ∙ not-twice (member t i) ∙ sym (ap (λ (b : Bool). member t i || not b) m ∙ or-false (member t i)))
+    ∙ sym (all-more i (λ i. member t i || not (member h i)))
+
+-- h lacks i
+pub haves-skip : (h i word : ℕ) → member h i ≡ false → ((t : ℕ) → t < laneSets → member word t ≡ lacks t i h) → (t : ℕ) → t < laneSets → member word t ≡ lacks t (i + 1) h
+haves-skip h i word f w t l =
+    w t l ∙ sym (all-more i (λ i. member t i || not (member h i)) ∙ ap (λ (b : Bool). lacks t i h && b) (or-right (member t i) (false-not f)) ∙ and-true (lacks t i h))
+
 -- ---- this lane and those with a state more
 
 -- a lane that has the state is itself the lane with it

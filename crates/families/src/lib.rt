@@ -3,6 +3,7 @@ ghost use mathlib.Core.Path.{_≡_};
 ghost use mathlib.Core.Bool.{cond, not};
 ghost use mathlib.Core.List.{_++_};
 ghost use Prim.Native.Nat.{ℕ, _+_, _*_, _/_, _^_, _≤_, _<_};
+ghost use lib.Dec.{eqb};
 ghost use lib.ListN.{length, getD, take, drop, replicate};
 ghost use Rattle.sets.specs.Mask.{member, union, subset};
 ghost use Rattle.sets.specs.Bounded.{count as countOf, select};
@@ -12,7 +13,7 @@ ghost use Rattle.families.specs.Bits.{laneStates, laneSets, highStates, 
 ghost use Rattle.families.specs.Bits.{withState, largerOrOwn, wordWith, coveredBy, Topped, lowHas, upHas, aboveHas, ByLane, raised};
 
 // The states below 6 tell the sets of a lane apart.
-const LANE_STATES: u32 = 6;
+pub const LANE_STATES: u32 = 6;
 
 // The sets of a lane.
 pub const LANE_SETS: u32 = 1 << LANE_STATES;
@@ -34,6 +35,17 @@ const WITHOUT: [u64; 6] = [
     0x00FF_00FF_00FF_00FF,
     0x0000_FFFF_0000_FFFF,
     0x0000_0000_FFFF_FFFF,
+];
+
+// For each number of states up to 6, the sets that have so many.
+const SIZED: [u64; 7] = [
+    0x0000_0000_0000_0001,
+    0x0000_0001_0001_0116,
+    0x0001_0116_0116_1668,
+    0x0116_1668_1668_6880,
+    0x1668_6880_6880_8000,
+    0x6880_8000_8000_0000,
+    0x8000_0000_0000_0000,
 ];
 
 // How many lanes the sets of n states take.
@@ -79,6 +91,31 @@ pub fn subsets(h: u32) -> u64
         i += 1;
     }
     all
+}
+
+// The sets that hold h, a set of the states below 6: those that have what h has.
+pub fn supersets(h: u32) -> u64
+    requires { ⌜ h < laneSets ⌝ }
+    ensures { λ r. ⌜ ((t : ℕ) → t < laneSets → member r t ≡ subset h t) ⌝ }
+{
+    let mut all = FULL;
+    let mut i: u32 = 0;
+    while i < LANE_STATES {
+        if sets::member(h, i) {
+            all = all & !lacking(i);
+        }
+        i += 1;
+    }
+    all
+}
+
+// The sets of j states, of those below 6.
+pub fn sized(j: u32) -> u64
+    requires { ⌜ j ≤ laneStates ⌝ }
+    ensures { λ r. ⌜ ((t : ℕ) → t < laneSets → member r t ≡ eqb (countOf laneStates (member t)) j) ⌝ }
+{
+    let at = j as usize;
+    SIZED[at]
 }
 
 // The lane with the state i of the lanes put in, which is this lane where it has it; no set where there is no such lane.
@@ -230,27 +267,6 @@ pub fn write(bits: &[u64], out: &mut [u32]) -> usize
         lane += 1;
     }
     k
-}
-
-// The maximal sets, ascending, in front of `out`; how many. `found` is work room.
-fn collect_with(bits: &[u64], n: u32, found: &mut [u64], out: &mut [u32]) -> usize
-    requires { ⌜ Closed n (now bits) × (length (now found) ≡ length (now bits)) × 2 ^ n ≤ length (now out) ⌝ }
-    ensures { λ r. ⌜ (r ≡ length (maximal n (isIn (now (bits .entry)))))
-        × (now (out .exit) ≡ maximal n (isIn (now (bits .entry))) ++ drop r (now (out .entry))) ⌝ }
-{
-    maximal_bits(bits, n, found);
-    write(found, out)
-}
-
-// The same, with its work room.
-pub fn collect(bits: &[u64], n: u32, out: &mut [u32]) -> usize
-    requires { ⌜ Closed n (now bits) × 2 ^ n ≤ length (now out) ⌝ }
-    ensures { λ r. ⌜ (r ≡ length (maximal n (isIn (now (bits .entry)))))
-        × (now (out .exit) ≡ maximal n (isIn (now (bits .entry))) ++ drop r (now (out .entry))) ⌝ }
-{
-    let end = bits.len();
-    let mut found = [0u64; MAX_LANES];
-    collect_with(bits, n, &mut found[..end], out)
 }
 
 // No set.

@@ -13,4 +13,5 @@ pub mod Lasting
 pub mod Settling
 pub mod Holding
 pub mod Winning
+pub mod Tightest
 pub mod Decided

@@ -1,13 +1,13 @@
 -- Document 01's card by what it means: an automaton over observations that gives an action in each cell (document 000, Theorem 12).
 -- Assumes nothing.
-use mathlib.Core.Bool.{cond}
+use mathlib.Core.Bool.{Bool, cond, not, _&&_, _||_}
 use mathlib.Core.List.{List, [], _∷_}
 use Prim.Native.Nat.{ℕ, _-_}
-use lib.Dec.{eqb, ltb}
+use lib.Dec.{eqb, leb, ltb}
 use lib.ListN.{length, getD}
-use Rattle.sets.specs.Mask.{subset}
-use Rattle.sets.specs.Bounded.{first, orElse}
-use Rattle.games.specs.Format.{lowValues}
+use Rattle.sets.specs.Mask.{member, subset}
+use Rattle.sets.specs.Bounded.{all, first, orElse, count}
+use Rattle.games.specs.Format.{maxStates, lowValues}
 use Rattle.games.specs.Game.{Game}
 use Rattle.games.specs.Step.{after, lowest}
 use Rattle.games.specs.Verdict.{startSet, settled, cells}
@@ -41,9 +41,21 @@ cellAfter A (o ∷ h) = cellFrom A (A .begins o) h
 unfoldable pub actionAfter : Automaton → List ℕ → ℕ
 actionAfter A h = A .action (cellAfter A h)
 
--- the lowest-numbered cell whose set holds s, or `noCell` if s has no state
+-- how many states a set has
+unfoldable pub stateCount : ℕ → ℕ
+stateCount s = count maxStates (member s)
+
+-- the set of cell c holds s
+abbrev pub holdsAt : List ℕ → ℕ → ℕ → Bool
+holdsAt l s c = subset s (getD l c 0)
+
+-- it does, and no cell whose set holds s has fewer states
+unfoldable pub tightestAt : List ℕ → ℕ → ℕ → Bool
+tightestAt l s c = holdsAt l s c && all (length l) (λ d. not (holdsAt l s d) || leb (stateCount (getD l c 0)) (stateCount (getD l d 0)))
+
+-- the cell named for s: of those whose sets hold s with the fewest states the lowest-numbered, or `noCell` if s has no state
 unfoldable pub holding : List ℕ → ℕ → ℕ
-holding l s = cond (eqb s 0) noCell (orElse (first (length l) (λ c. subset s (getD l c 0))) noCell)
+holding l s = cond (eqb s 0) noCell (orElse (first (length l) (tightestAt l s)) noCell)
 
 -- a settled set's action: the lowest that meets the step
 unfoldable pub chosen : Game → ℕ → ℕ

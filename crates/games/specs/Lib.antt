@@ -7,6 +7,7 @@ pub mod Play
 pub mod Step
 pub mod Verdict
 pub mod Automaton
+pub mod Tightest
 pub mod Words
 pub mod Demands
 pub mod Parked

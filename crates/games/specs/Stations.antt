@@ -1,5 +1,5 @@
--- The starred stations of document 01 ("Stations to try") as rows of one list, stations with parked states as rows of another, and the
--- one statement that covers them: every row comes out.
+-- The starred stations of document 01 ("Stations to try") as rows of one list, stations with parked states and stations whose cells
+-- overlap as rows of two others, and the one statement that covers them: every row comes out.
 -- Assumes nothing.
 use mathlib.Core.Path.{_≡_}
 use mathlib.Core.Bool.{Bool, true, false, Bool·beq, _&&_}
@@ -16,6 +16,8 @@ pub data Station : Type 0 where
   A B C D E F G H J K L : Station
   -- with parked states, below
   ParkedE BadE ParkedG ForkedQ ParkedQ Mixed MixedBlocked MixedBad : Station
+  -- whose cells overlap, below
+  Tightest Tied : Station
 
 -- what document 01 says of a station
 pub data Row : Type 0 where
@@ -137,6 +139,36 @@ parkedStations =
     ∷ answers MixedBad mixedBad (No 1)
     ∷ judges Mixed mixedParked 2 4 true
     ∷ judges Mixed mixedParked 6 1 false
+    ∷ []
+
+-- ---- stations whose cells overlap (document 02, change 3)
+
+-- four states, two actions, all alike, none bad, start {0}: every move leads to 0. Action 0 is enabled at 0, 1 and 2, action 1 at 0 and 3.
+-- The cells are {0,1,2} and {0,3}; both hold {0}, and the second, with two states, is named
+abbrev pub tableTightest : List ℕ
+tableTightest =
+    0x1001_0204 ∷ 0x2000_0001 ∷ 0x3000_0000 ∷ 0x4000_000f ∷ 0x5000_0001 ∷ 0x5001_0001 ∷ 0x5002_0001 ∷ 0x5003_0000 ∷ 0x5010_0001 ∷ 0x5011_0000 ∷ 0x5012_0000 ∷ 0x5013_0001 ∷ []
+
+abbrev pub cardTightest : List ℕ
+cardTightest = 0x8021_0002 ∷ 0x9000_0001 ∷ 0xa000_0007 ∷ 0xb000_0001 ∷ 0xa010_0009 ∷ 0xb000_0001 ∷ []
+
+-- the same with a fifth state and a third action, enabled at 0 and 4: {0,3} and {0,4} have two states each, and the lower number is named
+abbrev pub tableTied : List ℕ
+tableTied =
+    0x1001_0305 ∷ 0x2000_0001 ∷ 0x3000_0000 ∷ 0x4000_001f
+    ∷ 0x5000_0001 ∷ 0x5001_0001 ∷ 0x5002_0001 ∷ 0x5003_0000 ∷ 0x5004_0000
+    ∷ 0x5010_0001 ∷ 0x5011_0000 ∷ 0x5012_0000 ∷ 0x5013_0001 ∷ 0x5014_0000
+    ∷ 0x5020_0001 ∷ 0x5021_0000 ∷ 0x5022_0000 ∷ 0x5023_0000 ∷ 0x5024_0001 ∷ []
+
+abbrev pub cardTied : List ℕ
+cardTied = 0x8031_0003 ∷ 0x9000_0001 ∷ 0xa000_0007 ∷ 0xb000_0001 ∷ 0xa010_0009 ∷ 0xb000_0001 ∷ 0xa020_0011 ∷ 0xb000_0001 ∷ []
+
+unfoldable pub overlappingStations : List Row
+overlappingStations =
+    answers Tightest tableTightest (Yes 1 2)
+    ∷ writes Tightest tableTightest cardTightest
+    ∷ answers Tied tableTied (Yes 1 3)
+    ∷ writes Tied tableTied cardTied
     ∷ []
 
 unfoldable pub sameList : List ℕ → List ℕ → Bool

@@ -119,8 +119,58 @@ fn order() {
     solve(b"A", &A, &mut [], &mut []);
 }
 
+// Every move leads to state 0. Action 0 is enabled at 0, 1 and 2, action 1 at 0 and 3: {0} is in both cells, the second has fewer states.
+const TIGHTEST: [u32; 12] = [
+    0x10010204,
+    0x20000001,
+    0x30000000,
+    0x4000000F,
+    0x50000001,
+    0x50010001,
+    0x50020001,
+    0x50030000,
+    0x50100001,
+    0x50110000,
+    0x50120000,
+    0x50130001,
+];
+
+// The same with action 2, enabled at 0 and 4: the third cell has as few states as the second.
+const TIED: [u32; 19] = [
+    0x10010305,
+    0x20000001,
+    0x30000000,
+    0x4000001F,
+    0x50000001,
+    0x50010001,
+    0x50020001,
+    0x50030000,
+    0x50040000,
+    0x50100001,
+    0x50110000,
+    0x50120000,
+    0x50130001,
+    0x50140000,
+    0x50200001,
+    0x50210000,
+    0x50220000,
+    0x50230000,
+    0x50240001,
+];
+
+// Cells that overlap (document 02, change 3).
+fn overlapping() {
+    let mut work = [GUARD; 72];
+    let mut card = [GUARD; 8];
+    solve(b"tightest", &TIGHTEST, &mut work, &mut card);
+    let mut more = [GUARD; 136];
+    let mut long = [GUARD; 10];
+    solve(b"tied", &TIED, &mut more, &mut long);
+}
+
 pub fn rows() {
     stations();
+    overlapping();
     four_states();
     twelve_states();
     work_rooms();

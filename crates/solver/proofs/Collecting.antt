@@ -1,11 +1,8 @@
--- The cells in front of the work.
+-- The settled family's maximal sets are the cells.
 -- Assumes nothing.
 use mathlib.Core.Path.{_≡_, sym, ap, _∙_, subst}
-use mathlib.Core.List.{List, _++_}
+use mathlib.Core.List.{List}
 use Prim.Native.Nat.{ℕ, _≤_}
-use native.Mathlib.Nat.{le-add-right}
-use lib.ListN.{length, take, drop, length-append}
-use lib.Seq.{take-at}
 use Rattle.sets.specs.Family.{maximal}
 use Rattle.sets.proofs.Family.{maximal-ext}
 use Rattle.families.specs.Bits.{has, Bits, Closed}
@@ -28,14 +25,7 @@ module _ (g : Game) (family : List ℕ) (w : Bits (g .states) (settled g) family
         down = s .down;
       }
 
-  cells-are : maximal n (has family) ≡ cells g
+  -- its maximal sets are the cells
+  pub cells-are : maximal n (has family) ≡ cells g
   unfolding cells antichain settled
   cells-are = ap (λ (m : ℕ). maximal m (has family)) is ∙ maximal-ext (g .states) (has family) (settled g) (w .at)
-
-  -- m maximal sets are put in front of the work
-  module _ (m : ℕ) (before work : List ℕ) (number : m ≡ length (maximal n (has family))) (put : work ≡ maximal n (has family) ++ drop m before) where
-    pub put-front : take m work ≡ cells g
-    put-front = ap (take m) put ∙ take-at (maximal n (has family)) (drop m before) m (sym number) ∙ cells-are
-
-    pub put-within : m ≤ length work
-    put-within = rw (put, length-append (maximal n (has family)) (drop m before), number) (le-add-right _ _)

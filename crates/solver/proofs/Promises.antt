@@ -36,7 +36,7 @@ use Rattle.cards.proofs.Runs.{covering-kept}
 use Rattle.solver.specs.Solve.{buffers, solved, WorkEnough, written, Promise}
 use Rattle.solver.specs.declared.Answer.{Answer}
 use Rattle.solver.specs.declared.Answer.the-variants.{Yes as SaysYes, No as SaysNo, Refused}
-use Rattle.writing.proofs.Index.{cells-few}
+use Rattle.index.proofs.Settled.{cells-few}
 use Rattle.solver.proofs.Answers.{Ending, stopped, no-work, lost, no-card, granted, ends}
 
 -- covering is seen only at cells and observations that are there

@@ -7,10 +7,11 @@ ghost use Rattle.games.specs.Answers.{leaves};
 ghost use Rattle.games.specs.Words.{game};
 ghost use Rattle.tables.specs.Check.{checked};
 ghost use Rattle.games.specs.declared.Checked.the-variants.{Fine};
-ghost use Rattle.families.specs.Bits.{maxLanes, lanes as lanesOf, Bits};
+ghost use Rattle.families.specs.Bits.{maxLanes, lanes as lanesOf, sets, Bits};
 ghost use Rattle.moves.specs.Halves.{Tabled, Ready};
 ghost use Rattle.games.specs.Verdict.{settled as settledFamily, cells as cellsOf, verdict, Yes};
 ghost use Rattle.solver.specs.Solve.{workWords, byVerdict, buffers, solved, Promise};
+ghost use Rattle.index.specs.Index.{Noted};
 ghost use Rattle.writing.specs.Writing.{Listed};
 use families::MAX_LANES;
 use games::Checked;
@@ -37,44 +38,114 @@ fn grant(
     low: &[u32],
     high: &[u32],
     family: &[u64],
-    starts: &[usize],
-    cells: &[u32],
+    tops: &[u64],
+    layers: &[u64],
+    masks: &[u64],
+    base: usize,
+    work: &mut [u32],
+    count: u32,
     card: &mut [u32],
     settled: u32,
 ) -> Answer
-    requires { ⌜ Listed (now table) (now family) (now starts) (now cells) × Tabled (game (now table)) (now low) (now high) ⌝ }
+    requires { ⌜ Listed (now table) (now family) (now tops) (now layers) (now masks) base × Noted (now tops) base (now work)
+        × Tabled (game (now table)) (now low) (now high) × (count ≡ length (sets (now tops))) ⌝ }
     ensures { λ r. ⌜ leaves r (now (card .exit))
-        ≡ byVerdict (game (now (table .entry))) (now (card .entry)) (Yes settled (length (now (cells .entry)))) ⌝ }
+        ≡ byVerdict (game (now (table .entry))) (now (card .entry)) (Yes settled count) ⌝ }
 {
-    let m = cells.len() as u32;
-    let need = games::card_length(m, tables::observations(table));
+    let need = games::card_length(count, tables::observations(table));
     if card.len() < need {
         return Answer::Refused(9, need);
     }
-    writing::write_card(table, low, high, family, starts, cells, card);
-    Answer::Yes(settled, m)
+    writing::write_card(
+        table,
+        low,
+        high,
+        family,
+        tops,
+        layers,
+        masks,
+        base,
+        work,
+        count,
+        card,
+    );
+    Answer::Yes(settled, count)
 }
 
-// The cells of a yes in front of the work, and the card from them.
+// The index of the cells in front of the work, and the card from them.
+fn grant_indexed(
+    table: &[u32],
+    low: &[u32],
+    high: &[u32],
+    family: &[u64],
+    tops: &[u64],
+    base: usize,
+    work: &mut [u32],
+    count: usize,
+    card: &mut [u32],
+    settled: u32,
+) -> Answer
+    requires { ⌜ Ready (now table) (now low) (now high)
+        × Bits (game (now table) .states) (settledFamily (game (now table))) (now family)
+        × (length (now tops) ≡ length (now family)) × (sets (now tops) ≡ cellsOf (game (now table)))
+        × (base ≡ 2 ^ game (now table) .states) × Noted (now tops) base (now work) × (count ≡ length (sets (now tops))) ⌝ }
+    ensures { λ r. ⌜ leaves r (now (card .exit))
+        ≡ byVerdict (game (now (table .entry))) (now (card .entry)) (Yes settled count) ⌝ }
+{
+    let mut layers = [0u64; index::LAYERS];
+    index::mark_layers(&work[..count], &mut layers);
+    let mut masks = [0u64; index::MASKS];
+    index::mark_masks(&mut masks);
+    grant(
+        table,
+        low,
+        high,
+        family,
+        tops,
+        &layers,
+        &masks,
+        base,
+        work,
+        count as u32,
+        card,
+        settled,
+    )
+}
+
+// The cells of a yes, as bits in `tops` and in front of the work, and the card from them.
 fn accept(
     table: &[u32],
     low: &[u32],
     high: &[u32],
     family: &[u64],
+    tops: &mut [u64],
     work: &mut [u32],
     card: &mut [u32],
     settled: u32,
 ) -> Answer
     requires { ⌜ Ready (now table) (now low) (now high)
         × Bits (game (now table) .states) (settledFamily (game (now table))) (now family)
+        × (length (now tops) ≡ length (now family))
         × (length (now work) ≡ workWords (game (now table) .states)) ⌝ }
     ensures { λ r. ⌜ leaves r (now (card .exit))
         ≡ byVerdict (game (now (table .entry))) (now (card .entry)) (Yes settled (length (cellsOf (game (now (table .entry)))))) ⌝ }
 {
-    let m = families::collect(family, tables::states(table), work);
-    let mut starts = [0usize; MAX_LANES];
-    writing::mark_starts(&work[..m], &mut starts);
-    grant(table, low, high, family, &starts, &work[..m], card, settled)
+    let n = tables::states(table);
+    families::maximal_bits(family, n, tops);
+    let base = set_count(n);
+    let count = index::note_cells(tops, base, work);
+    grant_indexed(
+        table,
+        low,
+        high,
+        family,
+        tops,
+        base,
+        work,
+        count,
+        card,
+        settled,
+    )
 }
 
 // The search on the families' words, and the card where it ends in a yes.
@@ -96,7 +167,7 @@ fn answer_with(
     let found = search::search(table, low, high, family, next);
     match found {
         Ended::Lost(k) => Answer::No(k),
-        Ended::Settled(k) => accept(table, low, high, family, work, card, k),
+        Ended::Settled(k) => accept(table, low, high, family, next, work, card, k),
     }
 }
 

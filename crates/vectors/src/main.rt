@@ -1,4 +1,4 @@
-// Runs the rows of document 01 and of document 02's change 1, and prints what each entry answers and leaves in its buffers.
+// Runs the rows of document 01 and of document 02's changes 1 and 3, and prints what each entry answers and leaves in its buffers.
 use entry_rows::card_rows;
 use entry_rows::judge_rows;
 use entry_rows::list_rows;

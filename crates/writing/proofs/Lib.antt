@@ -1,4 +1,3 @@
 pub mod Words
-pub mod Index
 pub mod Choosing
 pub mod Carding

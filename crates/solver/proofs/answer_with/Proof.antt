@@ -15,11 +15,11 @@ entry s = s .before .before .before .before .before .before .before .before .bef
 
 accept-requires : tie.Need-accept-requires
 accept-requires c κs =
-    let told = c .before .before .before .before .found2 .given in
-    let searched = c .before .before .before .before .before .before .before .before .before .before in
+    let told = c .before .before .before .before .before .found2 .given in
+    let searched = c .before .before .before .before .before .before .before .before .before .before .before in
     let start = entry searched in
     let s = searched .search in
-    (start .pre .0, subst (λ (r : Ended). Searched (game (start .args .table .now)) r (s .last .1 .1 .1 .0)) (told .1) (s .ensures) .family, start .pre .3)
+    (start .pre .0, subst (λ (r : Ended). Searched (game (start .args .table .now)) r (s .last .1 .1 .1 .0)) (told .1) (s .ensures) .family, search needs, start .pre .3)
 
 returns : tie.Need-returns
 returns c =
@@ -32,9 +32,9 @@ returns c =
 
 returns-2 : tie.Need-returns-2
 returns-2 c =
-    let accepted = c .before .before .before .before in
-    let told = accepted .before .before .before .before .before .found2 .given in
-    let searched = accepted .before .before .before .before .before .before .before .before .before .before .before in
+    let accepted = c .before .before .before .before .before .before in
+    let told = accepted .before .before .before .before .before .before .found2 .given in
+    let searched = accepted .before .before .before .before .before .before .before .before .before .before .before .before in
     let x = entry searched .args in
     let g = game (x .table .now) in
     let s = searched .search in
