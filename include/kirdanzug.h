@@ -31,9 +31,9 @@ extern "C" {
 
 /* The version of this header and of the archive that it is for. */
 #define KIRDANZUG_VERSION_MAJOR 0
-#define KIRDANZUG_VERSION_MINOR 13
+#define KIRDANZUG_VERSION_MINOR 14
 #define KIRDANZUG_VERSION_PATCH 0
-#define KIRDANZUG_VERSION "0.13.0"
+#define KIRDANZUG_VERSION "0.14.0"
 
 /* The stack that is enough for a call of any function, in bytes. Measured: 6,552 (solve); 9,616 where
  * memcpy and memset are bound at their first call, by the dynamic linker. The rest is margin. */
@@ -159,7 +159,9 @@ void kirdanzug_rewrite(const uint32_t *table, size_t table_length,
 
 /* ---- Deciding -------------------------------------------------------------------------------- */
 
-/* Decides the table. Yes: 0, settling count, number of cells; the card fills the front of `card`.
+/* Decides the table. Yes: 0, settling count, number of cells; the card fills the front of `card`. Where
+ * several of its cells hold the states in question, a first or next word names the one with the fewest
+ * states, the lowest number among equals.
  * No: 1, round number, 0. Refused: the table's checks, 8, 9. After yes, no and 9 the first
  * KIRDANZUG_WORK_WORDS(n) words of `work` are 0. */
 void kirdanzug_solve(const uint32_t *table, size_t table_length,

@@ -65,8 +65,9 @@ fn moved(call: impl FnOnce(&mut Answer)) -> Result<Move, Refusal> {
 }
 
 /// Decides a table. The work room needs [`work_words`](crate::work_words) words, and
-/// [`CARD_WORDS_MAX`](crate::CARD_WORDS_MAX) are always enough for the card. Refused: the table's
-/// checks, 8, 9.
+/// [`CARD_WORDS_MAX`](crate::CARD_WORDS_MAX) are always enough for the card. Where several of its cells
+/// hold the states in question, a first or next word names the one with the fewest states, the lowest
+/// number among equals. Refused: the table's checks, 8, 9.
 pub fn solve<'a>(table: &[u32], work: &mut [u32], card: &'a mut [u32]) -> Result<Verdict<'a>, Refusal> {
     let mut answer = [0; 3];
     raw::solve(table, work, card, &mut answer);

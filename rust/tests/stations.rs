@@ -59,6 +59,23 @@ fn the_card_in_a_longer_room() {
     assert_eq!(room[9..], [9; 3]);
 }
 
+/// Both actions lead to 0. The first is enabled in {0,1,2}, the second in {0,3}: both cells hold {0}, and the
+/// second has fewer states.
+const TIGHTEST: [u32; 12] = [
+    0x10010204, 0x20000001, 0x30000000, 0x4000000F, 0x50000001, 0x50010001, 0x50020001, 0x50030000, 0x50100001,
+    0x50110000, 0x50120000, 0x50130001,
+];
+const TIGHTEST_CARD: [u32; 6] = [0x80210002, 0x90000001, 0xA0000007, 0xB0000001, 0xA0100009, 0xB0000001];
+
+#[test]
+fn the_tightest_cell_is_named() {
+    let (mut work, mut room) = ([0; work_words(4)], [0; 6]);
+    let yes = Verdict::Yes { settled: 1, cells: 2, card: &TIGHTEST_CARD };
+    assert_eq!(solve(&TIGHTEST, &mut work, &mut room), Ok(yes));
+    assert_eq!(judge_card(&TIGHTEST, &room), Ok(()));
+    assert_eq!(open(&room, Observation(0)), Ok(Move { cell: Cell(1), action: Action(1) }));
+}
+
 #[test]
 fn moves_of_a_card() {
     let entered = |cell, action| Ok(Move { cell: Cell(cell), action: Action(action) });

@@ -1,7 +1,7 @@
 //! Independent checkers of verdicts, straight from plays and strategies.
 
-use crate::game::{members, Game};
-use crate::oracle::Card;
+use crate::game::{members, subset, Game};
+use crate::oracle::{Card, NO_CELL};
 use std::collections::{HashMap, HashSet};
 
 /// What moves a play on: opening with the first observation, then one step for each later one.
@@ -74,6 +74,97 @@ pub fn holds_by_states(game: &Game, card: &Card) -> bool {
                     && members(game.moves[cell.action][state]).all(|successor| entered(&cell.next, successor))
             })
         })
+}
+
+/// Follows the observations of a play: after each, every state that the player may hold for possible is in the
+/// set of the cell that the runner is in.
+pub fn knows_within(
+    game: &Game,
+    runner: &mut impl Runner,
+    observations: &[u32],
+    set: impl Fn(u32) -> u32,
+) -> Result<(), String> {
+    let (mut possible, mut entered) = (game.start, None);
+    for (i, &observation) in observations.iter().enumerate() {
+        let r = observation as usize;
+        let known = possible & game.shows[r];
+        let moved = match entered {
+            None => runner.open(r),
+            Some((cell, _)) => runner.step(cell, r),
+        };
+        let (cell, action) = moved.ok_or_else(|| format!("observation {i} is refused"))?;
+        if !subset(known, set(cell)) {
+            return Err(format!("after observation {i} the states {known:X} are not all in cell {cell}"));
+        }
+        (possible, entered) = (game.post(action as usize, known), Some((cell, action)));
+    }
+    Ok(())
+}
+
+/// Document 02's change 3 on the words of a table and of a card for it: each first and next word names, of the
+/// cells whose set holds the states in question, one with the fewest states, and the lowest of these; 65,535
+/// where there is no such state. The words are known to be a table and a card.
+pub fn names_tightest(table: &[u32], card: &[u32]) -> Result<(), String> {
+    let mask = |word: u32| word & 0xFFFF;
+    let (n, o) = ((table[0] & 0xFF) as usize, (table[0] >> 16 & 0xFF) as usize);
+    // The word of the parked states, where there is one, stands before those of the observations.
+    let front = 3 + (table[0] >> 24 & 1) as usize;
+    let (shows, moves) = table[front..].split_at(o);
+    let cells: Vec<u32> = card[1 + o..].chunks(1 + o).map(|row| mask(row[0])).collect();
+    for (row, words) in card.chunks(1 + o).enumerate() {
+        let successors = |state: usize| mask(moves[(words[0] >> 20 & 15) as usize * n + state]);
+        let states = match row {
+            0 => mask(table[1]),
+            _ => members(mask(words[0])).fold(0, |sum, state| sum | successors(state)),
+        };
+        for (r, &word) in words[1..].iter().enumerate() {
+            let place = row * (1 + o) + 1 + r;
+            is_tightest(&cells, states & mask(shows[r]), mask(word)).map_err(|why| format!("word {place}: {why}"))?;
+        }
+    }
+    Ok(())
+}
+
+/// The cell named for the states is the tightest, of the cells with these sets.
+fn is_tightest(cells: &[u32], states: u32, named: u32) -> Result<(), String> {
+    let size = |set: u32| members(set).count();
+    match (states, cells.get(named as usize)) {
+        (0, _) if named == NO_CELL => Ok(()),
+        (0, _) => Err(format!("cell {named} is named though no state is in question")),
+        (_, None) => Err(format!("there is no cell {named}")),
+        (_, Some(&set)) if !subset(states, set) => Err(format!("cell {named} does not hold {states:X}")),
+        (_, Some(&set)) => {
+            let better = |&(cell, &other): &(u32, &u32)| {
+                let tighter = size(other) < size(set) || size(other) == size(set) && cell < named;
+                subset(states, other) && tighter
+            };
+            match (0..).zip(cells).find(better) {
+                Some((cell, _)) => Err(format!("cell {cell} holds {states:X}, and comes before cell {named}")),
+                None => Ok(()),
+            }
+        }
+    }
+}
+
+/// Two cards for the same table that differ at most in the cells that first and next words name: as long, with
+/// the same head and cells, and "cannot occur" in the same places. How many words differ.
+pub fn differ_in_names(first: &[u32], second: &[u32]) -> Result<usize, String> {
+    if first.len() != second.len() || first[0] != second[0] {
+        return Err("length or head differs".into());
+    }
+    let o = (first[0] >> 16 & 15) as usize;
+    let mut names = 0;
+    for (place, (&one, &other)) in first.iter().zip(second).enumerate() {
+        let alike = match place % (1 + o) {
+            0 => one == other,
+            _ => one >> 16 == other >> 16 && (one & 0xFFFF == NO_CELL) == (other & 0xFFFF == NO_CELL),
+        };
+        if !alike {
+            return Err(format!("word {place} is {one:X} and {other:X}"));
+        }
+        names += usize::from(one != other);
+    }
+    Ok(names)
 }
 
 /// Plays every play of at most `rounds` rounds one by one, with nothing remembered.

@@ -220,8 +220,10 @@ pub struct Solver {
     alive: [u16; SETS],
     /// For each set the lowest action that has not failed yet: what fails once fails ever after.
     action: [u8; SETS],
-    /// The lowest cell that holds a set.
-    holder: [u16; SETS],
+    /// The keys of the cells in order.
+    keys: [i16; SETS],
+    /// The least key of a cell that holds a set.
+    holder: [i16; SETS],
 }
 
 impl Solver {
@@ -232,6 +234,7 @@ impl Solver {
             rounds: [0; SETS],
             alive: [0; SETS],
             action: [0; SETS],
+            keys: [0; SETS],
             holder: [0; SETS],
         }
     }
@@ -346,23 +349,28 @@ impl Solver {
         if card.len() < length {
             return Verdict::Refused { number: 9, place: length };
         }
-        let masks = &mut self.alive;
+        let (masks, keys) = (&mut self.alive, &mut self.keys);
         let mut at = 0;
         maximal.each(|set| {
             masks[at] = set;
             at += 1;
         });
-        // Looking through the cells for each set, or the holders of all sets beforehand.
-        let all_at_once = cells * cells * o > layout.n << layout.n;
+        // The last row of the lists is filled up with the empty set, which holds none that is asked for.
+        let listed = cells.next_multiple_of(ROW);
+        masks[cells..listed].fill(0);
+        keys[..listed].iter_mut().zip(&*masks).zip(0..).for_each(|((at, &mask), cell)| *at = key(mask, cell));
+        // Looking through the cells for each set, or the holders of all sets beforehand: which is the quicker was
+        // measured on rings of 8 to 12 states.
+        let all_at_once = 2 * cells * cells * o > layout.n << layout.n;
         if all_at_once {
-            find_holders(layout.n, &masks[..cells], &mut self.holder);
+            find_holders(layout.n, &masks[..cells], keys, &mut self.holder);
         }
-        let masks = &self.alive[..cells];
-        let holder = &self.holder;
+        let (masks, holder) = (&self.alive[..cells], &self.holder);
+        let (mask_rows, key_rows) = (rows_of(&self.alive[..listed]), rows_of(&self.keys[..listed]));
         let holding = |set: u16| match set {
             0 => NO_CELL,
-            _ if all_at_once => holder[set as usize].into(),
-            _ => masks.iter().position(|mask| set & !mask == 0).expect("a settled set lies in a cell") as u32,
+            _ if all_at_once => cell_of(holder[set as usize & (SETS - 1)]),
+            _ => cell_of(least_key(set, mask_rows, key_rows)),
         };
         let shows = &layout.shows[..o];
         card[0] = 0x8000_0000 | (a as u32) << 20 | (o as u32) << 16 | cells as u32;
@@ -406,15 +414,67 @@ impl Layout {
     }
 }
 
-/// For every set the lowest cell that holds it: its own, or the lowest of the sets one state larger.
-fn find_holders(n: usize, cells: &[u16], holder: &mut [u16; SETS]) {
-    holder[..1 << n].fill(u16::MAX);
-    cells.iter().zip(0..).for_each(|(&mask, cell)| holder[mask as usize] = cell);
-    for state in 0..n {
-        let bit = 1 << state;
-        for block in holder[..1 << n].chunks_exact_mut(2 * bit) {
+/// So many cells are looked at together.
+const ROW: usize = 8;
+/// The bits of a key for the cell's number: an antichain of twelve states has at most 924 sets (Sperner).
+const NUMBER_BITS: u32 = 10;
+/// Above every key.
+const NO_KEY: i16 = i16::MAX;
+
+/// By its key a cell comes before those with more states, and before those with as many and a higher number.
+/// Signed, since every processor has the least of eight such numbers in one step.
+#[inline(always)]
+fn key(mask: u16, cell: u16) -> i16 {
+    ((mask.count_ones() as u16) << NUMBER_BITS | cell) as i16
+}
+
+/// The cell of a key.
+#[inline(always)]
+fn cell_of(key: i16) -> u32 {
+    debug_assert!(key != NO_KEY, "a settled set lies in a cell");
+    key as u32 & ((1 << NUMBER_BITS) - 1)
+}
+
+fn rows_of<T>(list: &[T]) -> &[[T; ROW]] {
+    list.as_chunks().0
+}
+
+/// The lesser key in each place.
+#[inline(always)]
+fn least_of(first: [i16; ROW], second: [i16; ROW]) -> [i16; ROW] {
+    std::array::from_fn(|i| first[i].min(second[i]))
+}
+
+/// The least key of a cell that holds the set.
+#[inline(always)]
+fn least_key(set: u16, masks: &[[u16; ROW]], keys: &[[i16; ROW]]) -> i16 {
+    let holding = |i: usize, masks: &[u16; ROW], keys: &[i16; ROW]| match set & !masks[i] {
+        0 => keys[i],
+        _ => NO_KEY,
+    };
+    let least = masks.iter().zip(keys).fold([NO_KEY; ROW], |least, (masks, keys)| {
+        least_of(least, std::array::from_fn(|i| holding(i, masks, keys)))
+    });
+    least.into_iter().fold(NO_KEY, i16::min)
+}
+
+/// For every set the least key of a cell that holds it: its own, or the least of the sets one state larger.
+fn find_holders(n: usize, cells: &[u16], keys: &[i16], holder: &mut [i16; SETS]) {
+    let sets = (1 << n).max(ROW);
+    holder[..sets].fill(NO_KEY);
+    cells.iter().zip(keys).for_each(|(&mask, &key)| holder[mask as usize & (SETS - 1)] = key);
+    // The states 0 to 2 within rows of eight sets, the others between them.
+    let (rows, _) = holder[..sets].as_chunks_mut::<ROW>();
+    for row in &mut *rows {
+        for bit in [1, 2, 4] {
+            *row = least_of(*row, std::array::from_fn(|set| row[set | bit]));
+        }
+    }
+    for state in 3..n {
+        let bit = 1 << (state - 3);
+        for block in rows.chunks_exact_mut(2 * bit) {
             let (without, with) = block.split_at_mut(bit);
-            without.iter_mut().zip(with).for_each(|(small, large)| *small = (*small).min(*large));
+            without.iter_mut().zip(with).for_each(|(small, large)| *small = least_of(*small, *large));
         }
     }
 }

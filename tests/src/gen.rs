@@ -314,6 +314,19 @@ pub fn ring(n: usize, blocked: &[u32], o: usize) -> Game {
 /// Blocked sets found by search for which the ring of twelve states settles at 498 cells.
 pub const WIDE_RING: [u32; 8] = [0x044, 0x089, 0xE00, 0x500, 0x024, 0x070, 0x202, 0x811];
 
+/// Others, found so too, for which it settles at 216 cells, of four, five and six states: where several hold a
+/// set, the tightest is often not the lowest.
+pub const MIXED_RING: [u32; 8] = [0x180, 0x202, 0x104, 0x478, 0x2A6, 0x004, 0x003, 0x900];
+
+/// The ring of twelve states with eight observations, seven of them shown by three quarters of the states, at
+/// random, and the last by all: the cells are those of the ring in which all states look alike, and what is known
+/// lies in several.
+pub fn overlapping_ring(rng: &mut Rng, blocked: &[u32; 8]) -> Game {
+    let mut game = ring(12, blocked, 8);
+    game.shows[..7].iter_mut().for_each(|shows| *shows = rng.set(12, 75));
+    game
+}
+
 /// The game with one state put into one of its masks, or taken out of it; it may be no table's any more.
 pub fn changed(rng: &mut Rng, game: &Game) -> Game {
     let (mut game, state) = (game.clone(), 1 << rng.below(game.n));
@@ -377,7 +390,7 @@ pub fn drawn(rng: &mut Rng, game: &Game, cells: usize) -> Card {
 
 /// The card with a cell for each pair of its cells and what is known there in a play, so that no set says
 /// more than it must. Nothing where there are too many.
-pub fn tightest(game: &Game, card: &Card, most: usize) -> Option<Card> {
+pub fn unfolded(game: &Game, card: &Card, most: usize) -> Option<Card> {
     let mut pairs = Vec::new();
     let first = numbered(&mut pairs, &card.first, game.start_sets());
     let mut cells = Vec::new();
@@ -481,7 +494,7 @@ fn rename(card: &mut Card, mut number: impl FnMut(usize) -> usize) {
     all_named(card).for_each(|named| *named = named.map(&mut number));
 }
 
-/// The words of a card for the game: where there is the solver's, mostly that one redrawn or the tightest;
+/// The words of a card for the game: where there is the solver's, mostly that one redrawn or unfolded;
 /// otherwise one drawn by hand, or any at all.
 pub fn card_for(rng: &mut Rng, game: &Game, solved: Option<&Card>) -> Vec<u32> {
     let cells = rng.within(1, 6);
@@ -491,7 +504,7 @@ pub fn card_for(rng: &mut Rng, game: &Game, solved: Option<&Card>) -> Vec<u32> {
             (0..rng.within(1, 3)).for_each(|_| redraw(rng, game, &mut card));
             card_words(&card)
         }
-        (4, Some(card)) => card_words(&tightest(game, card, 200).unwrap_or_else(|| card.clone())),
+        (4, Some(card)) => card_words(&unfolded(game, card, 200).unwrap_or_else(|| card.clone())),
         (5, _) => card(rng, cells, game.a, game.o),
         _ => card_words(&drawn(rng, game, cells)),
     }

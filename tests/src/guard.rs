@@ -1,10 +1,11 @@
 //! Calls of the archive with guard words before and behind every buffer and random contents in it.
-//! After each call every word of every buffer is compared.
+//! After each call every word of every buffer is compared, and of each card that solve wrote it is checked
+//! that the tightest cells are named.
 
 use crate::archive;
-use crate::check::Runner;
+use crate::check::{names_tightest, Runner};
 use crate::gen::Rng;
-use crate::oracle::{Call, Fields, Outcome};
+use crate::oracle::{card_length, Call, Fields, Outcome};
 use std::fmt::Debug;
 
 /// Words of either width, drawn at random.
@@ -159,6 +160,16 @@ impl Buffers {
         self.inputs.iter().for_each(|input| input.check("input", call));
         self.work.check("work", call);
         self.out.check("result", call);
+        self.check_names(call);
+    }
+
+    /// The law on the words themselves, so that no mistake of the model hides one of the archive.
+    fn check_names(&self, call: &Call) {
+        if let (Call::Solve { table, .. }, &[0, _, cells]) = (call, self.answer.part()) {
+            let words = card_length(cells as usize, (table[0] >> 16 & 15) as usize);
+            let named = names_tightest(table, &self.out.part()[..words]);
+            assert_eq!(named, Ok(()), "{call:?}");
+        }
     }
 }
 

@@ -2,12 +2,12 @@
 //! code.
 //!
 //! - `game`, `oracle`: the game, the words, the entries and their refusals, as plain as can be;
-//! - `check`: checkers of verdicts by playing and by searching for strategies;
+//! - `check`: checkers of verdicts by playing and by searching for strategies, and of the cells that a card names;
 //! - `finished`: what document 02's change 2 says of all tables with parked states;
 //! - `fast`: a quick solver, lists, judges and runner for the benchmark;
 //! - `gen`: random tables, lists, cards, plays and damage;
-//! - `stations`: the inputs and answers that document 01 itself gives, judged cards, and stations with parked
-//!   states;
+//! - `stations`: the inputs and answers that document 01 itself gives, judged cards, stations with parked
+//!   states, and stations in which several cells hold the states in question;
 //! - `archive`, `guard`, `stack` (only with the feature `archive`): the proved archive by the raw layer
 //!   of the crate in `rust/`, called with guard words around every buffer, and its stack measured.
 

@@ -1,4 +1,4 @@
-//! The entries of document 01 and of document 02's changes 1 and 2 as a plain independent model: words,
+//! The entries of document 01 and of document 02's changes 1 to 3 as a plain independent model: words,
 //! checks, refusals in their order, and what becomes of every lent word.
 
 use crate::game::{self, members, subset, Game};
@@ -435,33 +435,56 @@ pub enum Verdict {
     No { round: u32 },
 }
 
-/// Verdict and card of a game. The verdict comes from the knowledge sets, the card from the families.
+/// Which cell a first or next word names, of the cells with these sets, for states that one of them holds.
+pub type Naming = fn(&[u32], u32) -> usize;
+
+/// The numbers of the cells that hold the states.
+pub fn holders(cells: &[u32], states: u32) -> impl Iterator<Item = usize> + '_ {
+    (0..cells.len()).filter(move |&cell| subset(states, cells[cell]))
+}
+
+/// Document 02, change 3: of the cells that hold the states the one with the fewest, the lowest number among
+/// equals.
+pub fn tightest(cells: &[u32], states: u32) -> usize {
+    let size = |cell: usize| members(cells[cell]).count();
+    holders(cells, states).min_by_key(|&cell| (size(cell), cell)).expect("a settled set lies in a cell")
+}
+
+/// Document 01's rule, kept to compare cards by: the lowest-numbered cell that holds the states.
+pub fn lowest(cells: &[u32], states: u32) -> usize {
+    holders(cells, states).next().expect("a settled set lies in a cell")
+}
+
+/// Verdict and card of a game.
 pub fn decide(game: &Game) -> Verdict {
+    decide_by(game, tightest)
+}
+
+/// The same with a card that names cells by another rule. The verdict comes from the knowledge sets, the card
+/// from the families.
+pub fn decide_by(game: &Game, naming: Naming) -> Verdict {
     match game::verdict(game) {
         Some(round) => Verdict::No { round },
         None => {
             let settled = game::families(game);
-            Verdict::Yes { index: settled.index, card: card_of(game, &settled.family) }
+            Verdict::Yes { index: settled.index, card: card_of(game, &settled.family, naming) }
         }
     }
 }
 
 /// The card over the settled antichain.
-fn card_of(game: &Game, family: &[bool]) -> Card {
+fn card_of(game: &Game, family: &[bool], naming: Naming) -> Card {
     let antichain = game::maximal(game.n, family);
-    let holding = |set: u32| match set {
-        0 => None,
-        _ => Some(antichain.iter().position(|&cell| subset(set, cell)).expect("a settled set lies in a cell")),
-    };
+    let named = |states: u32| (states != 0).then(|| naming(&antichain, states));
     let cell_of = |&mask: &u32| {
         let action = game::step(game, family, mask).expect("a settled set meets the step");
-        let next = game.after(action, mask).into_iter().map(holding).collect();
+        let next = game.after(action, mask).into_iter().map(named).collect();
         Cell { mask, action, next }
     };
     Card {
         a: game.a,
         o: game.o,
-        first: game.start_sets().into_iter().map(holding).collect(),
+        first: game.start_sets().into_iter().map(named).collect(),
         cells: antichain.iter().map(cell_of).collect(),
     }
 }

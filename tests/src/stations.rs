@@ -1,7 +1,8 @@
 //! What document 01 itself gives: its stations with their answers, and every row of the table of
 //! refusals with its small input. The answers here are copied from the document, not computed. Runs
 //! over lists of observations are done by hand on its cards, and so are the judged cards of document
-//! 02's change 1 and the stations with parked states of its change 2.
+//! 02's change 1, the stations with parked states of its change 2 and those of its change 3, in which several
+//! cells hold the states in question.
 
 use crate::oracle::{Call, Fields, Outcome};
 
@@ -299,7 +300,8 @@ pub fn checks() -> Vec<Row> {
 /// Every row.
 pub fn rows() -> impl Iterator<Item = Row> {
     let base = stations().into_iter().chain(refusals()).chain(runs()).chain(checks()).chain(judged());
-    base.chain(parked_stations()).chain(parked_refusals()).chain(parked_writes()).chain(parked_cards())
+    let base = base.chain(parked_stations()).chain(parked_refusals()).chain(parked_writes()).chain(parked_cards());
+    base.chain(tightest_stations()).chain(tightest_cards())
 }
 
 // ---- Finished batches (document 02, change 2) --------------------------------------------------
@@ -608,6 +610,78 @@ pub fn parked_cards() -> Vec<Row> {
     ]
 }
 
+// ---- The tightest next cell (document 02, change 3) --------------------------------------------
+
+/// The first action leads from 0, 1 and 2 to 0 and is blocked at 3; the second leads from 0 and 3 to 0 and is
+/// blocked at 1 and 2. All states look alike. Good for one round, and for all, is what lies in {0,1,2} or in
+/// {0,3}; after any action the station is in 0.
+pub const TIGHTEST: [u32; 12] = [
+    0x10010204, 0x20000001, 0x30000000, 0x4000000F, 0x50000001, 0x50010001, 0x50020001, 0x50030000, 0x50100001,
+    0x50110000, 0x50120000, 0x50130001,
+];
+/// {0} lies in both cells, {0,1,2} and {0,3}. The second has fewer states.
+pub const TIGHTEST_CARD: [u32; 6] = [0x80210002, 0x90000001, 0xA0000007, 0xB0000001, 0xA0100009, 0xB0000001];
+pub const TIGHTEST_TEXT: &str = "yes 1 2\nfirst 0 1\ncell 0 7 0\nnext 0 0 1\ncell 1 9 1\nnext 1 0 1\n";
+/// The same with a fifth state and a third action, which leads from 0 and 4 to 0 and is blocked elsewhere.
+pub const TIED: [u32; 19] = [
+    0x10010305, 0x20000001, 0x30000000, 0x4000001F, 0x50000001, 0x50010001, 0x50020001, 0x50030000, 0x50040000,
+    0x50100001, 0x50110000, 0x50120000, 0x50130001, 0x50140000, 0x50200001, 0x50210000, 0x50220000, 0x50230000,
+    0x50240001,
+];
+/// {0} lies in all three cells, {0,1,2}, {0,3} and {0,4}. The last two have the fewest states; 1 is the lower.
+pub const TIED_CARD: [u32; 8] = [
+    0x80310003, 0x90000001, 0xA0000007, 0xB0000001, 0xA0100009, 0xB0000001, 0xA0200011, 0xB0000001,
+];
+pub const TIED_TEXT: &str = "yes 1 3\nfirst 0 1\ncell 0 7 0\nnext 0 0 1\ncell 1 9 1\nnext 1 0 1\n\
+                             cell 2 17 2\nnext 2 0 1\n";
+/// The cards with a word that names another cell: the widest, which is the first found too, and the highest of
+/// those with the fewest states.
+pub const TIGHTEST_FIRST_WIDE: [u32; 6] = with(TIGHTEST_CARD, 1, 0x90000000);
+pub const TIGHTEST_NEXT_WIDE: [u32; 6] = with(TIGHTEST_CARD, 5, 0xB0000000);
+pub const TIED_FIRST_HIGHEST: [u32; 8] = with(TIED_CARD, 1, 0x90000002);
+pub const TIED_NEXT_HIGHEST: [u32; 8] = with(TIED_CARD, 7, 0xB0000002);
+pub const TIED_NEXT_WIDE: [u32; 8] = with(TIED_CARD, 3, 0xB0000000);
+/// As document 01 had it, the lowest cell named everywhere.
+pub const TIGHTEST_LOWEST: [u32; 6] = [0x80210002, 0x90000000, 0xA0000007, 0xB0000000, 0xA0100009, 0xB0000000];
+pub const TIED_LOWEST: [u32; 8] = [
+    0x80310003, 0x90000000, 0xA0000007, 0xB0000000, 0xA0100009, 0xB0000000, 0xA0200011, 0xB0000000,
+];
+
+/// Stations in which several cells hold the states in question.
+pub fn tightest_stations() -> Vec<Row> {
+    let exact = |table, work, card| Call::Solve { table, work, card };
+    let short = |work, words| Outcome { answer: [2, 9, words], zeroed: work, written: Vec::new() };
+    vec![
+        row("tightest", solve(&TIGHTEST), yes(1, 2, 64, &TIGHTEST_CARD)),
+        row("tightest, exact rooms", exact(&TIGHTEST, 64, 6), yes(1, 2, 64, &TIGHTEST_CARD)),
+        row("9, tightest", exact(&TIGHTEST, 64, 5), short(64, 6)),
+        row("tied", solve(&TIED), yes(1, 3, 128, &TIED_CARD)),
+        row("tied, exact rooms", exact(&TIED, 128, 8), yes(1, 3, 128, &TIED_CARD)),
+        row("9, tied", exact(&TIED, 128, 7), short(128, 8)),
+        row("tightest opened", Call::Open { card: &TIGHTEST_CARD, observation: 0 }, Outcome::done(1, 1)),
+        row("tightest stepped", Call::Step { card: &TIGHTEST_CARD, cell: 0, observation: 0 }, Outcome::done(1, 1)),
+        row("tied opened", Call::Open { card: &TIED_CARD, observation: 0 }, Outcome::done(1, 1)),
+        row("tied stepped", Call::Step { card: &TIED_CARD, cell: 2, observation: 0 }, Outcome::done(1, 1)),
+        row("tied run", Call::Run { card: &TIED_CARD, observations: &[0, 0, 0], out: 3 }, list(&[1, 1, 1])),
+    ]
+}
+
+/// Their cards judged: the judge of cards asks only that the cell named holds the states.
+pub fn tightest_cards() -> Vec<Row> {
+    let judge = |table, card| row("which cell is named", Call::JudgeCard { table, card }, Outcome::done(0, 0));
+    vec![
+        judge(&TIGHTEST, &TIGHTEST_CARD),
+        judge(&TIGHTEST, &TIGHTEST_FIRST_WIDE),
+        judge(&TIGHTEST, &TIGHTEST_NEXT_WIDE),
+        judge(&TIGHTEST, &TIGHTEST_LOWEST),
+        judge(&TIED, &TIED_CARD),
+        judge(&TIED, &TIED_FIRST_HIGHEST),
+        judge(&TIED, &TIED_NEXT_HIGHEST),
+        judge(&TIED, &TIED_NEXT_WIDE),
+        judge(&TIED, &TIED_LOWEST),
+    ]
+}
+
 // A's card, redrawn.
 const A_CARD_NO_FIRST: [u32; 6] = with(A_CARD, 1, 0x9000FFFF);
 const A_CARD_OTHER_FIRST: [u32; 6] = with(A_CARD, 1, 0x90000001);
@@ -755,6 +829,8 @@ pub fn printed() -> Vec<(Vec<u8>, &'static str)> {
         (bytes(&G_LOST), "no 4\n"),
         (bytes(&N), N_TEXT),
         (bytes(&A_NONE), A_TEXT),
+        (bytes(&TIGHTEST), TIGHTEST_TEXT),
+        (bytes(&TIED), TIED_TEXT),
         (bytes(&A_PARKED_1), "refused 19 1\n"),
         (bytes(&A_SPARE_25), "refused 2 0\n"),
         (Vec::new(), "refused 1 0\n"),

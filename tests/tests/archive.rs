@@ -1,7 +1,8 @@
 //! The proved archive against the models, every entry, with guard words around every buffer.
 #![cfg(feature = "archive")]
 
-use kirdanzug_tests::check::{keeps_clear, keeps_within, lasts_played, no_holds};
+use kirdanzug_tests::archive;
+use kirdanzug_tests::check::{differ_in_names, keeps_clear, keeps_within, knows_within, lasts_played, no_holds};
 use kirdanzug_tests::finished::Finished;
 use kirdanzug_tests::game::{subset, Game};
 use kirdanzug_tests::gen::{self, Rng, Shape, SHAPES};
@@ -510,12 +511,13 @@ fn try_decided(rng: &mut Rng, tally: &mut Tally, table: &[u32], decided: &Decide
     one(rng, works[1], either);
 }
 
-/// Every play under the card's actions stays clear, run by the archive; a no holds.
+/// Every play under the card's actions stays clear, run by the archive, in cells that hold its states; a no holds.
 fn check_verdict(game: &Game, verdict: &Verdict) {
     match verdict {
         Verdict::Yes { card, .. } => {
             let words = oracle::card_words(card);
-            assert_eq!(keeps_clear(game, &mut ArchiveRunner { card: &words }), Ok(()), "{game:?}");
+            let set = |cell: u32| card.cells[cell as usize].mask;
+            assert_eq!(keeps_within(game, &mut ArchiveRunner { card: &words }, set), Ok(()), "{game:?}");
         }
         Verdict::No { round } => assert_eq!(no_holds(game, *round), Ok(()), "{game:?}"),
     }
@@ -604,12 +606,15 @@ fn try_write(rng: &Rng, tally: &mut Tally, table: &[u32]) {
     }
 }
 
-/// A random play under the solver's card: a run over its observations is taken whole.
+/// A random play under the solver's card: a run over its observations is taken whole, and the cells that the
+/// archive's runner comes to hold all that the player may hold for possible.
 fn try_play(rng: &Rng, tally: &mut Tally, game: &Game, card: &Card) {
     let rng = &mut rng.clone();
     let length = rng.within(0, 40);
     let observations = &gen::play(rng, game, card, length);
+    let set = |cell: u32| card.cells[cell as usize].mask;
     let card = &oracle::card_words(card);
+    assert_eq!(knows_within(game, &mut ArchiveRunner { card }, observations, set), Ok(()), "{game:?}");
     let taken = oracle::run(card, observations, length).map(|actions| actions.len());
     assert_eq!(taken, Ok(observations.len()), "{game:?}");
     // It may have ended before, but only in a parked state.
@@ -1167,6 +1172,62 @@ fn counters_and_rings() {
 fn random_tables_up_to_twelve_states() {
     let tally = random_tables("random tables up to 12 states", count(25), 7, 12);
     tally.must_have_parked_of(count(25));
+}
+
+// ---- The tightest next cell --------------------------------------------------------------------
+
+/// The card that the archive writes for a table, and the settling count.
+fn archived_card(table: &[u32]) -> Option<(Vec<u32>, u64)> {
+    let (mut work, mut card) = (vec![0; work_length(12)], vec![0; card_length(924, 8)]);
+    let mut answer = [9; 3];
+    archive::solve(table, &mut work, &mut card, &mut answer);
+    let [0, index, cells] = answer else { return None };
+    card.truncate(card_length(cells as usize, (card[0] >> 16 & 15) as usize));
+    Some((card, index))
+}
+
+/// The archive's card against that of document 01's rule: the same verdict, and they differ in the cells named
+/// alone. How many words differ.
+fn compare_with_lowest(game: &Game) -> usize {
+    let archived = archived_card(&oracle::table_words(game));
+    match (archived, oracle::decide_by(game, oracle::lowest)) {
+        (None, Verdict::No { .. }) => 0,
+        (Some((words, settled)), Verdict::Yes { index, card }) => {
+            assert_eq!(settled, u64::from(index), "{game:?}");
+            differ_in_names(&words, &oracle::card_words(&card)).unwrap_or_else(|why| panic!("{why}, {game:?}"))
+        }
+        (_, verdict) => panic!("the verdict is not {verdict:?}, {game:?}"),
+    }
+}
+
+#[test]
+fn another_rule_names_other_cells_alone() {
+    let work = |i: u64, cards: &mut u64| {
+        let mut rng = Rng::new(seed(), i);
+        let (n, a, o) = (rng.within(1, 8), rng.within(1, 8), rng.within(1, 8));
+        let game = gen::game(&mut rng, SHAPES[i as usize % SHAPES.len()], n, a, o);
+        *cards += u64::from(compare_with_lowest(&game) > 0);
+    };
+    let games = count(20);
+    let cards: u64 = spread(games, work).into_iter().sum();
+    report(&format!("the lowest cell or the tightest: seed {}, {games} games, {cards} cards differ", seed()));
+    assert!(games < 1000 || cards * 200 > games, "the rule makes too seldom a difference");
+}
+
+/// Rings with observations that overlap, with every entry.
+#[test]
+fn overlapping_rings() {
+    let mut rng = Rng::new(seed(), 7);
+    let mut tally = Tally::default();
+    for blocked in [&gen::WIDE_RING, &gen::MIXED_RING] {
+        let game = gen::overlapping_ring(&mut rng, blocked);
+        assert!(compare_with_lowest(&game) > 0, "{game:?}");
+        for game in [game.clone(), gen::parking(&mut rng, game)] {
+            try_table(&mut rng, &mut tally, &oracle::table_words(&game));
+        }
+    }
+    tally.report("overlapping rings", 4);
+    assert!(tally.most_cells >= 498);
 }
 
 // ---- Finished batches --------------------------------------------------------------------------

@@ -1,13 +1,16 @@
 //! The models against each other, without the archive: knowledge sets, families, literal strategies,
 //! the checkers and the fast solver.
 
-use kirdanzug_tests::check::{self, holds_by_states, keeps_clear, keeps_within, lasts_played, literal, no_holds, Runner};
+use kirdanzug_tests::check::{
+    self, differ_in_names, holds_by_states, keeps_clear, keeps_within, knows_within, lasts_played, literal,
+    names_tightest, no_holds, Runner,
+};
 use kirdanzug_tests::fast::{self, Search};
 use kirdanzug_tests::finished::Finished;
 use kirdanzug_tests::game::{self, Game};
 use kirdanzug_tests::gen::{self, Rng, SHAPES};
-use kirdanzug_tests::oracle::{self, Card, Refusal, Verdict};
-use kirdanzug_tests::run::{count, report, seed, spread};
+use kirdanzug_tests::oracle::{self, Card, Naming, Refusal, Verdict};
+use kirdanzug_tests::run::{count, report, seed, spread, GATE_SEED};
 
 /// A runner over a card as the oracle has it.
 struct CardRunner<'a>(&'a Card);
@@ -42,9 +45,11 @@ fn round_by_families(game: &Game) -> Option<u32> {
 fn check_verdict(game: &Game, verdict: &Verdict) {
     match verdict {
         Verdict::Yes { card, .. } => {
-            assert_eq!(keeps_clear(game, &mut CardRunner(card)), Ok(()), "{game:?}");
+            let set = |cell: u32| card.cells[cell as usize].mask;
+            assert_eq!(keeps_within(game, &mut CardRunner(card), set), Ok(()), "{game:?}");
             let words = oracle::card_words(card);
             assert_eq!(oracle::read_card(&words).as_ref(), Ok(card), "{game:?}");
+            assert_eq!(names_tightest(&oracle::table_words(game), &words), Ok(()), "{game:?}");
         }
         Verdict::No { round } => assert_eq!(no_holds(game, *round), Ok(()), "{game:?}"),
     }
@@ -276,6 +281,124 @@ fn wide_ring_is_wide() {
     assert!(matches!(verdict, Verdict::Yes { card, .. } if card.cells.len() == 498));
 }
 
+// ---- The tightest next cell --------------------------------------------------------------------
+
+/// The widest of the cells that hold the states.
+fn widest(cells: &[u32], states: u32) -> usize {
+    let size = |cell: usize| game::members(cells[cell]).count();
+    oracle::holders(cells, states).max_by_key(|&cell| size(cell)).expect("a settled set lies in a cell")
+}
+
+/// The highest of those with the fewest states.
+fn highest_of_tightest(cells: &[u32], states: u32) -> usize {
+    let size = |cell: usize| game::members(cells[cell]).count();
+    let fewest = size(oracle::tightest(cells, states));
+    oracle::holders(cells, states).filter(|&cell| size(cell) == fewest).last().expect("the tightest is one")
+}
+
+/// The rules that a program might go by instead.
+const WRONG_RULES: [(&str, Naming); 3] =
+    [("lowest", oracle::lowest), ("widest", widest), ("highest of the tightest", highest_of_tightest)];
+
+/// The words of the card that names cells by the rule, and the settling count.
+fn card_by(game: &Game, naming: Naming) -> Option<(Vec<u32>, u32)> {
+    match oracle::decide_by(game, naming) {
+        Verdict::Yes { index, card } => Some((oracle::card_words(&card), index)),
+        Verdict::No { .. } => None,
+    }
+}
+
+/// The card that the fast solver writes, and the settling count.
+fn fast_card(solver: &mut fast::Solver, table: &[u32]) -> Option<(Vec<u32>, u32)> {
+    let (mut work, mut card) = (vec![0; 4 * 4096], vec![0; 1 + 8 + 924 * 9]);
+    let fast::Verdict::Yes { index, .. } = solver.solve(table, &mut work, &mut card) else { return None };
+    let (cells, o) = ((card[0] & 0xFFFF) as usize, (card[0] >> 16 & 15) as usize);
+    card.truncate(oracle::card_length(cells, o));
+    Some((card, index))
+}
+
+/// The fast solver's card against the cards of the other rules: they differ in the cells named alone, and where
+/// they do, the check of the tightest refuses the other. How many words differ, rule by rule.
+fn compare_rules(solver: &mut fast::Solver, game: &Game) -> [usize; 3] {
+    let table = oracle::table_words(game);
+    let Some((card, index)) = fast_card(solver, &table) else {
+        assert!(WRONG_RULES.iter().all(|rule| card_by(game, rule.1).is_none()), "{game:?}");
+        return [0; 3];
+    };
+    assert_eq!(names_tightest(&table, &card), Ok(()), "{game:?}");
+    WRONG_RULES.map(|(name, naming)| {
+        let (other, other_index) = card_by(game, naming).expect("the verdict is the same");
+        assert_eq!(index, other_index, "{game:?}");
+        let words = differ_in_names(&card, &other).unwrap_or_else(|why| panic!("{name}: {why}, {game:?}"));
+        assert_eq!(names_tightest(&table, &other).is_ok(), words == 0, "{name}: {game:?}");
+        words
+    })
+}
+
+/// The cards that differ by each rule.
+fn differing(words: [usize; 3]) -> [u64; 3] {
+    words.map(|words| u64::from(words > 0))
+}
+
+#[test]
+fn other_rules_name_other_cells_alone() {
+    let seed = seed();
+    let work = |i: u64, (fast, cards): &mut (Fast, [u64; 3])| {
+        let mut rng = Rng::new(seed, i);
+        let (n, a, o) = (rng.within(1, 8), rng.within(1, 8), rng.within(1, 8));
+        let game = gen::game(&mut rng, SHAPES[i as usize % SHAPES.len()], n, a, o);
+        let found = differing(compare_rules(&mut fast.0[i as usize / SHAPES.len() % 2], &game));
+        *cards = [0, 1, 2].map(|rule| cards[rule] + found[rule]);
+    };
+    let games = count(20);
+    let sum = |sum: [u64; 3], part: (Fast, [u64; 3])| [0, 1, 2].map(|rule| sum[rule] + part.1[rule]);
+    let cards = spread(games, work).into_iter().fold([0; 3], sum);
+    let names = WRONG_RULES.map(|rule| rule.0);
+    report(&format!("rules of naming: seed {seed}, {games} games, cards that differ by {names:?}: {cards:?}"));
+    assert!(games < 1000 || cards.iter().all(|&cards| cards * 200 > games), "a rule makes too seldom a difference");
+}
+
+/// The rings of the benchmark: their cells are those of the plain rings, and some words, in the second ring many,
+/// name another cell than the lowest.
+#[test]
+fn overlapping_rings_name_other_cells() {
+    let mut fast = Fast::default();
+    for (blocked, cells, least) in [(&gen::WIDE_RING, 498, 20), (&gen::MIXED_RING, 216, 300)] {
+        let game = gen::overlapping_ring(&mut Rng::new(seed(), 7), blocked);
+        let verdict = oracle::decide(&game);
+        check_verdict(&game, &verdict);
+        check_fast(&mut fast, &game, &verdict);
+        let words = compare_rules(&mut fast.0[1], &game);
+        report(&format!("overlapping ring: seed {}, {cells} cells, words that differ by rule {words:?}", seed()));
+        assert!(words.iter().all(|&words| words >= least) || seed() != GATE_SEED);
+        assert!(matches!(verdict, Verdict::Yes { card, .. } if card.cells.len() == cells));
+    }
+}
+
+/// On the observations of random plays the cell holds all that the player may hold for possible.
+#[test]
+fn cells_hold_what_is_known() {
+    let seed = seed();
+    let mut longest = 0;
+    for i in 0..count(50) {
+        let mut rng = Rng::new(seed, i);
+        let (n, a, o) = (rng.within(1, 8), rng.within(1, 8), rng.within(1, 8));
+        let game = gen::game(&mut rng, SHAPES[i as usize % SHAPES.len()], n, a, o);
+        let Some(card) = solved(&game) else { continue };
+        let observations = gen::play(&mut rng, &game, &card, 30);
+        let set = |cell: u32| card.cells[cell as usize].mask;
+        assert_eq!(knows_within(&game, &mut CardRunner(&card), &observations, set), Ok(()), "{game:?}");
+        // A set that is said to lack a state which may come is noticed.
+        if observations.len() == 30 {
+            let first = game.start & game.shows[observations[0] as usize];
+            let lacking = |cell: u32| set(cell) & !first;
+            assert!(knows_within(&game, &mut CardRunner(&card), &observations, lacking).is_err(), "{game:?}");
+        }
+        longest = longest.max(observations.len());
+    }
+    assert!(count(50) < 1000 || longest == 30);
+}
+
 /// Plays one by one, nothing remembered: as the product of states and cells says.
 #[test]
 fn plays_one_by_one() {
@@ -405,7 +528,7 @@ fn card_and_observations(rng: &mut Rng) -> (Vec<u32>, Vec<u32>) {
 }
 
 /// The judges of cards: the oracle's, the fast one, and the one by states. What is accepted keeps every play
-/// clear, in cells whose sets hold the state. The solver's card is accepted, and so is the tightest.
+/// clear, in cells whose sets hold the state. The solver's card is accepted, and so is the unfolded one.
 #[test]
 fn card_judges_agree() {
     let seed = seed();
@@ -419,7 +542,7 @@ fn card_judges_agree() {
         let game = gen::game(&mut rng, SHAPES[i as usize % SHAPES.len()], n, a, o);
         let (mut table, solved) = (oracle::table_words(&game), solved(&game));
         if let Some(card) = &solved {
-            for card in [card.clone()].into_iter().chain(gen::tightest(&game, card, 200)) {
+            for card in [card.clone()].into_iter().chain(gen::unfolded(&game, card, 200)) {
                 assert_eq!(judge.judge(&table, &oracle::card_words(&card)), Ok(()), "{game:?}");
             }
         }

@@ -1,6 +1,7 @@
 //! The README's first hour, as it stands on the page: its table file is made, looked at and solved by its own lines. And the
 //! stations of tables/, each with the verdict that the pages say.
 
+use kirdanzug_tests::stations;
 use std::fs;
 use std::path::{Path, PathBuf};
 use std::process::Command;
@@ -83,7 +84,7 @@ fn readme_first_hour_works() {
 }
 
 /// What the first line says of each file in tables/.
-const VERDICTS: [(&str, &str); 10] = [
+const VERDICTS: [(&str, &str); 12] = [
     ("A", "yes 2 2"),
     ("B", "no 2"),
     ("C", "yes 2 2"),
@@ -93,6 +94,8 @@ const VERDICTS: [(&str, &str); 10] = [
     ("G", "no 4"),
     ("H", "no 2"),
     ("finished", "yes 2 2"),
+    ("tied", "yes 1 3"),
+    ("tightest", "yes 1 2"),
     ("unfinished", "no 3"),
 ];
 
@@ -104,19 +107,38 @@ fn stations_of_the_tables_folder() {
     names.sort();
     assert_eq!(names, VERDICTS.map(|(name, _)| name));
     for (name, verdict) in VERDICTS {
-        let table = fs::File::open(root().join("tables").join(name)).expect("the table is there");
-        let output = Command::new(&program).stdin(table).output().expect("the program starts");
-        let text = String::from_utf8(output.stdout).expect("text is printed");
-        assert_eq!(text.lines().next(), Some(verdict), "tables/{name}");
+        assert_eq!(printed(&program, name).lines().next(), Some(verdict), "tables/{name}");
     }
+}
+
+/// All that the program prints for a file of tables/.
+fn printed(program: &Path, name: &str) -> String {
+    let table = fs::File::open(root().join("tables").join(name)).expect("the table is there");
+    let output = Command::new(program).stdin(table).output().expect("the program starts");
+    String::from_utf8(output.stdout).expect("text is printed")
 }
 
 /// The station that finishes, as the pages have it: A's card, with 3 in both sets.
 #[test]
 fn finished_station() {
     let Some(program) = program() else { return };
-    let table = fs::File::open(root().join("tables/finished")).expect("the table is there");
-    let output = Command::new(&program).stdin(table).output().expect("the program starts");
     let expected = "yes 2 2\nfirst 0 0\ncell 0 9 0\nnext 0 0 1\ncell 1 10 1\nnext 1 0 0\n";
-    assert_eq!(String::from_utf8(output.stdout).expect("text is printed"), expected);
+    assert_eq!(printed(&program, "finished"), expected);
+}
+
+/// The files are the stations in which several cells hold {0}.
+#[test]
+fn files_of_the_tightest_cells() {
+    for (name, words) in [("tightest", &stations::TIGHTEST[..]), ("tied", &stations::TIED)] {
+        let file = fs::read(root().join("tables").join(name)).expect("the table is there");
+        assert_eq!(file, stations::bytes(words), "tables/{name}");
+    }
+}
+
+/// What the program prints for them: every word names cell 1.
+#[test]
+fn tightest_cells_printed() {
+    let Some(program) = program() else { return };
+    assert_eq!(printed(&program, "tightest"), stations::TIGHTEST_TEXT);
+    assert_eq!(printed(&program, "tied"), stations::TIED_TEXT);
 }

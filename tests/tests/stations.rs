@@ -1,10 +1,12 @@
 //! The models against what document 01 itself says: stations, refusals, printed text; and against the stations
-//! with parked states, worked out by hand.
+//! with parked states and those in which several cells hold the states in question, worked out by hand.
 
-use kirdanzug_tests::check::{holds_by_states, keeps_clear, keeps_within, no_holds, Runner};
+use kirdanzug_tests::check::{
+    differ_in_names, holds_by_states, keeps_clear, keeps_within, names_tightest, no_holds, Runner,
+};
 use kirdanzug_tests::fast::{self, Search};
 use kirdanzug_tests::game::{self, Game};
-use kirdanzug_tests::oracle::{self, Call, Refusal};
+use kirdanzug_tests::oracle::{self, Call, Refusal, Verdict};
 use kirdanzug_tests::stations::{self, Row};
 
 fn check(rows: Vec<Row>) {
@@ -48,6 +50,12 @@ fn oracle_gives_the_stations_with_parked_states() {
 fn oracle_gives_the_refusals_with_parked_states() {
     check(stations::parked_refusals());
     check(stations::parked_writes());
+}
+
+#[test]
+fn oracle_gives_the_tightest_cells() {
+    check(stations::tightest_stations());
+    check(stations::tightest_cards());
 }
 
 #[test]
@@ -100,6 +108,82 @@ fn families_with_parked_states() {
     assert_eq!(lists(&stations::N), [vec![15], vec![7], vec![5, 6], vec![5, 6]]);
     assert_eq!(lists(&stations::P), [vec![7], vec![3], vec![3], vec![3]]);
     assert_eq!(lists(&stations::E_LOST), [vec![1], vec![0], vec![0], vec![0]]);
+}
+
+/// The families of the stations in which several cells hold the states in question, worked out by hand.
+#[test]
+fn families_of_the_tightest_cells() {
+    let lists = |table: &[u32]| {
+        let game = oracle::read_table(table).unwrap();
+        let good_for = |k| -> Vec<bool> { (0..1 << game.n).map(|set| game::good(&game, set, k)).collect() };
+        [0, 1, 2].map(|k| game::maximal(game.n, &good_for(k)))
+    };
+    assert_eq!(lists(&stations::TIGHTEST), [vec![15], vec![7, 9], vec![7, 9]]);
+    assert_eq!(lists(&stations::TIED), [vec![31], vec![7, 9, 17], vec![7, 9, 17]]);
+}
+
+/// The check of the tightest takes the cards written by hand, and refuses each in which one word names the widest
+/// cell, the first found or the highest of those with the fewest states; and what is no such cell at all.
+#[test]
+fn check_of_the_tightest_tells_right_from_wrong() {
+    use stations::*;
+    let others: [(&[u32], &[u32]); 15] = [
+        (&TIGHTEST, &TIGHTEST_FIRST_WIDE),
+        (&TIGHTEST, &TIGHTEST_NEXT_WIDE),
+        (&TIGHTEST, &TIGHTEST_LOWEST),
+        (&TIED, &TIED_FIRST_HIGHEST),
+        (&TIED, &TIED_NEXT_HIGHEST),
+        (&TIED, &TIED_NEXT_WIDE),
+        (&TIED, &TIED_LOWEST),
+        // No such cell, none though some state is in question, and one though none is.
+        (&TIGHTEST, &with(TIGHTEST_CARD, 3, 0xB0000002)),
+        (&TIED, &with(TIED_CARD, 1, 0x9000FFFF)),
+        (&C, &with(C_CARD, 8, 0xB0010001)),
+        (&E_PARKED, &with(E_PARKED_CARD, 3, 0xB0000000)),
+        // A cell that does not hold the states.
+        (&A, &with(A_CARD, 3, 0xB0000000)),
+        (&C, &with(C_CARD, 5, 0xB0010000)),
+        (&N, &with(N_CARD, 2, 0x90010001)),
+        (&N, &with(N_CARD, 7, 0xB0000001)),
+    ];
+    let right: [(&[u32], &[u32]); 8] = [
+        (&TIGHTEST, &TIGHTEST_CARD),
+        (&TIED, &TIED_CARD),
+        (&A, &A_CARD),
+        (&C, &C_CARD),
+        (&F, &F_CARD),
+        (&M, &M_CARD),
+        (&N, &N_CARD),
+        (&E_PARKED, &E_PARKED_CARD),
+    ];
+    for (table, card) in right {
+        assert_eq!(names_tightest(table, card), Ok(()), "{card:x?}");
+    }
+    for (table, card) in others {
+        assert!(names_tightest(table, card).is_err(), "{card:x?}");
+    }
+}
+
+/// Cards of the two rules: the lowest cell named is what document 01 had, and nothing else differs.
+#[test]
+fn cards_of_both_rules() {
+    use stations::*;
+    let lowest = |table: &[u32]| match oracle::decide_by(&game_of(table), oracle::lowest) {
+        Verdict::Yes { card, .. } => oracle::card_words(&card),
+        Verdict::No { .. } => panic!("the answer is yes"),
+    };
+    assert_eq!(lowest(&TIGHTEST), TIGHTEST_LOWEST);
+    assert_eq!(lowest(&TIED), TIED_LOWEST);
+    assert_eq!(lowest(&A), A_CARD);
+    assert_eq!(differ_in_names(&TIGHTEST_CARD, &TIGHTEST_LOWEST), Ok(3));
+    assert_eq!(differ_in_names(&TIED_CARD, &TIED_LOWEST), Ok(4));
+    assert_eq!(differ_in_names(&TIED_CARD, &TIED_CARD), Ok(0));
+    // The head, a cell's set, its action, an observation, "cannot occur", the length.
+    let damages = [(0, 0x80310002), (4, 0xA010000B), (4, 0xA0000009), (1, 0x90010001), (5, 0xB000FFFF)];
+    let others = damages.map(|(place, word)| with(TIED_CARD, place, word));
+    for other in others.iter().map(|card| &card[..]).chain([&TIED_CARD[..7]]) {
+        assert!(differ_in_names(&TIED_CARD, other).is_err(), "{other:x?}");
+    }
 }
 
 /// The write's refusals, 2, 11, 5, 6, 7, 10 in this order; 19 and the bit stand among the rows.

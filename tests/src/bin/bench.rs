@@ -134,6 +134,16 @@ fn wide_ring(o: usize) -> Vec<Vec<u32>> {
     vec![table_words(&gen::ring(12, &gen::WIDE_RING, o))]
 }
 
+/// Rings with observations that overlap: what is known lies in several cells, and the tightest need not be
+/// the lowest.
+fn overlapping_rows() -> Vec<Tables> {
+    let row = |name: &str, blocked| Tables {
+        name: format!("{name}, overlapping observations, n 12, o 8"),
+        tables: vec![table_words(&gen::overlapping_ring(&mut Rng::new(seed(), 7), blocked))],
+    };
+    vec![row("large antichain", &gen::WIDE_RING), row("antichain of three sizes", &gen::MIXED_RING)]
+}
+
 fn rows_at_twelve() -> Vec<Tables> {
     let mut rows = Vec::new();
     let mut add = |name: String, tables| rows.push(Tables { name, tables });
@@ -433,6 +443,10 @@ fn main() {
         let measured = measure_solve(&row.tables);
         print_row(&format!("solve: {}", row.name), &measured);
         ratios.push(measured.0.ratio);
+    }
+    // Not counted in the median, which stays that of the rows before change 3.
+    for row in overlapping_rows() {
+        print_row(&format!("solve: {}", row.name), &measure_solve(&row.tables));
     }
     print_lists();
     print_judges();
