@@ -35,7 +35,7 @@ extern "C" {
 #define KIRDANZUG_VERSION_PATCH 0
 #define KIRDANZUG_VERSION "0.14.0"
 
-/* The stack that is enough for a call of any function, in bytes. Measured: 6,552 (solve); 9,616 where
+/* The stack that is enough for a call of any function, in bytes. Measured: 6,264 (solve); 9,328 where
  * memcpy and memset are bound at their first call, by the dynamic linker. The rest is margin. */
 #define KIRDANZUG_STACK_BYTES 12288
 
