@@ -14,7 +14,7 @@ use borrow.Author.Tests.{eq-eqb, ne-eqb, eqb-true, eqb-false, leb-true, le-leb}
 use Rattle.sets.specs.Mask.{member, subset}
 use Rattle.sets.specs.Bounded.{Found, nothing, found, first, orElse, all, any}
 use Rattle.sets.specs.Family.{holds}
-use Rattle.sets.proofs.Logic.{decided, clash, refuted, and-left, and-right, and-intro, and-false-left, implies-intro, implies-at}
+use Rattle.sets.proofs.Logic.{decided, clash, refuted, and-left, and-right, and-intro, implies-intro, implies-at}
 use Rattle.sets.proofs.Bounded.{first-none, first-is, first-cases, first-found, first-some, all-at, all-intro, any-found, any-intro, count-le}
 use Rattle.sets.proofs.Mask.{member-zero, subset-member}
 use Rattle.sets.proofs.Family.{at-mem, mem-at, holds-found, holds-intro}

@@ -3,7 +3,7 @@
 use mathlib.Core.Path.{_≡_, _∙_}
 use mathlib.Core.Bool.{true}
 use Prim.Native.Nat.{ℕ, _^_, _<_}
-use lib.ListN.{length, getD}
+use lib.ListN.{getD}
 use Rattle.games.specs.Game.{Game, Accepted}
 use Rattle.games.specs.Step.{after, lowest}
 use Rattle.games.specs.Verdict.{startSet, startsIn, settled, cells}

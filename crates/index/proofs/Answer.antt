@@ -1,8 +1,8 @@
 -- Laws of the answer: the cell with the tightest set is the one named, its number is how many are below it, and what the answer says.
 -- Assumes nothing.
-use mathlib.Core.Path.{_≡_, refl, sym, ap, ap₂, _∙_, subst}
+use mathlib.Core.Path.{_≡_, refl, sym, ap, _∙_, subst}
 use mathlib.Core.Logic.{_⊎_, inl, inr, ⊎-elim}
-use mathlib.Core.Bool.{Bool, true, false}
+use mathlib.Core.Bool.{true, false}
 use mathlib.Core.List.{List, [], _∷_}
 use Prim.Native.Nat.{ℕ, zero, suc, _+_, _-_, _*_, _≤_, _<_}
 use native.Mathlib.Nat.{le-of-suc-le-suc, lt-of-not-le, not-suc-le-zero}
@@ -12,7 +12,7 @@ use lib.ListN.{length, getD}
 use borrow.Author.Tests.{eqb-true, eqb-false, ltb-true, ltb-false}
 use Rattle.sets.specs.Mask.{subset}
 use Rattle.sets.specs.Bounded.{count}
-use Rattle.sets.specs.Family.{holds, Ascending, none, more}
+use Rattle.sets.specs.Family.{holds, Ascending, more}
 use Rattle.sets.proofs.Logic.{decided, refuted}
 use Rattle.sets.proofs.Bounded.{count-pos, select-at, select-ascending}
 use Rattle.sets.proofs.Family.{at-mem}
@@ -21,7 +21,7 @@ use Rattle.families.proofs.Words.{count-raised, sets-count}
 use Rattle.games.specs.declared.Cell.{Cell}
 use Rattle.games.specs.Automaton.{stateCount, holding}
 use Rattle.games.specs.Tightest.{Tightest}
-use Rattle.games.proofs.Holding.{holding-unheld, holding-only}
+use Rattle.games.proofs.Holding.{holding-unheld}
 use Rattle.index.specs.declared.Held.{Held}
 use Rattle.index.specs.declared.Held.the-variants.{By, Nowhere}
 use Rattle.index.specs.Index.{heldBy, named, TightestSet}
@@ -99,9 +99,6 @@ module _ (l : List ℕ) (s : ℕ) where
   pub held-cell : (c : ℕ) → holds l s ≡ true → holding l s ≡ c → By (record { 0 = c }) ≡ heldBy l s
   unfolding heldBy
   held-cell c h e = rw (h, e)
-
-  pub held-tightest : (c : ℕ) → holds l s ≡ true → (s ≡ 0 → ⊥) → Tightest l s c → By (record { 0 = c }) ≡ heldBy l s
-  held-tightest c h some t = held-cell c h (sym (holding-only l s some c t))
 
   module _ (r : Held) (is : r ≡ heldBy l s) where
     pub nowhere-unheld : r ≡ Nowhere → holds l s ≡ false

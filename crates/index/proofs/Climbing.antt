@@ -1,6 +1,6 @@
 -- Laws of the search through the layers: no cell of fewer than k states holds t.
 -- Assumes nothing.
-use mathlib.Core.Path.{_≡_, refl, sym, ap, ap₂, _∙_, subst}
+use mathlib.Core.Path.{_≡_, refl, sym, ap, _∙_, subst}
 use mathlib.Core.Logic.{⊎-elim}
 use mathlib.Core.Bool.{Bool, true, false, false≢true, _&&_}
 use mathlib.Core.List.{List}
@@ -12,7 +12,7 @@ use lib.Dec.{eqb}
 use lib.ListN.{length, getD}
 use borrow.Author.Tests.{eqb-true, eqb-false, eq-eqb}
 use Rattle.sets.specs.Mask.{member, common, subset}
-use Rattle.sets.specs.Bounded.{Found, nothing, found, any, count}
+use Rattle.sets.specs.Bounded.{Found, nothing, found, count}
 use Rattle.sets.specs.Family.{holds}
 use Rattle.sets.proofs.Logic.{decided, clash, and-left, and-right, and-intro}
 use Rattle.sets.proofs.Bounded.{any-found, any-intro, first-found, first-nothing, count-le}
@@ -25,7 +25,7 @@ use Rattle.games.specs.Automaton.{stateCount}
 use Rattle.games.proofs.Holding.{count-few}
 use Rattle.index.specs.declared.Top.{Top}
 use Rattle.index.specs.declared.Top.the-variants.{Set, Nothing}
-use Rattle.index.specs.Index.{standsIn, Layers, Masks, Fits, isIn, lowestIn, told, Searched, TightestSet}
+use Rattle.index.specs.Index.{standsIn, Fits, isIn, lowestIn, told, Searched, TightestSet}
 use Rattle.index.proofs.Sizes.{by-ones, lane-states, subset-states, subset-whole, has-lane, has-below, has-small, listed-has, has-listed}
 use Rattle.index.proofs.Marking.{mask-set}
 

@@ -2,7 +2,7 @@
 -- Assumes nothing.
 use mathlib.Core.Path.{_≡_, sym, ap, ap₂, _∙_, subst}
 use mathlib.Core.Logic.{⊎-elim}
-use mathlib.Core.Bool.{Bool, true, false, _&&_, and-assoc}
+use mathlib.Core.Bool.{Bool, true, _&&_, and-assoc}
 use mathlib.Core.List.{List}
 use Prim.Native.Nat.{ℕ, _+_, _-_, _*_, _/_, _%_, _^_, _≤_, _<_}
 use native.Mathlib.Omega.{arith}
@@ -12,11 +12,11 @@ use lib.ListN.{length, getD}
 use lib.Pow.{high, low}
 use borrow.Author.Tests.{eqb-true, eqb-false, eq-eqb, ne-eqb, ltb-true, ltb-false}
 use Rattle.sets.specs.Mask.{member, common}
-use Rattle.sets.specs.Bounded.{Found, nothing, found, first, count}
-use Rattle.sets.proofs.Logic.{decided, clash, refuted, and-left, and-intro}
+use Rattle.sets.specs.Bounded.{nothing, found, count}
+use Rattle.sets.proofs.Logic.{decided, clash, refuted, and-left}
 use Rattle.sets.proofs.Bounded.{first-is, first-none, count-le}
 use Rattle.sets.proofs.Mask.{member-zero, member-and, lowest, member-sub-other, sub-less}
-use Rattle.families.specs.Bits.{laneStates, laneSets, maxLanes, has}
+use Rattle.families.specs.Bits.{laneStates, laneSets, has}
 use Rattle.families.proofs.Lanes.{has-at, by-lane}
 use Rattle.index.specs.Index.{maskCount, Masks, Fits, isIn, lowestIn}
 use Rattle.games.specs.Automaton.{stateCount}

@@ -1,23 +1,22 @@
 -- Laws of what the search is helped by, as it is made: the lanes of each number of states, the masks.
 -- Assumes nothing.
-use mathlib.Core.Path.{_≡_, refl, sym, ap, ap₂, _∙_, subst}
+use mathlib.Core.Path.{_≡_, sym, ap, ap₂, _∙_, subst}
 use mathlib.Core.Logic.{⊎-elim}
-use mathlib.Core.Bool.{Bool, true, false, cond, _&&_, _||_, or-false}
+use mathlib.Core.Bool.{Bool, cond, _&&_, _||_, or-false}
 use mathlib.Core.List.{List}
-use Prim.Native.Nat.{ℕ, _+_, _-_, _*_, _/_, _^_, _≤_, _<_}
-use native.Mathlib.Nat.{lt-of-lt-of-le}
+use Prim.Native.Nat.{ℕ, _+_, _-_, _/_, _^_, _≤_, _<_}
 use native.Mathlib.Omega.{arith}
-use lib.Dec.{eqb, ltb}
+use lib.Dec.{eqb}
 use lib.ListN.{length, getD, set, replicate, length-set}
 use lib.Seq.{getD-set-same, getD-set-other}
 use borrow.Author.Count.{below-none, below-more}
-use borrow.Author.Tests.{eqb-true, eqb-false, lt-ltb, le-ltb, ltb-true, ltb-false}
+use borrow.Author.Tests.{eqb-true, eqb-false, lt-ltb, le-ltb}
 use Rattle.sets.specs.Mask.{member, union, subset}
 use Rattle.sets.specs.Bounded.{any, count}
 use Rattle.sets.proofs.Logic.{decided, and-false-left}
 use Rattle.sets.proofs.Bounded.{any-zero, any-more}
 use Rattle.sets.proofs.Mask.{member-zero, member-or}
-use Rattle.families.specs.Bits.{laneStates, laneSets, maxLanes, has}
+use Rattle.families.specs.Bits.{laneStates, laneSets}
 use Rattle.families.proofs.Inserting.{cleared-length, cleared-at, single-is}
 use Rattle.games.specs.Format.{maxStates}
 use Rattle.games.specs.Automaton.{stateCount}

@@ -2,9 +2,9 @@
 -- Assumes nothing.
 use mathlib.Core.Path.{_≡_, refl, sym, ap, _∙_, subst}
 use mathlib.Core.Logic.{⊎-elim}
-use mathlib.Core.Bool.{Bool, true, false}
+use mathlib.Core.Bool.{true}
 use mathlib.Core.List.{List, _++_, append-assoc}
-use Prim.Native.Nat.{ℕ, suc, _+_, _-_, _≤_, _<_}
+use Prim.Native.Nat.{ℕ, _+_, _-_, _≤_, _<_}
 use native.Mathlib.Omega.{arith}
 use lib.Dec.{eqb}
 use lib.ListN.{length, getD, take, drop, set, replicate, length-set, List·getD-append, length-replicate, getD-replicate}
@@ -13,14 +13,13 @@ use borrow.Author.Tests.{eqb-true, eqb-false}
 use borrow.Rule.Slice.PartMut.{putMid, postOf}
 use Rattle.sets.specs.Bounded.{count, fill}
 use Rattle.sets.specs.Family.{holds}
-use Rattle.sets.proofs.Logic.{decided, clash, refuted}
+use Rattle.sets.proofs.Logic.{decided}
 use Rattle.sets.proofs.Mask.{subset-refl}
 use Rattle.sets.proofs.Family.{holds-intro}
 use Rattle.families.specs.Bits.{maxLanes, has, sets}
-use Rattle.games.specs.Format.{maxCells}
 use Rattle.games.specs.Automaton.{holding}
 use Rattle.games.proofs.Holding.{holding-only}
-use Rattle.index.specs.Index.{Room, Noted, TightestSet}
+use Rattle.index.specs.Index.{Room, Noted}
 use Rattle.index.proofs.Sizes.{has-listed, listed-has}
 use Rattle.index.proofs.Climbing.{own-tightest}
 use Rattle.index.proofs.Answer.{place-lt, place-at, place-is, tightest-cell}

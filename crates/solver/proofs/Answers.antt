@@ -43,9 +43,6 @@ module _ (g : Game) (d : List ℕ) (t m need : ℕ) (is : need ≡ cardLength m 
       ap (leaves (SaysYes t m)) w ∙ sym (rw (le-ltb (length d) n (subst (λ (x : ℕ). x ≤ length d) is h)))
 
 module _ (g : Game) (d : List ℕ) where
-  pub granted-cells : (t : ℕ) (l : List ℕ) (x : Leaves Answer (List ℕ)) → l ≡ cells g → x ≡ byVerdict g d (Yes t (length l)) → x ≡ byVerdict g d (Yes t (length (cells g)))
-  granted-cells t l x e is = subst (λ (k : List ℕ). x ≡ byVerdict g d (Yes t (length k))) e is
-
   pub decided-no : (k : ℕ) → verdict g ≡ No k → leaves (SaysNo k) d ≡ byVerdict g d (verdict g)
   unfolding byVerdict
   decided-no k e = sym (ap (byVerdict g d) e)

@@ -6,13 +6,13 @@ use mathlib.Core.Bool.{true}
 use mathlib.Core.Path.{_≡_, sym, ap, _∙_, subst}
 use Prim.Native.Nat.{ℕ, _+_, _-_, _/_, _<_}
 use native.Mathlib.Omega.{arith}
-use lib.ListN.{length, getD, length-set}
+use lib.ListN.{length, getD}
 use Rattle.sets.specs.Bounded.{count}
 use Rattle.sets.specs.Family.{holds}
 use Rattle.families.specs.Bits.{laneSets, has, sets}
 use Rattle.games.specs.Tightest.{Tightest}
 use Rattle.games.proofs.Holding.{holding-empty, holding-only}
-use Rattle.index.proofs.Answer.{held-nowhere, held-cell, held-tightest, tightest-cell}
+use Rattle.index.proofs.Answer.{held-nowhere, held-cell, tightest-cell}
 use Rattle.index.proofs.Noting.{noted-more}
 use Rattle.index.proofs.holding.Statement.{statement}
 use Rattle.index.proofs.holding.Tie as tie

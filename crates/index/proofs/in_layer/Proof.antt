@@ -1,7 +1,6 @@
 -- `index::in_layer` meets its contract. The loop's invariant: what the layer has stands in the lanes left.
 -- Assumes nothing.
-use borrow.Author.Needs.{needs}
-use mathlib.Core.Path.{_≡_, refl, sym, ap, _∙_, subst}
+use mathlib.Core.Path.{_≡_, sym, ap, subst}
 use Prim.Native.Nat.{ℕ, _+_, _-_, _*_, _%_, _^_, _≤_, _<_}
 use native.Mathlib.Omega.{arith}
 use lib.Count.{ones, trailingZeros}
@@ -10,7 +9,7 @@ use Rattle.sets.specs.Mask.{common}
 use Rattle.sets.proofs.Mask.{lowest, common-lt-left}
 use Rattle.families.specs.Bits.{laneSets}
 use Rattle.families.proofs.Lanes.{shift-one}
-use Rattle.families.proofs.Words.{taken-lt, taken-le, taken-less}
+use Rattle.families.proofs.Words.{taken-le, taken-less}
 use Rattle.index.specs.Index.{told}
 use Rattle.index.proofs.Layering.{Looking, looking-all, lane-lt, lane-here, lane-least, mask-there, size-small, looking-more, hit-lowest, looking-end}
 use Rattle.index.proofs.in_layer.Statement.{statement}

@@ -1,10 +1,9 @@
 -- `index::mark_masks` meets its contract. The loop's invariant: the masks below place i are written.
 -- Assumes nothing.
 use borrow.Author.Needs.{needs}
-use mathlib.Core.Path.{_≡_, refl, sym, ap, _∙_}
-use Prim.Native.Nat.{ℕ, _-_, _≤_}
+use mathlib.Core.Path.{sym, _∙_}
+use Prim.Native.Nat.{_-_, _≤_}
 use native.Mathlib.Omega.{arith}
-use lib.ListN.{length}
 use Rattle.index.specs.Index.{maskCount}
 use Rattle.index.proofs.Marking.{Masking, masking-none, masking-more, masking-end}
 use Rattle.index.proofs.mark_masks.Statement.{statement}

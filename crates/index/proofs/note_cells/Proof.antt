@@ -2,14 +2,12 @@
 -- Assumes nothing.
 use borrow.Author.Needs.{needs}
 use mathlib.Core.List.{List}
-use mathlib.Core.Path.{_≡_, refl, sym, ap, _∙_, subst}
+use mathlib.Core.Path.{_≡_, refl, sym, _∙_, subst}
 use Prim.Native.Nat.{ℕ, _+_, _-_, _≤_, _<_}
 use native.Mathlib.Omega.{arith}
 use lib.ListN.{length, getD, take, drop, set, length-set}
 use borrow.Rule.Slice.PartMut.{putMid, same-len-mid, mid-len}
-use Rattle.families.specs.Bits.{maxLanes, has, sets}
-use Rattle.games.specs.Format.{maxCells}
-use Rattle.index.specs.Index.{Room}
+use Rattle.families.specs.Bits.{sets}
 use Rattle.index.proofs.Noting.{Noting, noting-none, noting-read, noting-below, noting-more, noting-end}
 use Rattle.index.proofs.note_cells.Statement.{statement}
 use Rattle.index.proofs.note_cells.Tie as tie

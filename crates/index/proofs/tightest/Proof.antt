@@ -1,11 +1,9 @@
 -- `index::tightest` meets its contract. The loop's invariant: no cell of fewer than k states holds t.
 -- Assumes nothing.
 use borrow.Author.Needs.{needs}
-use mathlib.Core.Path.{_≡_, refl, sym, ap, _∙_, subst}
-use Prim.Native.Nat.{ℕ, _+_, _-_, _*_, _/_, _%_, _^_, _≤_, _<_}
+use mathlib.Core.Path.{sym, _∙_}
+use Prim.Native.Nat.{_+_, _-_, _/_, _<_}
 use native.Mathlib.Omega.{arith}
-use lib.Count.{ones}
-use lib.ListN.{length}
 use Rattle.families.specs.Bits.{laneSets, maxLanes}
 use Rattle.games.specs.Format.{maxStates}
 use Rattle.games.proofs.Holding.{count-few}

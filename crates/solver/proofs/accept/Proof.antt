@@ -44,13 +44,13 @@ same-lanes m = m .maximal-bits .ensures .0 ∙ entry m .pre .2
 
 -- ---- where they are noted in the work
 
-abbrev Noted : Type 0
-Noted = tie.After-note-cells
+abbrev Marked : Type 0
+Marked = tie.After-note-cells
 
-abbrev found : Noted → Found
+abbrev found : Marked → Found
 found w = w .before .before .before .before .before .before
 
-abbrev counted : Noted → tie.After-set-count
+abbrev counted : Marked → tie.After-set-count
 counted w = w .before .before .before
 
 base-is : (s : tie.After-set-count) (m : Found) → s .set-count .result ≡ 2 ^ m .before .before .states .result → s .set-count .result ≡ 2 ^ played m .states
