@@ -24,6 +24,15 @@ pub struct Game {
     pub moves: Vec<Vec<u32>>,
 }
 
+/// What a set comes to under an action, with the number of members looked at (document 02, change 4).
+#[derive(Clone, Copy, PartialEq, Eq, Debug)]
+pub enum Walk {
+    /// The successors of the whole set; all members were looked at.
+    Post(u32, u32),
+    /// The lowest member where the action is blocked; those up to and with it were looked at.
+    Blocked(usize, u32),
+}
+
 /// The members of a set, ascending.
 pub fn members(mut set: u32) -> impl Iterator<Item = usize> {
     std::iter::from_fn(move || {
@@ -57,6 +66,16 @@ impl Game {
     /// The successors of the whole set.
     pub fn post(&self, action: usize, set: u32) -> u32 {
         members(set).fold(0, |sum, state| sum | self.moves[action][state])
+    }
+
+    /// What the set comes to under the action; states that the game doesn't have are no members.
+    pub fn walk(&self, action: usize, set: u32) -> Walk {
+        let among = |bound: usize| (0..bound).filter(|&state| set >> state & 1 == 1);
+        let looked = |bound: usize| among(bound).count() as u32;
+        match among(self.n).find(|&state| !self.open(action, state)) {
+            Some(member) => Walk::Blocked(member, looked(member + 1)),
+            None => Walk::Post(self.post(action, set % (1 << self.n)), looked(self.n)),
+        }
     }
 
     /// The state is bad.

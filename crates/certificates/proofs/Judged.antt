@@ -17,9 +17,6 @@ use Rattle.games.specs.Automaton.{Automaton, noCell}
 use Rattle.games.specs.Words.{game, frontLength, partLength}
 use Rattle.games.specs.declared.Checked.{Checked}
 use Rattle.games.specs.declared.Checked.the-variants.{Fine, Refused}
-use Rattle.tables.specs.Walk.{walked}
-use Rattle.tables.specs.declared.Walked.the-variants as walk
-use Rattle.tables.proofs.Walks.{post-is, blocked-is}
 use Rattle.cards.specs.Card.{cellPlace, nextPlace, cardCells, cardObservations, automaton, checked as cardChecked}
 use Rattle.cards.specs.Checking.{Pass, FirstWrong}
 use Rattle.cards.proofs.Checked.{part-in, part-behind, shaped, firsts-in}
@@ -53,17 +50,6 @@ module _ (g : Game) (A : Automaton) (s d : ℕ) where
   pub next-told : (c j u : ℕ) → u ≡ post g (A .set c) (A .action c) → s ≡ common u (g .shown j) → d ≡ A .next c j → nextHolds g A c j ≡ lies A s d
   unfolding nextHolds after
   next-told c j u h e f = rw (e, f, h)
-
--- ---- a walk's answer, as one of the half tables
-
-module _ (g : Game) (s a : ℕ) where
-  pub walked-post : (u : ℕ) → walked g s a ≡ walk.Post u → Post u ≡ posted g s a
-  unfolding posted
-  walked-post u e = let h = post-is g s a u e in rw (h .0, h .1)
-
-  pub walked-blocked : walked g s a ≡ walk.Blocked → Blocked ≡ posted g s a
-  unfolding posted
-  walked-blocked e = rw (blocked-is g s a e)
 
 -- ---- a cell's part, by the set and the action that the code has
 

@@ -4,7 +4,7 @@ use games::Cell;
 use games::Checked;
 use games::Observation;
 use moves::Posted;
-use tables::Walked;
+use walk::Walked;
 ghost use mathlib.Core.Path.{_≡_};
 ghost use Prim.Native.Nat.{_^_, _<_};
 ghost use Rattle.games.specs.Step.{post as postOf};
@@ -66,9 +66,9 @@ fn post(table: &[u32], low: &[u32], high: &[u32], s: u32, a: Action) -> Posted
     if 0 < low.len() {
         return moves::post(table, low, high, s, a);
     }
-    match tables::walk(table, s, a) {
-        Walked::Blocked => Posted::Blocked,
-        Walked::Post(u) => Posted::Post(u),
+    match walk::walk(table, s, a) {
+        Walked::Blocked(_, _) => Posted::Blocked,
+        Walked::Post(u, _) => Posted::Post(u),
     }
 }
 

@@ -13,9 +13,9 @@ use Rattle.sets.proofs.Bounded.{all-intro, all-more, all-refuted, any-more}
 use Rattle.games.specs.Game.{Game, Accepted}
 use Rattle.games.specs.Step.{safe, enabledAt, post, after, meets, step, good}
 use Rattle.games.proofs.Steps.{step-intro, good-empty}
-use Rattle.tables.specs.Walk.{walked}
-use Rattle.tables.specs.declared.Walked.the-variants.{Blocked, Post}
-use Rattle.tables.proofs.Walks.{post-is, blocked-is}
+use Rattle.walk.specs.Walk.{walked}
+use Rattle.walk.specs.declared.Walked.the-variants.{Blocked, Post}
+use Rattle.walk.proofs.Promise.{post-is, blocked-is}
 
 module _ (g : Game) where
   -- ---- the action's turn, with k rounds to go
@@ -63,9 +63,9 @@ module _ (g : Game) where
   goodIn k u o = good g k (common u (g .shown o))
 
   -- a blocked action does not meet the step
-  pub action-blocked : (F : Family) (s a : ℕ) → walked g s a ≡ Blocked → false ≡ meets g F s a
+  pub action-blocked : (F : Family) (s a i c : ℕ) → walked g s a ≡ Blocked (record { 0 = i }) c → false ≡ meets g F s a
   unfolding meets
-  action-blocked F s a e = sym (and-false-left (all (g .observations) (λ o. F (after g s a o))) (blocked-is g s a e))
+  action-blocked F s a i c e = sym (and-false-left (all (g .observations) (λ o. F (after g s a o))) (blocked-is g a s i c e))
 
   -- the other turn, asked of those successors: b is the set that shows the observation, v the successors in it, r the answer
   pub asked : (k u o b v : ℕ) {r x : Bool} → b ≡ g .shown o → v ≡ common u b → r ≡ good g k v → r ≡ x → goodIn k u o ≡ x
@@ -76,19 +76,19 @@ module _ (g : Game) where
   observation-good k u o h m = all-more o (goodIn k u) ∙ and-intro h m
 
   -- a no settles it
-  pub observation-fails : (k s a u o : ℕ) → walked g s a ≡ Post u → o < g .observations → goodIn k u o ≡ false → false ≡ meets g (good g k) s a
+  pub observation-fails : (k s a u c o : ℕ) → walked g s a ≡ Post u c → o < g .observations → goodIn k u o ≡ false → false ≡ meets g (good g k) s a
   unfolding meets after
-  observation-fails k s a u o e l m =
-      let h : goodIn k (post g s a) o ≡ false = subst (λ (v : ℕ). goodIn k v o ≡ false) (post-is g s a u e .1) m in
+  observation-fails k s a u c o e l m =
+      let h : goodIn k (post g s a) o ≡ false = subst (λ (v : ℕ). goodIn k v o ≡ false) (post-is g a s u c e .1) m in
       sym (and-false-right (enabledAt g s a) (all-refuted (g .observations) (goodIn k (post g s a)) o l h))
 
   -- where all observations pass, the action meets the step
-  pub all-observations : (k s a u : ℕ) → walked g s a ≡ Post u → all (g .observations) (goodIn k u) ≡ true → true ≡ meets g (good g k) s a
+  pub all-observations : (k s a u c : ℕ) → walked g s a ≡ Post u c → all (g .observations) (goodIn k u) ≡ true → true ≡ meets g (good g k) s a
   unfolding meets after
-  all-observations k s a u e h =
-      let w = post-is g s a u e in
+  all-observations k s a u c e h =
+      let w = post-is g a s u c e in
       sym (and-intro (w .0) (subst (λ (v : ℕ). all (g .observations) (goodIn k v) ≡ true) (w .1) h))
 
   -- and with no round after it they all do
-  pub last-round : (k s a u : ℕ) → walked g s a ≡ Post u → k ≡ 0 → true ≡ meets g (good g k) s a
-  last-round k s a u e z = all-observations k s a u e (all-intro (g .observations) (goodIn k u) (λ o l. sym (no-round k (common u (g .shown o)) z)))
+  pub last-round : (k s a u c : ℕ) → walked g s a ≡ Post u c → k ≡ 0 → true ≡ meets g (good g k) s a
+  last-round k s a u c e z = all-observations k s a u c e (all-intro (g .observations) (goodIn k u) (λ o l. sym (no-round k (common u (g .shown o)) z)))

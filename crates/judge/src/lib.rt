@@ -8,7 +8,7 @@ ghost use Rattle.judge.specs.Judge.{answered, judged};
 use games::Action;
 use games::Checked;
 use games::Observation;
-use tables::Walked;
+use walk::Walked;
 
 // Document 01: k up to 4.
 const MOST_ROUNDS: u32 = 4;
@@ -50,7 +50,7 @@ fn observation_turn(table: &[u32], s: u32, a: Action, k: u32) -> bool
     requires { ⌜ (checked (now table) ≡ Checked.Fine) × (a .0 < game (now table) .actions) ⌝ }
     ensures { λ r. ⌜ r ≡ meets (game (now (table .entry))) (good (game (now (table .entry))) k) s (a .0) ⌝ }
 {
-    let Walked::Post(u) = tables::walk(table, s, a) else {
+    let Walked::Post(u, _) = walk::walk(table, s, a) else {
         return false; // blocked at a member
     };
     if k == 0 {

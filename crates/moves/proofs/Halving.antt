@@ -28,7 +28,8 @@ use Rattle.games.specs.declared.Checked.the-variants.{Fine}
 use Rattle.tables.proofs.Checks.{sized}
 use Rattle.tables.proofs.Bounds.{few-states}
 use Rattle.moves.specs.declared.Posted.the-variants.{Blocked, Post}
-use Rattle.moves.specs.Halves.{posted, halfStates, halfSets, sideWords, blockedMark, mark, Doubled, Halved, Sided, Tabled}
+use Rattle.walk.proofs.Moves.{moved-enabled, moved-blocked}
+use Rattle.moves.specs.Halves.{posted, halfStates, halfSets, sideWords, blockedMark, markOf, mark, Doubled, Halved, Sided, Tabled}
 
 -- the union sees only the members below the bound
 members-same : (n s t : ℕ) (f : ℕ → ℕ) → ((i : ℕ) → i < n → member s i ≡ member t i) → unionOver n s f ≡ unionOver n t f
@@ -205,13 +206,13 @@ module _ (n k s : ℕ) (F : ℕ → ℕ) (within : k ≤ n) (few : k ≤ halfSta
 -- ---- what the marks tell
 
 -- the successors where the action is enabled, else the mark
-pub enabled-mark : (g : Game) (a i : ℕ) → enabled g i a ≡ true → mark g a i ≡ g .successors a i
+enabled-mark : (g : Game) (a i : ℕ) → enabled g i a ≡ true → mark g a i ≡ g .successors a i
 unfolding mark
-enabled-mark g a i h = ap (λ (c : Bool). cond c (g .successors a i) blockedMark) h
+enabled-mark g a i h = ap markOf (moved-enabled g a i h)
 
-pub blocked-mark : (g : Game) (a i : ℕ) → enabled g i a ≡ false → mark g a i ≡ blockedMark
+blocked-mark : (g : Game) (a i : ℕ) → enabled g i a ≡ false → mark g a i ≡ blockedMark
 unfolding mark
-blocked-mark g a i h = ap (λ (c : Bool). cond c (g .successors a i) blockedMark) h
+blocked-mark g a i h = ap markOf (moved-blocked g a i h)
 
 module _ (g : Game) (A : Accepted g) (few : g .states ≤ maxStates) (s a : ℕ) (b : a < g .actions) where
   unmarked : enabledAt g s a ≡ true → unionOver (g .states) s (mark g a) ≡ post g s a

@@ -8,13 +8,19 @@ use native.Mathlib.Omega.{arith}
 use Rattle.sets.specs.Mask.{common}
 use Rattle.sets.specs.Bounded.{all}
 use Rattle.sets.specs.Family.{Family}
-use Rattle.sets.proofs.Logic.{decided, refuted, and-false-left}
+use Rattle.sets.proofs.Logic.{decided, clash, refuted, and-false-left}
 use Rattle.sets.proofs.Mask.{unionOver-lt}
 use Rattle.games.specs.Game.{Game, Accepted}
 use Rattle.games.specs.Step.{enabledAt, post, after, meets}
+use Rattle.games.proofs.Steps.{enabled-at}
+use Rattle.walk.proofs.Promise.{told}
+use Rattle.walk.specs.Promise.{Tells}
+use Rattle.walk.specs.Walk.{walked}
+use Rattle.walk.specs.declared.Walked.{Walked}
+use Rattle.walk.specs.declared.Walked.the-variants as walk
 use Rattle.moves.specs.declared.Posted.{Posted}
 use Rattle.moves.specs.declared.Posted.the-variants.{Blocked, Post}
-use Rattle.moves.specs.Halves.{posted, shownIn}
+use Rattle.moves.specs.Halves.{posted, unnumbered, AsWalked, shownIn}
 
 module _ (g : Game) (s a : ℕ) (r : Posted) (is : r ≡ posted g s a) where
   pub posted-blocked : r ≡ Blocked → enabledAt g s a ≡ false
@@ -30,6 +36,17 @@ module _ (g : Game) (s a : ℕ) (r : Posted) (is : r ≡ posted g s a) where
       (λ h. (h, let w : posted g s a ≡ Post (post g s a) = rw h in (cc)))
       (λ h. let w : posted g s a ≡ Blocked = rw h in let z : _≡_ {A = ℕ} 0 1 = cc in absurd (omega arith))
       (decided (enabledAt g s a))
+
+-- ---- the walk's answer
+
+-- an answer that tells of the set and the action is the one of the half tables
+told-posted : (g : Game) (s a : ℕ) (r : Walked) → Tells g s a r → posted g s a ≡ unnumbered r
+unfolding posted
+told-posted g s a (walk.Post u c) t = rw (t .enabled-at, t .successors)
+told-posted g s a (walk.Blocked i c) t = rw (refuted (enabledAt g s a) (λ h. clash (enabled-at g s a h (i .0) (t .state) (t .inside)) (t .blocked)))
+
+pub as-walked : (g : Game) → AsWalked g
+as-walked g s a = told-posted g s a (walked g s a) (told g a s)
 
 -- the successors are states of the game
 pub posted-below : (g : Game) → Accepted g → (s a : ℕ) → a < g .actions → (r : Posted) → r ≡ posted g s a → (u : ℕ) → r ≡ Post u → u < 2 ^ g .states

@@ -9,17 +9,31 @@ use Rattle.sets.specs.Mask.{common, union, unionOver}
 use Rattle.sets.specs.Bounded.{all}
 use Rattle.sets.specs.Family.{Family}
 use Rattle.games.specs.Format.{maxStates, maxActions, lowValues}
-use Rattle.games.specs.Game.{Game, enabled}
+use Rattle.games.specs.Game.{Game}
 use Rattle.games.specs.Step.{enabledAt, post}
 use Rattle.games.specs.Words.{game}
 use Rattle.tables.specs.Check.{checked}
 use Rattle.games.specs.declared.Checked.the-variants.{Fine}
+use Rattle.walk.specs.Walk.{moved, walked}
+use Rattle.walk.specs.declared.Moved.{Moved}
+use Rattle.walk.specs.declared.Moved.the-variants as one
+use Rattle.walk.specs.declared.Walked.{Walked}
+use Rattle.walk.specs.declared.Walked.the-variants as walk
 use Rattle.moves.specs.declared.Posted.{Posted}
 use Rattle.moves.specs.declared.Posted.the-variants.{Blocked, Post}
 
 -- what a set comes to under an action: the successors of the whole set, where the action is enabled at all its members
 unfoldable pub posted : Game → ℕ → ℕ → Posted
 posted g s a = cond (enabledAt g s a) (Post (post g s a)) Blocked
+
+-- the walk's answer without its numbers
+abbrev pub unnumbered : Walked → Posted
+unnumbered (walk.Blocked i c) = Blocked
+unnumbered (walk.Post u c) = Post u
+
+-- it is the answer of one walk over the members: two reads of the half tables say what the walk says
+abbrev pub AsWalked : Game → Type 0
+AsWalked g = (s a : ℕ) → posted g s a ≡ unnumbered (walked g s a)
 
 -- for every observation, the states of u that show it form a set of the family
 unfoldable pub shownIn : Game → Family → ℕ → Bool
@@ -40,9 +54,14 @@ sideWords = maxActions * halfSets
 abbrev pub blockedMark : ℕ
 blockedMark = lowValues
 
+-- what a member comes to in the walk, as a word: its successors, or the mark
+abbrev pub markOf : Moved → ℕ
+markOf one.Blocked = blockedMark
+markOf (one.To u) = u
+
 -- a state's successors under an action, or the mark
 unfoldable pub mark : Game → (a i : ℕ) → ℕ
-mark g a i = cond (enabled g i a) (g .successors a i) blockedMark
+mark g a i = markOf (moved g a i)
 
 -- an accepted table, an action of it, and the states from `first` on, no more than a half has
 pub record InHalf (table : List ℕ) (a first count : ℕ) : Type 0 where

@@ -10,6 +10,7 @@ ghost use Rattle.games.specs.declared.Checked.the-variants.{Fine};
 ghost use Rattle.moves.specs.Halves.{posted, halfStates, halfSets, sideWords, mark as marked, InHalf, Doubled, Halved, Sided, Tabled, Ready};
 use games::Action;
 use games::State;
+use walk::Moved;
 
 // The states of a half, their sets, and the words for these.
 const HALF_STATES: u32 = (games::MAX_STATES + 1) / 2;
@@ -41,10 +42,9 @@ fn mark(table: &[u32], a: Action, i: State) -> u32
     requires { ⌜ Sized (now table) × (a .0 < game (now table) .actions) × (i .0 < game (now table) .states) ⌝ }
     ensures { λ r. ⌜ r ≡ marked (game (now (table .entry))) (a .0) (i .0) ⌝ }
 {
-    if tables::enabled(table, a, i) {
-        tables::successors(table, a, i)
-    } else {
-        BLOCKED
+    match walk::move_from(table, a, i) {
+        Moved::Blocked => BLOCKED,
+        Moved::To(u) => u,
     }
 }
 

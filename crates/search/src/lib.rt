@@ -140,7 +140,7 @@ fn safely_enabled(table: &[u32], a: Action, i: State) -> bool
     ensures { λ r. ⌜ r ≡ safelyEnabled (game (now (table .entry))) (a .0) (i .0) ⌝ }
 {
     let bad = sets::member(tables::bad(table), i.0);
-    tables::enabled(table, a, i) & !bad
+    walk::enabled(table, a, i) & !bad
 }
 
 // The states that are not bad and in which the action is enabled.

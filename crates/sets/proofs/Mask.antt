@@ -389,6 +389,21 @@ module _ (s i : ℕ) (m : member s i ≡ true) where
   pub sub-less : s - 2 ^ i < s
   sub-less = omega (arith, sub-add, pow-pos i)
 
+-- the common part with the number before it lacks the lowest member, and no other
+pub lowest-off : (i s : ℕ) → member s i ≡ true → ((j : ℕ) → j < i → member s j ≡ false) → common s (s - 1) ≡ s - 2 ^ i
+lowest-off zero s m low =
+    let odd : s % 2 ≡ 1 = eqb-true (s % 2) 1 (sym (member-first s) ∙ m) in
+    let half : (s - 1) / 2 ≡ s / 2 = omega arith in
+    let same : common (s / 2) ((s - 1) / 2) ≡ s / 2 = ap (common (s / 2)) half ∙ eqb-true (common (s / 2) (s / 2)) (s / 2) (subset-refl (s / 2)) in
+    omega (arith, and-step s (s - 1), same)
+lowest-off (suc i) s m low =
+    let even : s % 2 ≡ 0 = omega (arith, eqb-false (s % 2) 1 (sym (member-first s) ∙ low 0 (zero-lt-suc i)), odd-lt s) in
+    let some : 2 ^ i ≤ s / 2 = single-le (s / 2) i (sym (member-half s i) ∙ m) in
+    let half : (s - 1) / 2 ≡ s / 2 - 1 = omega (arith, pow-pos i) in
+    let less : common (s / 2) ((s - 1) / 2) ≡ s / 2 - 2 ^ i =
+    ap (common (s / 2)) half ∙ lowest-off i (s / 2) (sym (member-half s i) ∙ m) (λ j l. sym (member-half s j) ∙ low (suc j) (omega arith)) in
+    omega (arith, and-step s (s - 1), less, pow-succ' 2 i, pow-pos i)
+
 -- what `without` is where i is a member
 pub without-member : (s i : ℕ) → member s i ≡ true → without s i ≡ s - 2 ^ i
 without-member s i m = ap (λ (b : Bool). cond b (s - 2 ^ i) s) m

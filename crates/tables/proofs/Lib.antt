@@ -1,5 +1,4 @@
 pub mod Bounds
-pub mod Walks
 pub mod Checks
 pub mod Layouts
 pub mod Fieldwise

@@ -1,5 +1,4 @@
 pub mod Layout
 pub mod Check
-pub mod Walk
 pub mod Fields
 pub mod Unmarked

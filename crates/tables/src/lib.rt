@@ -5,11 +5,9 @@ ghost use lib.ListN.{length};
 ghost use Rattle.sets.specs.Bounded.{filledBy};
 ghost use Rattle.games.specs.Format.{maxObservations};
 ghost use Rattle.games.specs.Places.{placeAt, placeOf, tableLength, Within, Limited};
-ghost use Rattle.games.specs.Game.{enabled as isEnabled};
 ghost use Rattle.games.specs.Verdict.{startSets, startSet};
 ghost use Rattle.games.specs.Words.{maskAt, game};
 ghost use Rattle.tables.specs.Layout.{shapeIn, headWord, bareWord, Sized};
-ghost use Rattle.tables.specs.Walk.{walked};
 ghost use Rattle.tables.specs.Fields.{fieldsShape, masksFrom, fieldsOf, gameOf};
 ghost use Rattle.tables.specs.Check.{limitsHold, headRight, sizeChecked, placed, faulty, wordsChecked, unseen, setsChecked, parkedChecked, departsFrom, parkedFrom, checked};
 use games::Action;
@@ -154,17 +152,6 @@ pub fn successors(table: &[u32], a: Action, i: State) -> u32
     mask(table, Place::Move(a, i))
 }
 
-// The action is enabled in the state: it has a successor there, or the state is parked.
-pub fn enabled(table: &[u32], a: Action, i: State) -> bool
-    requires { ⌜ Sized (now table) × (a .0 < game (now table) .actions) × (i .0 < game (now table) .states) ⌝ }
-    ensures { λ r. ⌜ r ≡ isEnabled (game (now (table .entry))) (i .0) (a .0) ⌝ }
-{
-    if successors(table, a, i) != 0 {
-        return true;
-    }
-    sets::member(parked(table), i.0)
-}
-
 // How many sets there are before the first action.
 pub fn start_sets(table: &[u32]) -> u32
     requires { ⌜ Sized (now table) ⌝ }
@@ -179,32 +166,6 @@ pub fn start_set(table: &[u32], seen: Observation) -> u32
     ensures { λ r. ⌜ r ≡ startSet (game (now (table .entry))) (seen .0) ⌝ }
 {
     sets::common(mask(table, Place::Start), shown(table, seen))
-}
-
-// What a set comes to under an action.
-pub enum Walked {
-    // blocked at a member
-    Blocked,
-    // the successors of the whole set
-    Post(u32),
-}
-
-// One pass over the members from the lowest, ending at the first that is blocked.
-pub fn walk(table: &[u32], s: u32, a: Action) -> Walked
-    requires { ⌜ Sized (now table) × (a .0 < game (now table) .actions) ⌝ }
-    ensures { λ r. ⌜ r ≡ walked (game (now (table .entry))) s (a .0) ⌝ }
-{
-    let mut rest = s % sets::single(states(table));
-    let mut u: u32 = 0;
-    while rest != 0 {
-        let i = u32::trailing_zeros(rest);
-        if !enabled(table, a, State(i)) {
-            return Walked::Blocked;
-        }
-        u = u | successors(table, a, State(i));
-        rest = rest - sets::single(i);
-    }
-    Walked::Post(u)
 }
 
 // The word at a place from 1 up, with no state in its mask.

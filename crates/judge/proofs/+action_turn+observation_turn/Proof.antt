@@ -25,7 +25,7 @@ use Rattle.tables.proofs.actions.Reads as actions-reads
 use Rattle.tables.proofs.bad.Reads as bad-reads
 use Rattle.tables.proofs.observations.Reads as observations-reads
 use Rattle.tables.proofs.shown.Reads as shown-reads
-use Rattle.tables.proofs.walk.Reads as walk-reads
+use Rattle.walk.proofs.walk.Reads as walk-reads
 use Rattle.judge.proofs.+action_turn+observation_turn.{statement}
 use Rattle.judge.proofs.+action_turn+observation_turn.Tie.{close}
 
@@ -149,12 +149,12 @@ pub +action-turn+observation-turn-spec : {M : Type 1} → statement M
     (λ c.
     let walked = c .before .before in
     let x = walked .before .before .args in
-    action-blocked (game (x .table .now)) (good (game (x .table .now)) (x .k)) (x .s) (x .a .0) (cc))
+    action-blocked (game (x .table .now)) (good (game (x .table .now)) (x .k)) (x .s) (x .a .0) (c .enum-told .given .0 .0 .0) (c .enum-told .given .0 .1 .0) (sym (walked .walk .ensures) ∙ c .enum-told .given .1))
     (λ c.
     let u = c .before .before in
     let walked = u .before .before in
     let x = walked .before .before .args in
-    last-round (game (x .table .now)) (x .k) (x .s) (x .a .0) (u .u .given .0 .0) (sym (walked .walk .ensures) ∙ u .u .given .1) (c .if1 .taken))
+    last-round (game (x .table .now)) (x .k) (x .s) (x .a .0) (u .u .given .0 .0) (u .u .given .0 .1 .0) (sym (walked .walk .ensures) ∙ u .u .given .1) (c .if1 .taken))
     (λ c κs. let begun = c .before .before .before .before .before .before in sized (begun .args .table .now) (begun .pre .1 .0))
     (λ c.
     let u = c .before .before .before in
@@ -168,7 +168,7 @@ pub +action-turn+observation-turn-spec : {M : Type 1} → statement M
     let u = at .before .before .before .before in
     let walked = u .before .before in
     let x = walked .before .before .args in
-    observation-fails (game (x .table .now)) (x .k) (x .s) (x .a .0) (u .u .given .0 .0) (at .loop .o) (sym (walked .walk .ensures) ∙ u .u .given .1) (search needs) (asked (game (x .table .now)) (x .k) (u .u .given .0 .0) (at .loop .o) _ _ (c .before .before .before .shown .ensures) (c .before .before .common .ensures) (c .before .action-turn .ensures) (not-true (c .before .action-turn .result) (c .if2 .taken))))
+    observation-fails (game (x .table .now)) (x .k) (x .s) (x .a .0) (u .u .given .0 .0) (u .u .given .0 .1 .0) (at .loop .o) (sym (walked .walk .ensures) ∙ u .u .given .1) (search needs) (asked (game (x .table .now)) (x .k) (u .u .given .0 .0) (at .loop .o) _ _ (c .before .before .before .shown .ensures) (c .before .before .common .ensures) (c .before .action-turn .ensures) (not-true (c .before .action-turn .result) (c .if2 .taken))))
     (λ c. search needs)
     (λ c. search needs)
     (λ c.
@@ -182,4 +182,4 @@ pub +action-turn+observation-turn-spec : {M : Type 1} → statement M
     let walked = u .before .before in
     let x = walked .before .before .args in
     let e : at .loop .o ≡ game (x .table .now) .observations = omega arith in
-    all-observations (game (x .table .now)) (x .k) (x .s) (x .a .0) (u .u .given .0 .0) (sym (walked .walk .ensures) ∙ u .u .given .1) (rw e at (at .loop .inv .1))))
+    all-observations (game (x .table .now)) (x .k) (x .s) (x .a .0) (u .u .given .0 .0) (u .u .given .0 .1 .0) (sym (walked .walk .ensures) ∙ u .u .given .1) (rw e at (at .loop .inv .1))))

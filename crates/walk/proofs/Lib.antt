@@ -1,0 +1,4 @@
+pub mod Rows
+pub mod Moves
+pub mod Walks
+pub mod Promise
