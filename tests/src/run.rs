@@ -1,6 +1,7 @@
 //! Seeds, counts and what every run of the comparisons prints.
 
 use std::io::Write;
+use std::path::{Path, PathBuf};
 
 /// The seed of the gate.
 pub const GATE_SEED: u64 = 20_061_215;
@@ -28,6 +29,23 @@ pub fn count(divisor: u64) -> u64 {
 pub fn report(line: &str) {
     let line = format!("kirdanzug-tests: {line}\n");
     std::io::stderr().write_all(line.as_bytes()).expect("standard error is open");
+}
+
+/// A proved program: the one that the variable names, or `name` of ../target/bin; nothing, and a line, where that
+/// has not been built.
+pub fn program(variable: &str, name: &str) -> Option<PathBuf> {
+    let path = match std::env::var_os(variable).map(PathBuf::from) {
+        Some(path) => {
+            assert!(path.exists(), "{variable} names {}, which is missing", path.display());
+            path
+        }
+        None => Path::new(env!("CARGO_MANIFEST_DIR")).join("../target/bin").join(name),
+    };
+    if !path.exists() {
+        report(&format!("skipped: {} does not exist", path.display()));
+        return None;
+    }
+    Some(path)
 }
 
 /// Runs `work` for every number below `count`, over the machine's processors, and gives what each

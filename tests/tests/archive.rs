@@ -901,7 +901,7 @@ fn long_cards_judged() {
     for (o, marked) in [(1, false), (3, false), (8, false), (1, true), (8, true)] {
         let mut game = gen::unmarked_game(&mut rng, Shape::Sparse, 12, 8, o);
         if marked {
-            game = gen::parking(&mut rng, game);
+            game = gen::parked_at(game, 1 << 11);
         }
         let game = gen::opened(game);
         let card = oracle::card_words(&gen::card_of_all_sets(&mut rng, &game));
@@ -1163,7 +1163,11 @@ fn counters_and_rings() {
             }
         }
     }
-    tally.report("counters and rings", 66);
+    // Whatever the seed parks: a yes and a no with a parked state.
+    for table in [stations::E_PARKED, stations::E_LOST] {
+        try_table(&mut rng, &mut tally, &table);
+    }
+    tally.report("counters and rings", 68);
     assert!(tally.longest >= 64 && tally.most_cells >= 498);
     tally.parked.must_have_verdicts();
 }

@@ -3,7 +3,7 @@
 
 use kirdanzug_tests::gen::{self, Rng, SHAPES};
 use kirdanzug_tests::oracle;
-use kirdanzug_tests::run::{count, report, seed, spread};
+use kirdanzug_tests::run::{self, count, report, seed, spread};
 use kirdanzug_tests::stations;
 use std::fs::File;
 use std::io::Write;
@@ -14,19 +14,7 @@ use std::process::{Command, Output, Stdio};
 
 /// The program, or nothing where it has not been built.
 fn program() -> Option<PathBuf> {
-    let named = std::env::var_os("KIRDANZUG_SOLVE").map(PathBuf::from);
-    let path = match named {
-        Some(path) => {
-            assert!(path.exists(), "KIRDANZUG_SOLVE names {}, which is missing", path.display());
-            path
-        }
-        None => PathBuf::from(env!("CARGO_MANIFEST_DIR")).join("../target/bin/solve"),
-    };
-    if !path.exists() {
-        report(&format!("skipped: {} does not exist", path.display()));
-        return None;
-    }
-    Some(path)
+    run::program("KIRDANZUG_SOLVE", "solve")
 }
 
 /// All that the program prints for this input.
@@ -56,7 +44,7 @@ fn program_prints_the_stations() {
 }
 
 /// What the program does with this standard input and output.
-fn run(program: &PathBuf, stdin: Stdio, stdout: Stdio) -> Output {
+fn ran(program: &PathBuf, stdin: Stdio, stdout: Stdio) -> Output {
     let child = Command::new(program).stdin(stdin).stdout(stdout).stderr(Stdio::piped()).spawn();
     child.expect("the program starts").wait_with_output().expect("the program ends")
 }
@@ -76,7 +64,7 @@ const UNWRITTEN: &str = "the answer can't be written\n";
 fn program_tells_an_input_that_cannot_be_read() {
     let Some(program) = program() else { return };
     let folder = File::open(env!("CARGO_MANIFEST_DIR")).expect("the folder can be opened");
-    tells(&run(&program, folder.into(), Stdio::piped()), UNREAD);
+    tells(&ran(&program, folder.into(), Stdio::piped()), UNREAD);
 }
 
 /// A whole table comes, and the next read fails (nothing more is there, and the other end is open): that is
@@ -87,7 +75,7 @@ fn program_tells_an_input_that_breaks_off() {
     let (mut sender, receiver) = UnixStream::pair().expect("a pair of sockets");
     sender.write_all(&stations::bytes(&stations::A)).expect("the table is sent");
     receiver.set_nonblocking(true).expect("the socket can be set");
-    tells(&run(&program, OwnedFd::from(receiver).into(), Stdio::piped()), UNREAD);
+    tells(&ran(&program, OwnedFd::from(receiver).into(), Stdio::piped()), UNREAD);
     drop(sender);
 }
 
@@ -115,7 +103,7 @@ fn program_tells_an_answer_that_cannot_be_written() {
     let table = PathBuf::from(env!("CARGO_MANIFEST_DIR")).join("../tables/A");
     let table = File::open(table).expect("tables/A is there");
     let full = File::options().write(true).open("/dev/full").expect("/dev/full is there");
-    tells(&run(&program, table.into(), full.into()), UNWRITTEN);
+    tells(&ran(&program, table.into(), full.into()), UNWRITTEN);
 }
 
 #[test]

@@ -5,30 +5,13 @@
 use kirdanzug_tests::game::{Game, Walk};
 use kirdanzug_tests::gen::{self, Rng, SHAPES};
 use kirdanzug_tests::oracle;
-use kirdanzug_tests::run::{count, report, seed, spread};
+use kirdanzug_tests::run::{count, program, report, seed, spread};
 use kirdanzug_tests::stations;
 use std::fmt::Write as FormatWrite;
 use std::fs;
 use std::io::Write;
-use std::path::{Path, PathBuf};
+use std::path::Path;
 use std::process::{Command, Stdio};
-
-/// The program, or nothing where it has not been built.
-fn program() -> Option<PathBuf> {
-    let named = std::env::var_os("KIRDANZUG_WALKS").map(PathBuf::from);
-    let path = match named {
-        Some(path) => {
-            assert!(path.exists(), "KIRDANZUG_WALKS names {}, which is missing", path.display());
-            path
-        }
-        None => Path::new(env!("CARGO_MANIFEST_DIR")).join("../target/bin/walk_vectors"),
-    };
-    if !path.exists() {
-        report(&format!("skipped: {} does not exist", path.display()));
-        return None;
-    }
-    Some(path)
-}
 
 /// All that the program prints for these words: it reads them all, then it prints.
 fn printed(program: &Path, words: &[u32]) -> String {
@@ -106,7 +89,7 @@ fn rows_of_the_walk() {
 /// Random tables, twenty to a call, the last one damaged now and then; every fiftieth call one of twelve states.
 #[test]
 fn walks_of_random_tables() {
-    let Some(program) = program() else { return };
+    let Some(program) = program("KIRDANZUG_WALKS", "walk_vectors") else { return };
     let seed = seed();
     let calls = count(500);
     let work = |i: u64, seen: &mut Seen| {
