@@ -1,27 +1,32 @@
 -- What a card does on a list of observations: one observation more, and the automaton's cell and action as long as no observation
--- is one that cannot occur. A card that meets the second demand is never refused on a play under it.
+-- is one that cannot occur; where it ends in a cell, that is the automaton's. A card that meets the second demand is never refused on a play under it.
 -- Assumes nothing.
 use mathlib.Core.Path.{_≡_, refl, sym, ap, subst, _∙_}
+use mathlib.Core.Logic.{⊎-elim}
 use mathlib.Core.List.{List, [], _∷_, _++_}
 use Prim.Native.Nat.{ℕ, _+_, _≤_, _<_}
 use native.Mathlib.Nat.{not-suc-le-zero}
 use native.Mathlib.Numerals.{add-one}
 use native.Mathlib.Omega.{arith}
+use lib.Dec.{eqb}
 use lib.ListN.{length, getD, take, length-append}
 use lib.Seq.{take-suc, length-take-le}
+use borrow.Author.Tests.{eqb-true, eqb-false}
+use Rattle.sets.proofs.Logic.{decided, lt-or-le}
 use Rattle.games.specs.Game.{Game, Accepted}
 use Rattle.games.specs.Play.{Play, begin, more as longer, PlayOf, seen}
 use Rattle.games.specs.Automaton.{Automaton, noCell, nextCell, cellFrom, cellAfter, actionAfter}
 use Rattle.games.specs.Demands.{UnderCard, Second}
 use Rattle.games.proofs.Winning.{next-cell, Covers, covering-wins}
+use Rattle.games.specs.declared.Action.{Action}
 use Rattle.games.specs.declared.Checked.the-variants.{Fine}
 use Rattle.cards.specs.declared.Move.{Move}
 use Rattle.cards.specs.declared.Move.the-variants.{Refused}
 use Rattle.cards.specs.Card.{cardObservations, automaton, checked, Fitting, Named}
 use Rattle.cards.specs.Kept.{Kept}
-use Rattle.cards.specs.Run.{entered, enters, opened, stepped, moved, ranFrom, ran}
+use Rattle.cards.specs.Run.{asCell, entered, enters, opened, stepped, cellOr, moved, ranFrom, ran}
 use Rattle.cards.proofs.Checked.{fitting}
-use Rattle.cards.proofs.Running.{named-cell, enters-cell, begun-enters, followed-outside, followed-enters, opened-fine, stepped-fine}
+use Rattle.cards.proofs.Running.{named-cell, cannot-occur, enters-cell, begun-late, begun-enters, followed-outside, followed-late, followed-enters, opened-fine, stepped-fine}
 
 -- ---- one observation more
 
@@ -150,6 +155,67 @@ no-cell-refused w j e =
 pub ran-none : (w : List ℕ) → checked w ≡ Fine → ran w [] ≡ Refused 12 noCell
 unfolding ran
 ran-none w e = no-cell-refused w 0 e
+
+-- ---- a run that ends in a cell ends in the automaton's
+
+-- a refusal enters no cell
+pub not-entered : {X : Type 0} (n p c a : ℕ) → Refused n p ≡ entered c a → X
+not-entered n p c a e = let z : _≡_ {A = ℕ} 0 1 = cc in absurd (omega arith)
+
+-- the same move, the same cell and action
+pub same-entered : (c a d b : ℕ) → entered c a ≡ entered d b → (c ≡ d) × (a ≡ b)
+same-entered c a d b e =
+    let action : _≡_ {A = Action} (record { 0 = a }) (record { 0 = b }) = cc in
+    (ap (λ (m : Move). cellOr m (asCell 0) .0) e, ap (λ (x : Action). x .0) action)
+
+module _ (w : List ℕ) (e : checked w ≡ Fine) (c a : ℕ) where
+  abbrev A : Automaton
+  A = automaton w
+
+  abbrev o : ℕ
+  o = cardObservations w
+
+  refused-stays : (h : List ℕ) (n p : ℕ) → ranFrom w (Refused n p) h ≡ Refused n p
+  unfolding ranFrom moved
+  refused-stays [] n p = refl
+  refused-stays (j ∷ h) n p = refused-stays h n p
+
+  -- so a run from a refusal ends in no cell
+  no-way : {X : Type 0} (h : List ℕ) (r : Move) (n p : ℕ) → r ≡ Refused n p → ranFrom w r h ≡ entered c a → X
+  no-way h r n p f run = not-entered n p c a (sym (ap (λ (m : Move). ranFrom w m h) f ∙ refused-stays h n p) ∙ run)
+
+  -- from what a word names
+  from-named : (h : List ℕ) (x j : ℕ) (r : Move) → r ≡ enters A x j → ((b : ℕ) → ranFrom w (entered x b) h ≡ entered c a → cellFrom A x h ≡ c)
+      → ranFrom w r h ≡ entered c a → cellFrom A x h ≡ c
+  from-named h x j r f go run =
+      ⊎-elim (λ z. no-way h r 14 j (f ∙ cannot-occur A o x j (eqb-true x noCell z)) run)
+      (λ z. go (A .action x) (sym (ap (λ (m : Move). ranFrom w m h) (f ∙ enters-cell A o x j (eqb-false x noCell z))) ∙ run))
+      (decided (eqb x noCell))
+
+  from-cell : (h : List ℕ) (d b : ℕ) → ranFrom w (entered d b) h ≡ entered c a → cellFrom A d h ≡ c
+  unfolding ranFrom moved cellFrom
+  from-cell [] d b run = same-entered d b c a run .0
+  from-cell (j ∷ h) d b run =
+      let step = stepped-fine w d j e in
+      ⊎-elim
+      (λ l. ⊎-elim
+      (λ k. ap (λ (x : ℕ). cellFrom A x h) (next-cell A d j l)
+      ∙ from-named h (A .next d j) j (stepped w d j) (step ∙ followed-enters A o d j l k) (from-cell h (A .next d j)) run)
+      (λ k. no-way h (stepped w d j) 12 j (step ∙ followed-late A o d j l k) run)
+      (lt-or-le j o))
+      (λ l. no-way h (stepped w d j) 12 d (step ∙ followed-outside A o d j l) run)
+      (lt-or-le d (A .size))
+
+  pub ran-cell : (h : List ℕ) → ran w h ≡ entered c a → cellAfter A h ≡ c
+  unfolding ran cellAfter
+  ran-cell [] run = not-entered 12 noCell c a (sym (ran-none w e) ∙ run)
+  ran-cell (j ∷ h) run =
+      let open-with = opened-fine w j e in
+      ⊎-elim (λ l. from-named h (A .begins j) j (opened w j) (open-with ∙ begun-enters A o j l) (from-cell h (A .begins j)) run)
+      (λ l. no-way h (opened w j) 12 j (open-with ∙ begun-late A o j l) run)
+      (lt-or-le j o)
+
+-- ---- whoever drew it
 
 -- a card whose cells cover the plays keeps every play clear and is never refused on one, whoever drew it
 pub covering-kept : (g : Game) → Accepted g → (w : List ℕ) → checked w ≡ Fine → cardObservations w ≡ g .observations → Covers g (automaton w) → Kept g w

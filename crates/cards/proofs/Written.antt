@@ -1,6 +1,6 @@
 -- The words that are written of an automaton are a card, and mean that automaton.
 -- Assumes nothing.
-use mathlib.Core.Path.{_≡_, refl, sym, ap, subst, _∙_}
+use mathlib.Core.Path.{_≡_, refl, sym, ap, ap₂, subst, _∙_}
 use mathlib.Core.Logic.{_⊎_, ⊎-elim}
 use mathlib.Core.Bool.{true, _||_}
 use mathlib.Core.List.{List, [], _∷_, _++_}
@@ -19,7 +19,7 @@ use Rattle.games.specs.Words.{frontLength, partLength, cardLength, cellWords, c
 use Rattle.games.proofs.Limits.{within-limit}
 use Rattle.games.specs.declared.Checked.the-variants.{Fine}
 use Rattle.cards.specs.Card.{headPlace, firstPlace, cellPlace, nextPlace, cardCells, cardObservations, cardActions, automaton, headFits, cellNamed, cellFits, wordFits, checked, Named, Fitting}
-use Rattle.sets.proofs.Fills.{gather-length, gather-at, length-values, getD-values}
+use Rattle.sets.proofs.Fills.{gather-length, gather-at, gather-ext, length-values, getD-values}
 use Rattle.cards.proofs.Spots.{every-place}
 use Rattle.cards.proofs.Checked.{word-head, word-begins, word-cell, word-next, only-words, fits-all}
 use Rattle.cards.proofs.Running.{size-of, set-of, action-of, begins-of, next-of}
@@ -129,6 +129,24 @@ pub record Agree (A B : Automaton) (o : ℕ) : Type 0 where
   pub action-same : (c : ℕ) → c < A .size → A .action c ≡ B .action c
   pub begins-same : (j : ℕ) → j < o → A .begins j ≡ B .begins j
   pub next-same : (c j : ℕ) → c < A .size → j < o → A .next c j ≡ B .next c j
+
+-- they are written alike
+module _ (A B : Automaton) (o : ℕ) (E : Agree A B o) where
+  same-part : (c : ℕ) → c < A .size → cellWords A o c ≡ cellWords B o c
+  unfolding cellWords
+  same-part c l =
+      ap₂ _∷_ (ap₂ (λ (s x : ℕ). word kindCell s 0 x) (E .set-same c l) (E .action-same c l))
+      (gather-ext o (λ j. word kindNext (A .next c j) j 0 ∷ []) (λ j. word kindNext (B .next c j) j 0 ∷ [])
+      (λ j k. ap (λ (d : ℕ). word kindNext d j 0 ∷ []) (E .next-same c j l k)))
+
+  pub same-words : (a : ℕ) → cardWords A a o ≡ cardWords B a o
+  unfolding cardWords
+  same-words a =
+      ap₂ _∷_ (ap (λ (m : ℕ). cardHead m o a) (E .size-same))
+      (ap₂ _++_
+      (gather-ext o (λ j. word kindFirst (A .begins j) j 0 ∷ []) (λ j. word kindFirst (B .begins j) j 0 ∷ [])
+      (λ j l. ap (λ (d : ℕ). word kindFirst d j 0 ∷ []) (E .begins-same j l)))
+      (gather-ext (A .size) (cellWords A o) (cellWords B o) same-part ∙ ap (λ (m : ℕ). gather m (cellWords B o)) (E .size-same)))
 
 module _ (A : Automaton) (a o : ℕ) (F : Fitting A a o) where
   cell-small : (c : ℕ) → Named A c → c < lowValues

@@ -5,22 +5,20 @@ use mathlib.Core.Bool.{Bool, true, false, _&&_}
 use mathlib.Core.List.{List}
 use Prim.Native.Nat.{ℕ, _+_, _≤_, _<_}
 use native.Mathlib.Omega.{arith}
-use lib.Dec.{eqb}
 use lib.ListN.{length}
-use borrow.Author.Tests.{eq-eqb, ne-eqb}
-use Rattle.sets.specs.Mask.{subset, common}
+use Rattle.sets.specs.Mask.{common}
 use Rattle.sets.specs.Bounded.{Found, atFound}
 use Rattle.games.specs.Game.{Game}
 use Rattle.games.specs.Step.{enabledAt, post, after}
 use Rattle.games.specs.Verdict.{startSet}
-use Rattle.games.specs.Automaton.{Automaton, noCell}
+use Rattle.games.specs.Automaton.{Automaton}
 use Rattle.games.specs.Words.{game, frontLength, partLength}
 use Rattle.games.specs.declared.Checked.{Checked}
 use Rattle.games.specs.declared.Checked.the-variants.{Fine, Refused}
 use Rattle.cards.specs.Card.{cellPlace, nextPlace, cardCells, cardObservations, automaton, checked as cardChecked}
-use Rattle.cards.specs.Checking.{Pass, FirstWrong}
+use Rattle.cards.specs.Checking.{FirstWrong}
 use Rattle.cards.proofs.Checked.{part-in, part-behind, shaped, firsts-in}
-use Rattle.cards.proofs.Passing.{pass-on, pass-none, pass-all, row-stop, row-pass, front-wrong, behind-front}
+use Rattle.cards.proofs.Passing.{pass-all, row-stop, row-pass, front-wrong, behind-front}
 use Rattle.moves.specs.Halves.{posted}
 use Rattle.moves.specs.declared.Posted.the-variants.{Blocked, Post}
 use Rattle.moves.proofs.Posting.{posted-blocked, posted-post}
@@ -28,20 +26,10 @@ use Rattle.pairs.specs.Pair.{checked}
 use Rattle.certificates.specs.Certificate.{lies, firstHolds, setFits, cellHolds, nextHolds, wordHolds, wordsCertified, certified, Safe}
 use Rattle.certificates.specs.Judging.{HoldsBelow, partHolds}
 use Rattle.certificates.proofs.Words.{head-word, first-word, cell-word, next-word}
-use Rattle.certificates.proofs.Certified.{certified-kept, certified-controls}
+use Rattle.certificates.proofs.Certified.{certified-safe}
 
--- ---- states lie in the cell named
+-- ---- a first and a next word, by the set and the cell that the code has
 
-module _ (A : Automaton) (s c : ℕ) where
-  pub lies-none : c ≡ noCell → eqb s 0 ≡ lies A s c
-  unfolding lies
-  lies-none e = rw (eq-eqb c noCell e)
-
-  pub lies-some : (t : ℕ) → (c ≡ noCell → ⊥) → t ≡ A .set c → subset s t ≡ lies A s c
-  unfolding lies
-  lies-some t n e = rw (ne-eqb c noCell n, e)
-
--- a first and a next word, by the set and the cell that the code has
 module _ (g : Game) (A : Automaton) (s d : ℕ) where
   pub first-told : (j : ℕ) → s ≡ startSet g j → d ≡ A .begins j → firstHolds g A j ≡ lies A s d
   unfolding firstHolds
@@ -145,8 +133,5 @@ module _ (w k : List ℕ) where
   words-decide e = rw e
 
   -- accepted means safe
-  accepted-safe : certified w k ≡ Fine → Safe (game w) k
-  accepted-safe e = record { kept = certified-kept w k e; controls = certified-controls w k e }
-
   pub promised : (r : Checked) → r ≡ certified w k → (r ≡ certified w k) × (r ≡ Fine → Safe (game w) k)
-  promised r e = (e, λ f. accepted-safe (sym e ∙ f))
+  promised r e = (e, λ f. certified-safe w k (sym e ∙ f))

@@ -1,21 +1,20 @@
 -- The card of a yes meets the conditions.
 -- Assumes nothing.
-use mathlib.Core.Path.{_≡_, ap, _∙_}
+use mathlib.Core.Path.{_≡_, refl, sym, _∙_}
 use mathlib.Core.Logic.{⊎-elim}
-use mathlib.Core.Bool.{Bool, true, cond}
+use mathlib.Core.Bool.{true}
 use Prim.Native.Nat.{ℕ, _^_, _≤_, _<_}
 use native.Mathlib.Omega.{arith}
 use lib.Dec.{eqb}
 use lib.ListN.{length, getD}
-use borrow.Author.Tests.{eq-eqb, ne-eqb, eqb-true, eqb-false, lt-ltb}
-use Rattle.sets.specs.Mask.{subset}
+use borrow.Author.Tests.{eqb-true, eqb-false, lt-ltb}
 use Rattle.sets.proofs.Logic.{decided, and-intro}
 use Rattle.sets.proofs.Mask.{lowest as lowest-member}
 use Rattle.games.specs.Format.{maxCells}
 use Rattle.games.specs.Game.{Game, Accepted}
 use Rattle.games.specs.Step.{after, meets, lowest}
 use Rattle.games.specs.Verdict.{startSets, startSet, startsIn, settled, cells}
-use Rattle.games.specs.Automaton.{noCell, holding, chosen, card}
+use Rattle.games.specs.Automaton.{holding, chosen, card}
 use Rattle.games.proofs.Steps.{after-below, step-safe, meets-enabled, meets-after}
 use Rattle.games.proofs.Starts.{start-below, starts-at}
 use Rattle.games.proofs.Lasting.{lowest-meets}
@@ -23,22 +22,21 @@ use Rattle.games.proofs.Settling.{cells-hold}
 use Rattle.games.proofs.Holding.{holding-empty, held-by}
 use Rattle.games.proofs.Winning.{cell-settled, cell-step}
 use Rattle.certificates.specs.Certificate.{lies, firstHolds, setFits, cellHolds, nextHolds}
+use Rattle.certificates.proofs.Words.{lies-none, lies-some}
 use Rattle.certificates.proofs.Written.{Conditions}
 
 module _ (g : Game) (A : Accepted g) (few : length (cells g) ≤ maxCells) where
   -- a settled set lies in the cell that is named for it
   lies-named : (s : ℕ) → s < 2 ^ g .states → settled g s ≡ true → lies (card g) s (holding (cells g) s) ≡ true
-  unfolding lies card
+  unfolding card
   lies-named s below h =
       let c = holding (cells g) s in
       ⊎-elim
-      (λ e.
-      ap (λ (b : Bool). cond b (eqb s 0) (subset s (getD (cells g) c 0))) (eq-eqb c noCell (holding-empty (cells g) s (eqb-true s 0 e))) ∙ e)
+      (λ e. sym (lies-none (card g) s c (holding-empty (cells g) s (eqb-true s 0 e))) ∙ e)
       (λ e.
       let i = lowest-member (g .states) s below (eqb-false s 0 e) in
       let w = held-by (cells g) s _ (cells-hold g A s below ∙ h) (i .1) in
-      ap (λ (b : Bool). cond b (eqb s 0) (subset s (getD (cells g) c 0))) (ne-eqb c noCell (λ f. omega (arith, w .below)))
-      ∙ w .holds-it)
+      sym (lies-some (card g) s c (getD (cells g) c 0) (λ f. omega (arith, w .below)) refl) ∙ w .holds-it)
       (decided (eqb s 0))
 
   -- ---- a cell's action meets the step

@@ -2,7 +2,7 @@
 -- Assumes nothing.
 use mathlib.Core.Path.{_≡_, refl, sym, ap, subst, _∙_}
 use mathlib.Core.Logic.{⊎-elim}
-use mathlib.Core.Bool.{Bool, true, cond}
+use mathlib.Core.Bool.{true, cond}
 use mathlib.Core.List.{List}
 use Prim.Native.Nat.{ℕ, _<_}
 use native.Mathlib.Omega.{arith}
@@ -27,6 +27,7 @@ use Rattle.cards.proofs.Written.{Agree, card-long, written-checked, written-agr
 use Rattle.pairs.specs.Pair.{agree}
 use Rattle.pairs.proofs.Pairing.{fine-pair}
 use Rattle.certificates.specs.Certificate.{lies, firstHolds, cellHolds, nextHolds, spotHolds, wordHolds, wordsCertified, certified}
+use Rattle.certificates.proofs.Words.{lies-none}
 
 -- the conditions, over an automaton
 pub record Conditions (g : Game) (A : Automaton) : Type 0 where
@@ -43,11 +44,9 @@ module _ (g : Game) (A B : Automaton) (E : Agree B A (g .observations)) where
   same-lies : (s c d : ℕ) → c ≡ d → Named A d → lies A s d ≡ true → lies B s c ≡ true
   unfolding lies
   same-lies s c d e n h =
-      ap (λ (x : ℕ). cond (eqb x noCell) (eqb s 0) (subset s (B .set x))) e
+      ap (lies B s) e
       ∙ ⊎-elim (λ l. ap (λ (t : ℕ). cond (eqb d noCell) (eqb s 0) (subset s t)) (E .set-same d (outside d l)))
-      (λ f.
-      ap (λ (b : Bool). cond b (eqb s 0) (subset s (B .set d))) (eq-eqb d noCell f)
-      ∙ sym (ap (λ (b : Bool). cond b (eqb s 0) (subset s (A .set d))) (eq-eqb d noCell f)))
+      (λ f. sym (lies-none B s d f) ∙ lies-none A s d f)
       n
       ∙ h
 

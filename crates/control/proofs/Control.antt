@@ -1,5 +1,5 @@
 -- The card that solve wrote with a yes, held by a runner, is never refused on a play of its table under the actions that it gives; and
--- it is certified against its table.
+-- it is certified against its table. Both stay when it is trimmed.
 -- Assumes nothing.
 use mathlib.Core.Path.{_≡_, sym, subst}
 use mathlib.Core.List.{List}
@@ -13,15 +13,23 @@ use Rattle.runner.proofs.Control.{kept-controls}
 use Rattle.certificates.specs.Certificate.{certified}
 use Rattle.certificates.proofs.Written.{written-certified}
 use Rattle.certificates.proofs.Settled.{card-conditions}
+use Rattle.trimming.specs.Trim.{trimmed}
+use Rattle.trimming.proofs.Plays.{trimmed-kept}
+use Rattle.trimming.proofs.Certified.{trimmed-certified}
 use Rattle.solver.specs.Solve.{buffers, solved, written, Promise}
 use Rattle.solver.specs.declared.Answer.{Answer}
 use Rattle.solver.proofs.Promises.{card-fits, promised, yes-given}
-use Rattle.control.specs.Control.{Controlled, Certified}
+use Rattle.control.specs.Control.{Controlled, Certified, TrimmedSafe, TrimmedCertified}
 
 module _ (w work d : List ℕ) (r : Answer) (e : List ℕ) where
   -- on solve's promise
   pub promise-controls : Promise w work d r e → Controlled w r e
   promise-controls P settled m is = kept-controls (game w) (written w m e) (P .yes-card settled m is)
+
+  pub promise-trimmed-safe : Promise w work d r e → TrimmedSafe w r e
+  promise-trimmed-safe P settled m is =
+      let K = trimmed-kept (game w) (written w m e) (P .yes-card settled m is) in
+      record { kept = K; controls = kept-controls (game w) (trimmed (written w m e)) K }
 
   module _ (left : List ℕ) (is : leaves r (buffers left e) ≡ solved w work d) where
     -- and on what it does
@@ -35,3 +43,9 @@ module _ (w work d : List ℕ) (r : Answer) (e : List ℕ) where
         let F = card-fits w (y .fine) in
         subst (λ (k : List ℕ). certified w k ≡ Fine) (sym (y .front))
         (written-certified w (y .fine) (card (game w)) F (card-conditions (game w) (accepted w (y .fine)) (F .cells) (y .won)))
+
+    pub solved-trimmed-safe : TrimmedSafe w r e
+    solved-trimmed-safe = promise-trimmed-safe (promised w work d r e left is)
+
+    pub solved-trimmed-certified : TrimmedCertified w r e
+    solved-trimmed-certified settled m says = trimmed-certified w (written w m e) (solved-certified settled m says)

@@ -1,23 +1,19 @@
 -- Laws of the answer: the cell with the tightest set is the one named, its number is how many are below it, and what the answer says.
 -- Assumes nothing.
 use mathlib.Core.Path.{_≡_, refl, sym, ap, _∙_, subst}
-use mathlib.Core.Logic.{_⊎_, inl, inr, ⊎-elim}
+use mathlib.Core.Logic.{⊎-elim}
 use mathlib.Core.Bool.{true, false}
-use mathlib.Core.List.{List, [], _∷_}
-use Prim.Native.Nat.{ℕ, zero, suc, _+_, _-_, _*_, _≤_, _<_}
-use native.Mathlib.Nat.{le-of-suc-le-suc, lt-of-not-le, not-suc-le-zero}
+use mathlib.Core.List.{List}
+use Prim.Native.Nat.{ℕ, _*_, _≤_, _<_}
 use native.Mathlib.Omega.{arith}
-use lib.Dec.{eqb, ltb}
 use lib.ListN.{length, getD}
-use borrow.Author.Tests.{eqb-true, eqb-false, ltb-true, ltb-false}
 use Rattle.sets.specs.Mask.{subset}
 use Rattle.sets.specs.Bounded.{count}
-use Rattle.sets.specs.Family.{holds, Ascending, more}
+use Rattle.sets.specs.Family.{holds}
 use Rattle.sets.proofs.Logic.{decided, refuted}
-use Rattle.sets.proofs.Bounded.{count-pos, select-at, select-ascending}
-use Rattle.sets.proofs.Family.{at-mem}
+use Rattle.sets.proofs.Bounded.{count-up, count-past, select-at, select-count}
 use Rattle.families.specs.Bits.{laneSets, has, sets}
-use Rattle.families.proofs.Words.{count-raised, sets-count}
+use Rattle.families.proofs.Words.{sets-count}
 use Rattle.games.specs.declared.Cell.{Cell}
 use Rattle.games.specs.Automaton.{stateCount, holding}
 use Rattle.games.specs.Tightest.{Tightest}
@@ -29,36 +25,13 @@ use Rattle.index.proofs.Sizes.{has-below, listed-has}
 
 -- ---- a cell's number
 
-ascending-at : (l : List ℕ) → Ascending l → (i j : ℕ) → i < j → j < length l → getD l i 0 < getD l j 0
-ascending-at [] a i j h l = absurd (not-suc-le-zero l)
-ascending-at (s ∷ k) (more b a) i zero h l = absurd (not-suc-le-zero h)
-ascending-at (s ∷ k) (more b a) zero (suc j) h l = b (getD k j 0) (at-mem k j (le-of-suc-le-suc l))
-ascending-at (s ∷ k) (more b a) (suc i) (suc j) h l = ascending-at k a i j (le-of-suc-le-suc h) (le-of-suc-le-suc l)
-
-apart : (i j : ℕ) → (i ≡ j) ⊎ ((i < j) ⊎ (j < i))
-apart i j =
-    ⊎-elim (λ e. inl (eqb-true i j e))
-    (λ e. ⊎-elim (λ b. inr (inl (ltb-true i j b))) (λ b. inr (inr (omega (arith, ltb-false i j b, eqb-false i j e)))) (decided (ltb i j))) (decided (eqb i j))
-
 module _ (tops : List ℕ) where
   abbrev all : ℕ
   all = length tops * laneSets
 
-  -- the list ascends
-  rises : (i j : ℕ) → i < j → j < length (sets tops) → getD (sets tops) i 0 < getD (sets tops) j 0
-  unfolding sets
-  rises i j h l = ascending-at (sets tops) (select-ascending all (has tops)) i j h l
-
   -- a set of the family stands in the list, at the place that is how many are below it
   pub place-lt : (s : ℕ) → has tops s ≡ true → count s (has tops) < length (sets tops)
-  place-lt s h =
-      let l = has-below tops s h in
-      let e : s + (all - s) ≡ all = omega (arith, l) in
-      let p = count-pos (all - s) (λ t. has tops (s + t)) 0 (omega (arith, l)) (ap (has tops) zero ∙ h) in
-      omega (arith, sets-count tops, ap (λ (x : ℕ). count x (has tops)) e, count-raised s (all - s) (has tops), p)
-    where
-      zero : {s : ℕ} → s + 0 ≡ s
-      zero = omega arith
+  place-lt s h = omega (arith, sets-count tops, count-past s all (has tops) (has-below tops s h) h)
 
   pub place-at : (s : ℕ) → has tops s ≡ true → getD (sets tops) (count s (has tops)) 0 ≡ s
   unfolding sets
@@ -66,14 +39,8 @@ module _ (tops : List ℕ) where
 
   -- a cell's number is how many are below it
   pub place-is : (c : ℕ) → c < length (sets tops) → count (getD (sets tops) c 0) (has tops) ≡ c
-  place-is c l =
-      let s : ℕ = getD (sets tops) c 0 in
-      let h = listed-has tops c l in
-      let k : ℕ = count s (has tops) in
-      let e : getD (sets tops) k 0 ≡ s = place-at s h in
-      ⊎-elim (λ (d : k ≡ c). d)
-      (λ w. ⊎-elim (λ b. absurd (omega (arith, e, rises k c b l))) (λ b. absurd (omega (arith, e, rises c k b (place-lt s h)))) w)
-      (apart k c)
+  unfolding sets
+  place-is c l = select-count all (has tops) c (omega (arith, sets-count tops))
 
   -- the tightest set is that of the tightest cell
   pub tightest-cell : (t s : ℕ) → TightestSet tops t s → Tightest (sets tops) t (count s (has tops))
@@ -83,10 +50,9 @@ module _ (tops : List ℕ) where
         is-cell = place-lt s (w .is-cell);
         holds-it = subst (λ (x : ℕ). subset t x ≡ true) (sym is) (w .holds-it);
         fewest = λ d l b. subst (λ (x : ℕ). stateCount x ≤ stateCount (getD (sets tops) d 0)) (sym is) (w .fewest (getD (sets tops) d 0) (listed-has tops d l) b);
-        lowest = λ d l b e. le-of-suc-le-suc (lt-of-not-le (λ (less : suc d ≤ count s (has tops)).
-            let before = rises d (count s (has tops)) less (place-lt s (w .is-cell)) in
-            let bound = w .lowest (getD (sets tops) d 0) (listed-has tops d l) b (e ∙ ap stateCount is) in
-            omega (arith, before, bound, is)));
+        lowest = λ d l b e.
+            let u = getD (sets tops) d 0 in
+            omega (arith, count-up s u (has tops) (w .lowest u (listed-has tops d l) b (e ∙ ap stateCount is)), place-is d l);
       }
 
 -- ---- the answer

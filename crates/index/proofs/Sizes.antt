@@ -11,9 +11,9 @@ use lib.ListN.{length, getD, List·getD-eq-default}
 use Rattle.sets.specs.Mask.{member, subset}
 use Rattle.sets.specs.Bounded.{count}
 use Rattle.sets.proofs.Logic.{clash}
-use Rattle.sets.proofs.Bounded.{count-mono, count-same, mem-select, select-mem}
+use Rattle.sets.proofs.Bounded.{count-mono, count-same, select-mem}
 use Rattle.sets.proofs.Mask.{member-zero, subset-member, ext}
-use Rattle.sets.proofs.Family.{at-mem}
+use Rattle.sets.proofs.Family.{select-in}
 use Rattle.families.specs.Bits.{laneStates, laneSets, maxLanes, has, sets}
 use Rattle.families.proofs.Lanes.{by-lane}
 use Rattle.families.proofs.Words.{ones-count}
@@ -64,7 +64,7 @@ module _ (tops : List ℕ) where
   -- each set of the list is in it
   pub listed-has : (c : ℕ) → c < length (sets tops) → has tops (getD (sets tops) c 0) ≡ true
   unfolding sets
-  listed-has c l = mem-select (length tops * laneSets) (has tops) (getD (sets tops) c 0) (at-mem (sets tops) c l) .1
+  listed-has c l = select-in (length tops * laneSets) (has tops) c l .1
 
   -- and each set in it is listed
   pub has-listed : (s : ℕ) → has tops s ≡ true → List·Memᴰ s (sets tops)

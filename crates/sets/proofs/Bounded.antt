@@ -7,8 +7,10 @@ use mathlib.Core.List.{List, [], _∷_, _++_, append-nil, append-assoc, List·Me
 use Prim.Native.Nat.{ℕ, zero, suc, _+_, _≤_, _<_, zero-le}
 use native.Mathlib.Nat.{le-refl, le-step, le-trans, le-antisymm, le-of-suc-le-suc, lt-of-not-le, not-suc-le-zero, eq-or-lt-of-le}
 use native.Mathlib.Numerals.{add-one}
+use native.Mathlib.Decide.{le-ind}
 use native.Mathlib.Omega.{arith}
 use lib.ListN.{length, length-append, getD}
+use lib.Seq.{getD-append-seam}
 use Rattle.sets.specs.Bounded.{all, any, nothing, found, first, count, select}
 use Rattle.sets.specs.Family.{Ascending, none, more}
 use Rattle.sets.proofs.Logic.{decided, clash, refuted, same-truth, and-left, and-right, and-intro, and-false-cases, or-cases, or-false-left, or-false-right}
@@ -218,6 +220,28 @@ count-le (suc n) p =
     let l : count n p ≤ n = count-le n p in
     ⊎-elim (λ e. omega (arith, count-hit-suc n p e)) (λ e. omega (arith, count-skip-suc n p e)) (decided (p n))
 
+-- a larger bound counts no fewer
+pub count-up : (n m : ℕ) (p : ℕ → Bool) → n ≤ m → count n p ≤ count m p
+count-up n m p l =
+    le-ind (λ (k : ℕ). count n p ≤ count k p) (le-refl (count n p))
+    (λ k b h. ⊎-elim (λ e. omega (arith, count-hit-suc k p e)) (λ e. omega (arith, count-skip-suc k p e)) (decided (p k))) m l
+
+-- and more, where a number passes that the lower bound leaves out
+pub count-past : (n m : ℕ) (p : ℕ → Bool) → n < m → p n ≡ true → count n p < count m p
+count-past n m p l e = omega (arith, count-hit-suc n p e, count-up (suc n) m p l)
+
+-- the number that passes and before which i are counted
+count-at : (m : ℕ) (p : ℕ → Bool) (i : ℕ) → i < count m p → (n : ℕ) × (n < m) × (p n ≡ true) × (count n p ≡ i)
+count-at zero p i l = absurd (omega (arith, count-zero p))
+count-at (suc m) p i l =
+    let lower : i < count m p → (n : ℕ) × (n < suc m) × (p n ≡ true) × (count n p ≡ i) =
+    λ h. let w = count-at m p i h in (w .0, le-step (w .1), w .2, w .3) in
+    ⊎-elim
+    (λ e. let k : i < suc (count m p) = omega (arith, count-hit-suc m p e) in
+    ⊎-elim (λ f. (m, le-refl (suc m), e, sym f)) lower (eq-or-lt-of-le (le-of-suc-le-suc k)))
+    (λ e. lower (omega (arith, count-skip-suc m p e)))
+    (decided (p m))
+
 -- tests equal below the bound
 pub count-ext : (n : ℕ) (p q : ℕ → Bool) → ((i : ℕ) → i < n → p i ≡ q i) → count n p ≡ count n q
 unfolding count
@@ -411,10 +435,6 @@ select-lowest n (suc m) p q l t f low other =
 
 -- ---- where a number stands in the list
 
-at-seam : (l : List ℕ) (x : ℕ) (r : List ℕ) → getD (l ++ (x ∷ r)) (length l) 0 ≡ x
-at-seam [] x r = refl
-at-seam (a ∷ l) x r = at-seam l x r
-
 -- what was selected below a bound stands in front of what is selected below a larger one
 pub select-front : (n m : ℕ) (p : ℕ → Bool) → n ≤ m → (r : List ℕ) × (select m p ≡ select n p ++ r)
 select-front n zero p l = ([], ap (λ (k : ℕ). select k p) (sym (le-antisymm l zero-le)) ∙ sym (append-nil (select n p)))
@@ -433,4 +453,10 @@ select-at n m p l e =
     let w = select-front (suc n) m p l in
     subst (λ (k : ℕ). getD (select m p) k 0 ≡ n) (select-length n p)
     (ap (λ (l : List ℕ). getD l (length (select n p)) 0) (w .1 ∙ ap (λ (l : List ℕ). l ++ w .0) (select-hit-suc n p e) ∙ append-assoc (select n p) (n ∷ []) (w .0))
-    ∙ at-seam (select n p) n (w .0))
+    ∙ getD-append-seam (select n p) n (w .0) 0)
+
+-- and before the number at place i as many are counted
+pub select-count : (m : ℕ) (p : ℕ → Bool) (i : ℕ) → i < count m p → count (getD (select m p) i 0) p ≡ i
+select-count m p i l =
+    let w = count-at m p i l in
+    ap (λ (n : ℕ). count n p) (ap (λ (k : ℕ). getD (select m p) k 0) (sym (w .3)) ∙ select-at (w .0) m p (w .1) (w .2)) ∙ w .3

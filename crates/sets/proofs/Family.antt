@@ -14,7 +14,7 @@ use lib.Seq.{take-suc}
 use lib.Pow.{pow-pos}
 use borrow.Author.Tests.{eqb-true, eqb-false, eq-eqb, not-true}
 use Rattle.sets.specs.Mask.{common, subset, member}
-use Rattle.sets.specs.Bounded.{all}
+use Rattle.sets.specs.Bounded.{all, select}
 use Rattle.sets.specs.Family.{Family, DownClosed, same, isMaximal, maximal, listed, holds, cut, cuts, join, meet, Antichain, Ascending}
 use Rattle.sets.proofs.Logic.{decided, clash, refuted, affirmed, same-truth, and-left, and-right, and-intro, or-cases, or-left, or-right, false-not, implies-intro, implies-at, implies-fails, beq-same, same-beq, beq-differ}
 use Rattle.sets.proofs.Bounded.{all-at, all-intro, all-fails, mem-select, select-mem, select-ascending, select-length, count-le, ascending-same}
@@ -164,6 +164,10 @@ pub at-mem : (l : List ℕ) (i : ℕ) → i < length l → List·Memᴰ (getD l 
 at-mem [] i h = absurd (not-suc-le-zero h)
 at-mem (u ∷ l) zero h = List·Memᴰ·head refl
 at-mem (u ∷ l) (suc i) h = List·Memᴰ·tail (at-mem l i (le-of-suc-le-suc h))
+
+-- what stands at an index of the numbers selected is below the bound, and passes
+pub select-in : (m : ℕ) (p : ℕ → Bool) (i : ℕ) → i < length (select m p) → (getD (select m p) i 0 < m) × (p (getD (select m p) i 0) ≡ true)
+select-in m p i l = mem-select m p (getD (select m p) i 0) (at-mem (select m p) i l)
 
 -- a member stands at some index
 pub mem-at : (l : List ℕ) (t : ℕ) → List·Memᴰ t l → (i : ℕ) × (i < length l) × (getD l i 0 ≡ t)

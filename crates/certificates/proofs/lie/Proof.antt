@@ -3,7 +3,7 @@
 use mathlib.Core.Path.{_∙_}
 use borrow.Author.Needs.{needs}
 use Rattle.cards.proofs.Running.{cell-below}
-use Rattle.certificates.proofs.Judged.{lies-none, lies-some}
+use Rattle.certificates.proofs.Words.{lies-none, lies-some}
 use Rattle.certificates.proofs.lie.Statement.{statement}
 use Rattle.certificates.proofs.lie.Tie as tie
 

@@ -1,0 +1,9 @@
+pub mod Reaching
+pub mod Numbers
+pub mod Trimmed
+pub mod Running
+pub mod Twice
+pub mod Plays
+pub mod Certified
+pub mod Promised
+pub mod Rows
