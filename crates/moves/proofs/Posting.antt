@@ -8,12 +8,11 @@ use native.Mathlib.Omega.{arith}
 use Rattle.sets.specs.Mask.{common}
 use Rattle.sets.specs.Bounded.{all}
 use Rattle.sets.specs.Family.{Family}
-use Rattle.sets.proofs.Logic.{decided, clash, refuted, and-false-left}
+use Rattle.sets.proofs.Logic.{decided, refuted, and-false-left}
 use Rattle.sets.proofs.Mask.{unionOver-lt}
 use Rattle.games.specs.Game.{Game, Accepted}
 use Rattle.games.specs.Step.{enabledAt, post, after, meets}
-use Rattle.games.proofs.Steps.{enabled-at}
-use Rattle.walk.proofs.Promise.{told}
+use Rattle.walk.proofs.Promise.{told, stops-not}
 use Rattle.walk.specs.Promise.{Tells}
 use Rattle.walk.specs.Walk.{walked}
 use Rattle.walk.specs.declared.Walked.{Walked}
@@ -43,7 +42,7 @@ module _ (g : Game) (s a : ℕ) (r : Posted) (is : r ≡ posted g s a) where
 told-posted : (g : Game) (s a : ℕ) (r : Walked) → Tells g s a r → posted g s a ≡ unnumbered r
 unfolding posted
 told-posted g s a (walk.Post u c) t = rw (t .enabled-at, t .successors)
-told-posted g s a (walk.Blocked i c) t = rw (refuted (enabledAt g s a) (λ h. clash (enabled-at g s a h (i .0) (t .state) (t .inside)) (t .blocked)))
+told-posted g s a (walk.Blocked i c) t = rw (stops-not g a s (i .0) c t)
 
 pub as-walked : (g : Game) → AsWalked g
 as-walked g s a = told-posted g s a (walked g s a) (told g a s)

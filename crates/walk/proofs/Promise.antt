@@ -124,10 +124,11 @@ module _ (g : Game) (a : ℕ) where
     pub post-is : (u c : ℕ) → walked g s a ≡ Post u c → (enabledAt g s a ≡ true) × (u ≡ post g s a)
     post-is u c e = let t = subst (Tells g s a) e told in (t .enabled-at, t .successors)
 
+    pub stops-not : (i c : ℕ) → Stops g s a i c → enabledAt g s a ≡ false
+    stops-not i c t = refuted (enabledAt g s a) (λ h. clash (enabled-at g s a h i (t .state) (t .inside)) (t .blocked))
+
     pub blocked-is : (i c : ℕ) → walked g s a ≡ Blocked (record { 0 = i }) c → enabledAt g s a ≡ false
-    blocked-is i c e =
-        let t = subst (Tells g s a) e told in
-        refuted (enabledAt g s a) (λ h. clash (enabled-at g s a h i (t .state) (t .inside)) (t .blocked))
+    blocked-is i c e = stops-not i c (subst (Tells g s a) e told)
 
 only : (g : Game) (s a : ℕ) (r : Walked) → Tells g s a r → r ≡ walked g s a
 only g s a (Post u c) t = ap₂ Post (t .successors) (t .looked) ∙ sym (walked-passes g a s (t .enabled-at))
