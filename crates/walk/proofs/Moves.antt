@@ -1,10 +1,9 @@
 -- What one state comes to: by whether the action is enabled there, and back.
 -- Assumes nothing.
-use mathlib.Core.Path.{_≡_, refl, sym, ap, _∙_}
+use mathlib.Core.Path.{_≡_, refl, ap, _∙_}
 use mathlib.Core.Bool.{Bool, true, false, cond}
-use Prim.Native.Nat.{ℕ, _<_}
+use Prim.Native.Nat.{ℕ}
 use native.Mathlib.Omega.{arith}
-use Rattle.sets.specs.Mask.{member}
 use Rattle.sets.proofs.Mask.{member-below}
 use Rattle.games.specs.Game.{Game, enabled}
 use Rattle.games.proofs.Enabled.{enabled-parked}

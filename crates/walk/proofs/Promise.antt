@@ -18,7 +18,7 @@ use Rattle.games.proofs.Steps.{enabled-at, enabled-intro}
 use Rattle.walk.specs.declared.Walked.{Walked}
 use Rattle.walk.specs.declared.Walked.the-variants.{Blocked, Post}
 use Rattle.walk.specs.Walk.{members, along, walked}
-use Rattle.walk.specs.Promise.{Passes, Stops, Tells, Walks}
+use Rattle.walk.specs.Promise.{Stops, Tells, Walks}
 use Rattle.walk.proofs.Moves.{moved-enabled, moved-blocked}
 use Rattle.walk.proofs.Walks.{along-none, along-blocked, along-more}
 
@@ -98,7 +98,6 @@ module _ (g : Game) (a : ℕ) where
     blockedAt i = member s i && not (enabled g i a)
 
     pub told : Tells g s a (walked g s a)
-    unfolding enabledAt
     told =
         ⊎-elim
         (λ w. passes (enabled-intro g s a (λ i l. free i (w .1 i l))))

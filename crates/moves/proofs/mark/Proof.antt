@@ -2,7 +2,6 @@
 -- Assumes nothing.
 use borrow.Author.Needs.{needs}
 use mathlib.Core.Path.{sym, ap, _∙_}
-use Rattle.games.specs.Words.{game}
 use Rattle.moves.specs.Halves.{markOf, mark}
 use Rattle.moves.proofs.mark.Statement.{statement}
 use Rattle.moves.proofs.mark.Tie as tie

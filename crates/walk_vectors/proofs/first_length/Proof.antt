@@ -1,7 +1,6 @@
 -- `first_length` meets its contract: a table has words, and no more are taken than there are.
 -- Assumes nothing.
 use mathlib.Core.Path.{_≡_, ap}
-use Prim.Native.Nat.{ℕ}
 use native.Mathlib.Omega.{arith}
 use borrow.Author.Needs.{needs}
 use Rattle.games.specs.declared.Shape.{Shape}
