@@ -277,6 +277,12 @@ cell-set a x e =
     let s = eqb x (word kindCell (lowField x) 0 (actionField x)) in
     ltb-true (lowField x) maxSets (and-right s (ltb (lowField x) maxSets) (and-left (s && ltb (lowField x) maxSets) (ltb (actionField x) a) e))
 
+cell-shape : (a x : ℕ) → cellFits a x ≡ true → x ≡ word kindCell (lowField x) 0 (actionField x)
+unfolding cellFits
+cell-shape a x e =
+    let s = eqb x (word kindCell (lowField x) 0 (actionField x)) in
+    eqb-true x (word kindCell (lowField x) 0 (actionField x)) (and-left s (ltb (lowField x) maxSets) (and-left (s && ltb (lowField x) maxSets) (ltb (actionField x) a) e))
+
 pub cell-action : (a x : ℕ) → cellFits a x ≡ true → actionField x < a
 unfolding cellFits
 cell-action a x e =
@@ -315,6 +321,11 @@ module _ (w : List ℕ) (e : checked w ≡ Fine) where
         begins-named = λ j l. named kindFirst m j _ (sym (word-begins w j l) ∙ right (firstPlace j) (first-within m os j l));
         next-named = λ c j l k. named kindNext m j _ (sym (word-next w c j k) ∙ right (nextPlace os c j) (next-within m os c j l k));
       }
+
+  -- a cell's own word is that of its set and its action
+  pub own-word : (c : ℕ) → c < m → getD w (cellPlace os c) 0 ≡ word kindCell (automaton w .set c) 0 (automaton w .action c)
+  unfolding automaton
+  own-word c l = cell-shape (cardActions w) (getD w (cellPlace os c) 0) (cell-right c l)
 
   pub shaped : Shaped w
   shaped = let s = sound w e in record { head = s .head; long = s .long }

@@ -4,3 +4,4 @@ pub mod Checked
 pub mod Running
 pub mod Written
 pub mod Runs
+pub mod Parts

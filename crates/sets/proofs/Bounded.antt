@@ -279,6 +279,21 @@ count-strict (suc n) p q h i l f t =
     (decided (p n)))
     (eq-or-lt-of-le (le-of-suc-le-suc l))
 
+-- one more, where q passes one that p does not and they agree on the others
+pub count-one : (n : ℕ) (p q : ℕ → Bool) (i : ℕ) → i < n → p i ≡ false → q i ≡ true → ((j : ℕ) → j < n → (j ≡ i → ⊥) → p j ≡ q j) → count n q ≡ count n p + 1
+count-one zero p q i l f t same = absurd (not-suc-le-zero l)
+count-one (suc n) p q i l f t same =
+    ⊎-elim
+    (λ e.
+    let below : count n p ≡ count n q = count-ext n p q (λ j k. same j (le-step k) (λ z. omega arith)) in
+    omega (arith, count-skip-suc n p (subst (λ (k : ℕ). p k ≡ false) e f), count-hit-suc n q (subst (λ (k : ℕ). q k ≡ true) e t)))
+    (λ lt.
+    let below : count n q ≡ count n p + 1 = count-one n p q i lt f t (λ j k z. same j (le-step k) z) in
+    let here : p n ≡ q n = same n (le-refl (suc n)) (λ z. omega arith) in
+    ⊎-elim (λ g. omega (arith, count-hit-suc n p g, count-hit-suc n q (sym here ∙ g))) (λ g. omega (arith, count-skip-suc n p g, count-skip-suc n q (sym here ∙ g)))
+    (decided (p n)))
+    (eq-or-lt-of-le (le-of-suc-le-suc l))
+
 -- one passes: not 0
 pub count-pos : (n : ℕ) (p : ℕ → Bool) (i : ℕ) → i < n → p i ≡ true → 0 < count n p
 count-pos n p i l t =

@@ -7,9 +7,9 @@ use Prim.Native.Nat.{ℕ, zero, suc, _+_, _-_, _*_, _≤_, _<_}
 use native.Mathlib.Nat.{le-refl, le-step, eq-or-lt-of-le, le-of-suc-le-suc, not-suc-le-zero, zero-mul, suc-mul, mul-le-mul-right}
 use native.Mathlib.Numerals.{add-one}
 use native.Mathlib.Omega.{arith}
-use lib.ListN.{length, getD, set, take, drop, length-append, length-drop, List·getD-append}
-use lib.Seq.{drop-cons, take-suc-set, set-at, getD-append-add, getD-drop}
-use Rattle.sets.specs.Bounded.{gather, filledBy}
+use lib.ListN.{length, getD, set, take, drop, replicate, length-append, length-drop, List·getD-append}
+use lib.Seq.{drop-cons, drop-at, take-suc-set, length-take-le, set-at, getD-append-add, getD-drop}
+use Rattle.sets.specs.Bounded.{gather, filledBy, fill}
 
 -- ---- pieces of the same length, one behind the other
 
@@ -97,3 +97,10 @@ module _ (f : ℕ → ℕ) where
 pub filled-ext : (f g : ℕ → ℕ) (k : ℕ) (d : List ℕ) → ((i : ℕ) → i < k → f i ≡ g i) → filledBy k f d ≡ filledBy k g d
 filled-ext f g k d h =
     ap (λ (l : List ℕ). l ++ drop k d) (gather-ext k (λ i. f i ∷ []) (λ i. g i ∷ []) (λ i l. ap (λ (x : ℕ). x ∷ []) (h i l)))
+
+-- ---- a front set to 0
+
+-- it does not depend on what a callee left there
+pub cleared : (need : ℕ) (x work e : List ℕ) → length x ≡ length (take need work) → need ≤ length work → e ≡ fill need 0 (x ++ drop need work) → e ≡ fill need 0 work
+cleared need x work e h b is =
+    is ∙ ap (λ (l : List ℕ). replicate need 0 ++ l) (drop-at x (drop need work) need (h ∙ length-take-le need work b))

@@ -6,8 +6,7 @@ use mathlib.Core.Bool.{true}
 use mathlib.Core.List.{List, _++_}
 use Prim.Native.Nat.{ℕ, _+_, _^_, _≤_, _<_}
 use lib.Dec.{ltb}
-use lib.ListN.{length, take, drop, replicate}
-use lib.Seq.{drop-at, length-take-le}
+use lib.ListN.{length, drop}
 use borrow.Author.Tests.{lt-ltb, le-ltb, ltb-true, ltb-false}
 use Rattle.sets.specs.Bounded.{fill}
 use Rattle.sets.proofs.Logic.{decided}
@@ -73,11 +72,6 @@ module _ (w work d : List ℕ) where
         let n = workWords (game w .states) in
         ap₂ (λ (x : Leaves Answer (List ℕ)) (y : List ℕ). leaves (x .answer) (buffers y (x .left))) by (cleared ∙ ap (λ (k : ℕ). fill k 0 work) is)
         ∙ sym (fine-is ∙ rw (le-ltb (length work) n (subst (λ (k : ℕ). k ≤ length work) is h)))
-
--- the zeroed front does not depend on what the search left there
-pub cleared : (need : ℕ) (x work e : List ℕ) → length x ≡ length (take need work) → need ≤ length work → e ≡ fill need 0 (x ++ drop need work) → e ≡ fill need 0 work
-cleared need x work e h b is =
-    is ∙ ap (λ (l : List ℕ). replicate need 0 ++ l) (drop-at x (drop need work) need (h ∙ length-take-le need work b))
 
 -- ---- the ways in which solve ends, with the answer r and the words e in the card room
 

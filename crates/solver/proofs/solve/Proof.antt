@@ -6,6 +6,7 @@ use mathlib.Core.Path.{_≡_, sym, ap, _∙_, subst}
 use Prim.Native.Nat.{ℕ, _*_, _≤_}
 use native.Mathlib.Omega.{arith}
 use lib.Seq.{length-take-le}
+use Rattle.sets.proofs.Fills.{cleared}
 use Rattle.games.specs.Format.{maxStates}
 use Rattle.games.specs.Words.{game}
 use Rattle.games.specs.declared.Checked.the-variants.{Fine}
@@ -13,7 +14,7 @@ use Rattle.tables.specs.Check.{checked}
 use Rattle.tables.proofs.Bounds.{few-states, few-sets}
 use Rattle.tables.proofs.Checks.{sized}
 use Rattle.solver.specs.Solve.{workWords}
-use Rattle.solver.proofs.Answers.{size-is, solved-stopped, solved-short, solved-done, cleared}
+use Rattle.solver.proofs.Answers.{size-is, solved-stopped, solved-short, solved-done}
 use Rattle.solver.proofs.Promises.{promised}
 use Rattle.solver.proofs.solve.Statement.{statement}
 use Rattle.solver.proofs.solve.Tie as tie

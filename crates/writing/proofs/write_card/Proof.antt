@@ -18,12 +18,13 @@ use Rattle.games.proofs.Limits.{parts-below}
 use Rattle.cards.specs.Card.{cellPlace}
 use Rattle.tables.proofs.Bounds.{few-observations}
 use Rattle.tables.proofs.Checks.{sized, accepted}
-use Rattle.writing.proofs.Carding.{Carded, carded-none, carded-room, carded-part, carded-more, carded-end, front-within, fronted-same, fronted-room, carded-whole, cell-of}
+use Rattle.cards.proofs.Parts.{Carded, carded-none, carded-room, carded-part, carded-more, front-within, fronted-same, fronted-room, carded-whole}
+use Rattle.writing.proofs.Carding.{listedWords, set-words-length, front-words-length, card-is, cell-of}
 use Rattle.writing.proofs.write_card.Statement.{statement}
 use Rattle.writing.proofs.write_card.Tie as tie
 
 abbrev Inv-loop : tie.InvT-loop
-Inv-loop table low high family tops layers masks base work₀ count card₀ o front part c₀ work card c = (o ≤ maxObservations) × (length (setsOf tops) ≤ maxCells) × Carded (game table) (setsOf tops) card₀ c card × (length work ≡ length work₀) × Noted tops base work
+Inv-loop table low high family tops layers masks base work₀ count card₀ o front part c₀ work card c = (o ≤ maxObservations) × (length (setsOf tops) ≤ maxCells) × Carded (game table .observations) (length (setsOf tops)) (listedWords (game table) (setsOf tops)) card₀ c card × (length work ≡ length work₀) × Noted tops base work
 
 abbrev μ-loop : tie.MeasureT-loop
 μ-loop table low high family tops layers masks base work₀ count card₀ o front part c₀ work card c = count - c
@@ -41,6 +42,15 @@ played p = game (entry p .args .table .now)
 
 abbrev listed : Lengths → List ℕ
 listed p = setsOf (entry p .args .tops .now)
+
+abbrev seen : Lengths → ℕ
+seen p = played p .observations
+
+abbrev many : Lengths → ℕ
+many p = length (listed p)
+
+abbrev parts : Lengths → ℕ → List ℕ
+parts p = listedWords (played p) (listed p)
 
 front-is : (p : Lengths) → p .before .front-length .result ≡ frontLength (played p .observations)
 front-is p = p .before .front-length .ensures ∙ ap frontLength (p .before .before .observations .ensures)
@@ -81,7 +91,7 @@ room : (c : Placed) → c .cell-place .result + lengths (turn c) .part-length .r
 room c =
     let t = turn c in
     let p = lengths t in
-    carded-room (played p) (listed p) _ (t .loop .c) (t .loop .card) (t .loop .inv .2) (more c) (c .cell-place .result) (p .part-length .result) (place-is c) (part-is p)
+    carded-room (seen p) (many p) (parts p) _ (t .loop .c) (t .loop .card) (t .loop .inv .2) (more c) (c .cell-place .result) (p .part-length .result) (place-is c) (part-is p)
 
 small : (c : Placed) → c .cell-place .result + lengths (turn c) .part-length .result < 2 ^ 21
 small c =
@@ -122,8 +132,8 @@ loop-holds c =
     let l = start .pre .0 in (
       omega (arith, p .before .before .observations .ensures, few-observations w (sized w (l .fine))),
       l .index .cells-few,
-      carded-none (played p) (listed p) _
-          (fronted-room (played p) (listed p) (l .are) (p .before .front-length .result) (front-is p) (start .args .card .now) (wrote .write-front .last .1 .1 .1 .1 .1 .1 .1 .1 .0) (wrote .write-front .ensures .0) (room-for p)),
+      carded-none (seen p) (many p) (parts p) _
+          (fronted-room (seen p) (many p) (parts p) _ (p .before .front-length .result) (front-is p) (front-words-length (played p)) (start .args .card .now) (wrote .write-front .last .1 .1 .1 .1 .1 .1 .1 .1 .0) (wrote .write-front .ensures .0) (room-for p)),
       refl,
       wrote .write-front .ensures .1,
     )
@@ -140,7 +150,7 @@ write-cell-requires c κs =
       t .loop .inv .4,
       start .pre .2,
       subst (SettledSet (played p)) (sym (read at)) (cell-of (played p) (accepted w (l .fine)) (listed p) (l .are) (t .loop .c) (more at)),
-      carded-part (played p) (listed p) _ (t .loop .c) (t .loop .card) (t .loop .inv .2) (more at) (at .cell-place .result) (p .part-length .result) (place-is at) (part-is p),
+      carded-part (seen p) (many p) (parts p) _ (t .loop .c) (t .loop .card) (t .loop .inv .2) (more at) (at .cell-place .result) (p .part-length .result) (place-is at) (part-is p),
     )
 
 loop-again : tie.Need-loop-again Inv-loop μ-loop
@@ -151,8 +161,8 @@ loop-again c =
     let p = lengths t in (
       t .loop .inv .0,
       t .loop .inv .1,
-      carded-more (played p) (listed p) _ (t .loop .c) (t .loop .card) (t .loop .inv .2) (more at) (at .cell-place .result) (p .part-length .result) (place-is at) (part-is p)
-          (wrote .write-cell .last .1 .1 .1 .1 .1 .1 .1 .1 .1 .1 .0) (wrote .write-cell .ensures .0 ∙ ap (setWords (played p)) (read at)),
+      carded-more (seen p) (many p) (parts p) _ (t .loop .c) (t .loop .card) (t .loop .inv .2) (more at) (at .cell-place .result) (p .part-length .result) (place-is at) (part-is p)
+          (wrote .write-cell .last .1 .1 .1 .1 .1 .1 .1 .1 .1 .1 .0) (wrote .write-cell .ensures .0 ∙ ap (setWords (played p)) (read at)) (set-words-length (played p) (getD (listed p) (t .loop .c) 0)),
       wrote .write-cell .kept .1 .1 .1 .1 .1 .1 .1 .1 .0 ∙ t .loop .inv .3,
       wrote .write-cell .ensures .1,
     )
@@ -167,7 +177,7 @@ same-length-2 c =
     let p = lengths t in
     let start = entry p in
     t .loop .inv .2 .same
-    ∙ fronted-same (played p) (listed p) (start .pre .0 .are) (p .before .front-length .result) (front-is p) (start .args .card .now) (wrote .write-front .last .1 .1 .1 .1 .1 .1 .1 .1 .0) (wrote .write-front .ensures .0) (room-for p)
+    ∙ fronted-same (seen p) (many p) (parts p) _ (p .before .front-length .result) (front-is p) (front-words-length (played p)) (start .args .card .now) (wrote .write-front .last .1 .1 .1 .1 .1 .1 .1 .1 .0) (wrote .write-front .ensures .0) (room-for p)
 
 returns : tie.Need-returns Inv-loop μ-loop
 returns c =
@@ -175,8 +185,9 @@ returns c =
     let wrote = fronted t in
     let p = lengths t in
     let start = entry p in
-    carded-whole (played p) (listed p) (start .pre .0 .are) (p .before .front-length .result) (front-is p) (start .args .card .now) (wrote .write-front .last .1 .1 .1 .1 .1 .1 .1 .1 .0) (wrote .write-front .ensures .0) (room-for p) (t .loop .card)
-    (carded-end (played p) (listed p) _ (t .loop .c) (t .loop .card) (t .loop .inv .2) (omega (arith, c .loop-test .left, count-is p)))
+    carded-whole (seen p) (many p) (parts p) _ (p .before .front-length .result) (front-is p) (front-words-length (played p)) (start .args .card .now) (wrote .write-front .last .1 .1 .1 .1 .1 .1 .1 .1 .0) (wrote .write-front .ensures .0) (room-for p)
+    (t .loop .c) (t .loop .card) (t .loop .inv .2) (omega (arith, c .loop-test .left, count-is p))
+    ∙ ap (λ (d : List ℕ). d ++ drop (cardLength (many p) (seen p)) (start .args .card .now)) (card-is (played p) (listed p) (start .pre .0 .are))
     ∙ ap (λ (n : ℕ). cardOf (played p) ++ drop (cardLength n (played p .observations)) (start .args .card .now)) (sym (count-is p))
 
 pub write-card-spec : {M : Type 1} → statement M

@@ -26,7 +26,7 @@ use Rattle.games.proofs.Holding.{holding-small}
 use Rattle.tables.proofs.Checks.{sized, accepted}
 use Rattle.tables.proofs.Bounds.{few-observations, few-actions, few-sets}
 use Rattle.games.proofs.Steps.{shown-below}
-use Rattle.writing.proofs.Words.{Filled, filled-none, filled-more, filled-end}
+use Rattle.cards.proofs.Parts.{Filled, filled-none, filled-more, filled-end}
 use Rattle.index.specs.Index.{Noted}
 use Rattle.index.proofs.Answer.{nowhere-unheld, by-holding}
 use Rattle.writing.proofs.Choosing.{NoneMeets, none-next, none-with, chosen-is, never-none, blocked-fails, uncovered-fails, covered-meets, after-is, settled-held, nextWord, next-word, set-words}

@@ -20,7 +20,8 @@ use Rattle.tables.proofs.Bounds.{few-observations, few-actions}
 use Rattle.tables.proofs.Checks.{sized, accepted}
 use Rattle.index.specs.Index.{named, Noted}
 use Rattle.index.proofs.Answer.{named-holding}
-use Rattle.writing.proofs.Words.{Filled, filled-none, filled-more, filled-end, sets-front, firstWord, front-is}
+use Rattle.cards.proofs.Parts.{Filled, filled-none, filled-more, filled-end}
+use Rattle.writing.proofs.Words.{sets-front, firstWord, front-is}
 use Rattle.writing.proofs.write_front.Statement.{statement}
 use Rattle.writing.proofs.write_front.Tie as tie
 
