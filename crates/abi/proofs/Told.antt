@@ -21,7 +21,10 @@ use Rattle.fields.proofs.RoundTrip.{read-then-write}
 use Rattle.solver.specs.Solve.{Promise}
 use Rattle.solver.specs.declared.Answer.{Answer}
 use Rattle.solver.specs.declared.Answer.the-variants as answer
-use Rattle.answers.specs.Words.{done, checkWords, solveWords, writtenWords}
+use Rattle.trimmer.specs.Trimmer.{Trims}
+use Rattle.trimmer.specs.declared.Answer.{Answer as TrimAnswer}
+use Rattle.trimmer.specs.declared.Answer.the-variants as trim
+use Rattle.answers.specs.Words.{done, checkWords, solveWords, writtenWords, trimWords}
 use Rattle.abi.specs.Calls.{told, rewritten, ComesBack, cardTold, ReadsAs}
 
 -- the words of an answer, with what it left, tell the outcome
@@ -67,6 +70,17 @@ same-answer (answer.Refused n p) (answer.Refused m q) e = cc
 
 pub solve-promised : (a : List ℕ) (r : Answer) → a ≡ solveWords r → (w work card left : List ℕ) → Promise w work card r left → (s : Answer) → a ≡ solveWords s → Promise w work card s left
 solve-promised a r e w work card left p s f = subst (λ (x : Answer). Promise w work card x left) (same-answer r s (sym e ∙ f)) p
+
+-- ---- trim
+
+same-trim : (r s : TrimAnswer) → trimWords r ≡ trimWords s → r ≡ s
+same-trim (trim.Trimmed a b) (trim.Trimmed c d) e = cc
+same-trim (trim.Trimmed a b) (trim.Refused n p) e = cc
+same-trim (trim.Refused n p) (trim.Trimmed a b) e = cc
+same-trim (trim.Refused n p) (trim.Refused m q) e = cc
+
+pub trim-promised : (a : List ℕ) (r : TrimAnswer) → a ≡ trimWords r → (w left : List ℕ) → Trims w r left → (s : TrimAnswer) → a ≡ trimWords s → Trims w s left
+trim-promised a r e w left p s f = subst (λ (x : TrimAnswer). Trims w x left) (same-trim r s (sym e ∙ f)) p
 
 -- ---- join, meet and write
 

@@ -17,7 +17,9 @@ ghost use Rattle.show.specs.Show.{found};
 ghost use Rattle.certificates.specs.Certificate.{certified, Safe};
 ghost use Rattle.solver.specs.Solve.{buffers, solved, Promise};
 ghost use Rattle.solver.specs.declared.Answer.{Answer};
-ghost use Rattle.answers.specs.Words.{done, checkWords, solveWords, judgeWords, writtenWords, moveWords, ranWords, showWords};
+ghost use Rattle.trimmer.specs.Trimmer.{buffers as rooms, trimmedInto, Trims};
+ghost use Rattle.trimmer.specs.declared.Answer.{Answer as TrimAnswer};
+ghost use Rattle.answers.specs.Words.{done, checkWords, solveWords, judgeWords, writtenWords, moveWords, ranWords, showWords, trimWords};
 ghost use Rattle.abi.specs.Calls.{told, rewritten, ComesBack, cardTold, given, ReadsAs};
 use games::Cell;
 use games::Checked;
@@ -240,4 +242,20 @@ pub extern "C" fn kirdanzug_judge_card(table: &[u32], card: &[u32], answer: &mut
     ensures safe { λ _. ⌜ (now (answer .exit) ≡ done 0 0 → Safe (game (now (table .entry))) (now (card .entry))) ⌝ }
 {
     *answer = answers::check_words(certificates::judge_card(table, card));
+}
+
+// 0, words, cells: the card without the cells that no list of observations leads to, in front of `out`.
+#[no_mangle]
+pub extern "C" fn kirdanzug_trim(
+    card: &[u32],
+    work: &mut [u32],
+    out: &mut [u32],
+    answer: &mut [u64; 3],
+)
+    ensures determined { λ _. ⌜ leaves (now (answer .exit)) (rooms (now (work .exit)) (now (out .exit)))
+        ≡ told trimWords (trimmedInto (now (card .entry)) (now (work .entry)) (now (out .entry))) ⌝ }
+    ensures promised { λ _. ⌜ ((r : TrimAnswer) → now (answer .exit) ≡ trimWords r
+        → Trims (now (card .entry)) r (now (out .exit))) ⌝ }
+{
+    *answer = answers::trim_words(trimmer::trim(card, work, out));
 }

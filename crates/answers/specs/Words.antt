@@ -16,6 +16,8 @@ use Rattle.show.specs.declared.Shown.{Shown}
 use Rattle.show.specs.declared.Shown.the-variants as shown
 use Rattle.solver.specs.declared.Answer.{Answer}
 use Rattle.solver.specs.declared.Answer.the-variants as answer
+use Rattle.trimmer.specs.declared.Answer.{Answer as TrimAnswer}
+use Rattle.trimmer.specs.declared.Answer.the-variants as trim
 
 -- done, with two values
 abbrev pub done : (x y : ℕ) → List ℕ
@@ -65,3 +67,8 @@ ranWords (ran.Refused number place taken) = refused number place
 abbrev pub showWords : Shown → List ℕ
 showWords (shown.Part offset length) = done offset length
 showWords (shown.Refused number place) = refused number place
+
+-- trim: the words of the trimmed card, and its cells
+abbrev pub trimWords : TrimAnswer → List ℕ
+trimWords (trim.Trimmed words cells) = done words cells
+trimWords (trim.Refused number place) = refused number place

@@ -2,7 +2,7 @@
 // 2, number and place (refused).
 ghost use mathlib.Core.Path.{_≡_};
 ghost use Rattle.answers.specs.Words.{done, no as noWords, refused as refusedWords};
-ghost use Rattle.answers.specs.Words.{checkWords, solveWords, judgeWords, writtenWords, moveWords, ranWords, showWords};
+ghost use Rattle.answers.specs.Words.{checkWords, solveWords, judgeWords, writtenWords, moveWords, ranWords, showWords, trimWords};
 use cards::Move;
 use games::Checked;
 use games::Written;
@@ -98,5 +98,14 @@ pub fn show_words(a: Shown) -> [u64; 3]
     match a {
         Shown::Part(offset, length) => span(offset, length),
         Shown::Refused(number, place) => refused(number, place),
+    }
+}
+
+pub fn trim_words(a: trimmer::Answer) -> [u64; 3]
+    ensures { λ r. ⌜ r ≡ trimWords a ⌝ }
+{
+    match a {
+        trimmer::Answer::Trimmed(words, cells) => span(words, cells as usize),
+        trimmer::Answer::Refused(number, place) => refused(number, place),
     }
 }

@@ -1,0 +1,97 @@
+-- `trimmer::trim_into` meets its contract: 9 where the room is short, else what `write_trimmed` ensures.
+-- Assumes nothing.
+use borrow.Author.Needs.{needs}
+use mathlib.Core.Path.{_≡_, sym, ap, _∙_, subst}
+use mathlib.Core.List.{List}
+use Prim.Native.Nat.{ℕ, _≤_}
+use native.Mathlib.Omega.{arith}
+use lib.ListN.{length}
+use Rattle.games.specs.Format.{maxCells}
+use Rattle.games.specs.Words.{cardLength}
+use Rattle.games.specs.declared.Checked.the-variants.{Fine}
+use Rattle.cards.specs.Card.{cardCells, cardObservations, automaton, checked}
+use Rattle.cards.proofs.Checked.{fitting}
+use Rattle.cards.proofs.Running.{size-of}
+use Rattle.trimming.specs.Trim.{trimmed}
+use Rattle.trimming.proofs.Numbers.{kept-few}
+use Rattle.trimmer.specs.Trimmer.{keptCells}
+use Rattle.trimmer.proofs.Numbering.{numbered-new}
+use Rattle.trimmer.proofs.Writing.{trimmed-long}
+use Rattle.trimmer.proofs.Answers.{room-short, room-filled}
+use Rattle.trimmer.proofs.trim_into.Statement.{statement}
+use Rattle.trimmer.proofs.trim_into.Tie as tie
+
+-- where the reached cells are marked
+abbrev marked : tie.After-slice-known3 → tie.After-mark-reached
+marked c = c .before .before
+
+abbrev entry : tie.After-mark-reached → tie.Start
+entry c = c .before .before .before .before .before
+
+abbrev words : tie.After-mark-reached → List ℕ
+words c = entry c .args .card .now
+
+few : (c : tie.After-mark-reached) → c .mark-reached .result ≤ maxCells
+few c =
+    let w = words c in
+    omega (arith, c .mark-reached .ensures .many, kept-few (automaton w) (cardObservations w), fitting w (entry c .pre .0) .cells)
+
+card-length-requires : tie.Need-card-length-requires
+card-length-requires c κs =
+    let m = marked (c .before) in
+    (omega (arith, few m), omega (arith, c .observations .ensures, fitting (words m) (entry m .pre .0) .observations))
+
+-- where the words needed are known
+abbrev reached : tie.After-card-length → tie.After-mark-reached
+reached c = marked (c .before .before)
+
+need-is : (c : tie.After-card-length) → c .card-length .result ≡ length (trimmed (words (reached c)))
+need-is c =
+    let m = reached c in
+    c .card-length .ensures ∙ ap (cardLength _) (c .before .observations .ensures)
+    ∙ ap (λ (n : ℕ). cardLength n (cardObservations (words m))) (m .mark-reached .ensures .many)
+    ∙ sym (trimmed-long (words m))
+
+returns : tie.Need-returns
+returns c = let m = reached (c .before) in room-short (words m) (entry m .args .out .now) _ (need-is (c .before)) (c .if1 .taken)
+
+number-requires : tie.Need-number-requires
+number-requires c κs =
+    let m = reached (c .before .before) in
+    omega (arith, m .mark-reached .ensures .size, fitting (words m) (entry m .pre .0) .cells)
+
+write-trimmed-requires : tie.Need-write-trimmed-requires
+write-trimmed-requires c κs =
+    let numbered = c .before .before .before .before in
+    let fits = numbered .before .before in
+    let m = reached (fits .before) in
+    let w = words m in (
+      entry m .pre .0,
+      numbered-new (automaton w) (cardObservations w) (m .mark-reached .result) (m .mark-reached .last .1 .0) (numbered .number .last .0) (fitting w (entry m .pre .0) .cells) (m .mark-reached .ensures) (numbered .number .ensures),
+      m .mark-reached .ensures .many,
+      subst (λ (n : ℕ). n ≤ length (entry m .args .out .now)) (need-is (fits .before)) (fits .if1 .left),
+    )
+
+returns-2 : tie.Need-returns-2
+returns-2 c =
+    let wrote = c .before .before in
+    let numbered = wrote .before .before .before .before .before in
+    let fits = numbered .before .before in
+    let m = reached (fits .before) in
+    room-filled (words m) (entry m .args .out .now) _ (need-is (fits .before)) (fits .if1 .left) _ _ (m .mark-reached .ensures .many) (wrote .write-trimmed .ensures)
+
+pub trim-into-spec : {M : Type 1} → statement M
+trim-into-spec =
+    tie.close
+    (tie.spec
+    (λ c κs. search needs)
+    (λ c. omega (arith, few (marked c)))
+    (λ c κs. search needs)
+    card-length-requires
+    (λ c. search needs)
+    returns
+    number-requires
+    write-trimmed-requires
+    (λ c. search needs)
+    (λ c. search needs)
+    returns-2)

@@ -1,0 +1,4 @@
+pub mod Halves
+pub mod Marking
+pub mod Numbering
+pub mod Trimmer

@@ -1,0 +1,237 @@
+// The trimmer (document 02, change 5): a card without the cells that no list of observations leads to. Each cell is taken up once: a
+// word of the work has a cell's mark in its lower half, and in its upper half an entry of the list of waiting cells. Later these are
+// the cell's new number and an entry of the list of kept cells.
+ghost use mathlib.Core.Path.{_≡_};
+ghost use mathlib.Core.List.{_++_};
+ghost use Prim.Native.Nat.{_+_, _<_, _≤_};
+ghost use lib.ListN.{length, drop};
+ghost use Rattle.games.specs.Answers.{leaves};
+ghost use Rattle.games.specs.Format.{numberValues, kindValues};
+ghost use Rattle.games.specs.declared.Checked.the-variants.{Fine};
+ghost use Rattle.cards.specs.Card.{cardCells, cardObservations, automaton, checked};
+ghost use Rattle.trimming.specs.Trim.{trimmed};
+ghost use Rattle.trimmer.specs.Halves.{halfValues, lowerHalf, upperHalf, putLower, putUpper, marked};
+ghost use Rattle.trimmer.specs.Marking.{Listing, Added, namedFrom, NamesInside, Naming, Begun, Marked};
+ghost use Rattle.trimmer.specs.Numbering.{Numbered, Renumbering, newName, rowWords};
+ghost use Rattle.trimmer.specs.Trimmer.{keptCells, byRoom, buffers, trimmedInto, Trims};
+use games::Cell;
+use games::Checked;
+use games::Observation;
+
+// What trimming answers: the words of the trimmed card and its cells, or a refusal's number and place.
+pub enum Answer {
+    Trimmed(usize, u32),
+    Refused(u32, usize),
+}
+
+// The numbers that a half of a word can hold.
+const HALF_VALUES: u32 = 1 << 16;
+
+fn lower(work: &[u32], i: usize) -> u32
+    requires { ⌜ i < length (now work) ⌝ }
+    ensures { λ r. ⌜ r ≡ lowerHalf (now (work .entry)) i ⌝ }
+{
+    work[i] % HALF_VALUES
+}
+
+fn upper(work: &[u32], i: usize) -> u32
+    requires { ⌜ i < length (now work) ⌝ }
+    ensures { λ r. ⌜ r ≡ upperHalf (now (work .entry)) i ⌝ }
+{
+    work[i] / HALF_VALUES
+}
+
+fn put_lower(work: &mut [u32], i: usize, x: u32)
+    requires { ⌜ (i < length (now work)) × (x < halfValues) ⌝ }
+    ensures { λ _. ⌜ now (work .exit) ≡ putLower (now (work .entry)) i x ⌝ }
+{
+    let old = work[i];
+    work[i] = old / HALF_VALUES * HALF_VALUES + x;
+}
+
+fn put_upper(work: &mut [u32], i: usize, x: u32)
+    requires { ⌜ (i < length (now work)) × (x < halfValues) ⌝ }
+    ensures { λ _. ⌜ now (work .exit) ≡ putUpper (now (work .entry)) i x ⌝ }
+{
+    let old = work[i];
+    work[i] = x * HALF_VALUES + old % HALF_VALUES;
+}
+
+// Marks a cell and puts it behind those that wait, unless it is marked already; how many wait then.
+fn mark(work: &mut [u32], waiting: usize, cell: Cell) -> usize
+    requires { ⌜ Listing (now work) waiting × (cell .0 < length (now work)) × (length (now work) ≤ halfValues) ⌝ }
+    ensures { λ r. ⌜ Added (λ _. cell .0) 1 (now (work .entry)) waiting (now (work .exit)) r ⌝ }
+{
+    let c = cell.0;
+    if 0 < lower(work, c as usize) {
+        return waiting;
+    }
+    put_lower(work, c as usize, 1);
+    put_upper(work, waiting, c);
+    waiting + 1
+}
+
+// Marks the cells that so many first or next words from a place on name, and puts them behind those that wait.
+fn mark_named(card: &[u32], at: usize, count: u32, work: &mut [u32], waiting: usize) -> usize
+    requires { ⌜ Naming (now card) at count (length (now work)) × Listing (now work) waiting ⌝ }
+    ensures { λ r. ⌜ Added (namedFrom (now (card .entry)) at) count (now (work .entry)) waiting (now (work .exit)) r ⌝ }
+{
+    let mut listed = waiting;
+    let mut j: u32 = 0;
+    while j < count {
+        let cell = games::low_field(card[at + j as usize]);
+        if cell != games::NO_CELL {
+            listed = mark(work, listed, Cell(cell));
+        }
+        j += 1;
+    }
+    listed
+}
+
+// Marks the cells where a run begins: those that first words name, or cell 0 where no first word names one.
+fn mark_firsts(card: &[u32], work: &mut [u32]) -> usize
+    requires { ⌜ (checked (now card) ≡ Fine) × (length (now work) ≡ cardCells (now card)) ⌝ }
+    ensures { λ r. ⌜ Begun (automaton (now (card .entry))) (cardObservations (now (card .entry))) (now (work .exit)) r ⌝ }
+{
+    let cells = work.len();
+    sets::fill(work, cells, 0);
+    let waiting = mark_named(card, 1, cards::observations(card), work, 0);
+    if waiting == 0 {
+        return mark(work, waiting, Cell(0));
+    }
+    waiting
+}
+
+// Marks the reached cells: each waiting cell is taken up once, and the cells that its next words name wait behind it. How many cells
+// are reached.
+fn mark_reached(card: &[u32], work: &mut [u32]) -> usize
+    requires { ⌜ (checked (now card) ≡ Fine) × (length (now work) ≡ cardCells (now card)) ⌝ }
+    ensures { λ r. ⌜ Marked (automaton (now (card .entry))) (cardObservations (now (card .entry))) (now (work .exit)) r ⌝ }
+{
+    let o = cards::observations(card);
+    let mut waiting = mark_firsts(card, work);
+    let mut taken: usize = 0;
+    while taken < waiting {
+        let cell = upper(work, taken);
+        let at = cards::cell_place(o, Cell(cell));
+        waiting = mark_named(card, at + 1, o, work, waiting);
+        taken += 1;
+    }
+    waiting
+}
+
+// Numbers the marked cells in their order: the new number takes the mark's place, and the list of kept cells that of the waiting ones.
+fn number(work: &mut [u32])
+    requires { ⌜ length (now work) ≤ halfValues ⌝ }
+    ensures { λ _. ⌜ Numbered (length (now (work .entry))) (marked (now (work .entry))) (now (work .exit)) ⌝ }
+{
+    let mut kept: usize = 0;
+    let mut c: usize = 0;
+    while c < work.len() {
+        if 0 < lower(work, c) {
+            put_lower(work, c, kept as u32);
+            put_upper(work, kept, c as u32);
+            kept += 1;
+        }
+        c += 1;
+    }
+}
+
+// The new number of the cell that a word names; no cell stays none.
+fn new_name(work: &[u32], cell: Cell) -> Cell
+    requires { ⌜ NamesInside (cell .0) (length (now work)) ⌝ }
+    ensures { λ r. ⌜ r .0 ≡ newName (now (work .entry)) (cell .0) ⌝ }
+{
+    if cell.0 == games::NO_CELL {
+        return cell;
+    }
+    Cell(lower(work, cell.0 as usize))
+}
+
+// The front or a part of the trimmed card: its own word, and behind it the first or next words (the kind says which) that the card has
+// from a place on, with new numbers.
+fn write_row(
+    card: &[u32],
+    at: usize,
+    count: u32,
+    kind: u32,
+    own: u32,
+    work: &[u32],
+    out: &mut [u32],
+)
+    requires { ⌜ Naming (now card) at count (length (now work)) × (count ≤ numberValues) × (kind < kindValues)
+        × (length (now out) ≡ 1 + count) ⌝ }
+    ensures { λ _. ⌜ now (out .exit) ≡ rowWords (now (card .entry)) at count kind own (now (work .entry)) ⌝ }
+{
+    let mut j: u32 = 0;
+    while j < count {
+        let cell = games::low_field(card[at + j as usize]);
+        let new = new_name(work, Cell(cell));
+        out[1 + j as usize] = cards::naming(kind, new, Observation(j));
+        j += 1;
+    }
+    out[0] = own;
+}
+
+// The trimmed card at the front of its room: the front, and the parts of the kept cells.
+fn write_trimmed(card: &[u32], work: &[u32], kept: u32, out: &mut [u32])
+    requires { ⌜ (checked (now card) ≡ Fine) × Renumbering (automaton (now card)) (cardObservations (now card)) (now work)
+        × (kept ≡ keptCells (now card)) × (length (trimmed (now card)) ≤ length (now out)) ⌝ }
+    ensures { λ _. ⌜ now (out .exit) ≡ trimmed (now (card .entry)) ++ drop (length (trimmed (now (card .entry)))) (now (out .entry)) ⌝ }
+{
+    let o = cards::observations(card);
+    let front = games::front_length(o);
+    let part = games::part_length(o);
+    let head = cards::heading(kept, o, cards::actions(card));
+    write_row(card, 1, o, games::KIND_FIRST, head, work, &mut out[..front]);
+    let mut i: u32 = 0;
+    while i < kept {
+        let from = cards::cell_place(o, Cell(upper(work, i as usize)));
+        let own = card[from];
+        let at = cards::cell_place(o, Cell(i));
+        write_row(
+            card,
+            from + 1,
+            o,
+            games::KIND_NEXT,
+            own,
+            work,
+            &mut out[at..at + part],
+        );
+        i += 1;
+    }
+}
+
+// For a card with work for its cells: the reached cells, then 9 or the trimmed card.
+fn trim_into(card: &[u32], work: &mut [u32], out: &mut [u32]) -> Answer
+    requires { ⌜ (checked (now card) ≡ Fine) × (length (now work) ≡ cardCells (now card)) ⌝ }
+    ensures { λ r. ⌜ leaves r (now (out .exit)) ≡ byRoom (now (card .entry)) (now (out .entry)) ⌝ }
+{
+    let kept = mark_reached(card, work) as u32;
+    let need = games::card_length(kept, cards::observations(card));
+    if out.len() < need {
+        return Answer::Refused(9, need);
+    }
+    number(work);
+    write_trimmed(card, work, kept, out);
+    Answer::Trimmed(need, kept)
+}
+
+// Trimming a card: the cells that no list of observations leads to are dropped.
+pub fn trim(card: &[u32], work: &mut [u32], out: &mut [u32]) -> Answer
+    ensures determined { λ r. ⌜ leaves r (buffers (now (work .exit)) (now (out .exit)))
+        ≡ trimmedInto (now (card .entry)) (now (work .entry)) (now (out .entry)) ⌝ }
+    ensures promised { λ r. ⌜ Trims (now (card .entry)) r (now (out .exit)) ⌝ }
+{
+    let checked = cards::check(card);
+    if let Checked::Refused(number, place) = checked {
+        return Answer::Refused(number, place);
+    }
+    let need = cards::cells(card) as usize;
+    if work.len() < need {
+        return Answer::Refused(8, need);
+    }
+    let answer = trim_into(card, &mut work[..need], out);
+    sets::fill(work, need, 0);
+    answer
+}
