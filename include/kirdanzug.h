@@ -12,7 +12,7 @@
  * A buffer is passed as a pointer and its length in words. No pointer may be null, not even with
  * length 0; buffers must be aligned, and none that is written may overlap another. Apart from that
  * nothing is asked of the caller: any words, lengths and numbers have a defined answer. A refused call
- * changes no word but `answer` (solve's refusal 9 alone also zeroes the work words). No function
+ * changes no word but `answer` (refusal 9 of solve and trim alone also zeroes the work words). No function
  * keeps anything between calls or allocates memory, so calls that write different buffers may run at
  * the same time.
  *
@@ -31,9 +31,9 @@ extern "C" {
 
 /* The version of this header and of the archive that it is for. */
 #define KIRDANZUG_VERSION_MAJOR 0
-#define KIRDANZUG_VERSION_MINOR 14
+#define KIRDANZUG_VERSION_MINOR 15
 #define KIRDANZUG_VERSION_PATCH 0
-#define KIRDANZUG_VERSION "0.14.0"
+#define KIRDANZUG_VERSION "0.15.0"
 
 /* The stack that is enough for a call of any function, in bytes. Measured: 6,264 (solve); 9,328 where
  * memcpy and memset are bound at their first call, by the dynamic linker. The rest is margin. */
@@ -62,6 +62,10 @@ enum {
 /* The words of work that solve needs for n states (n from 1 to 12). */
 #define KIRDANZUG_WORK_WORDS(n) ((size_t)4 << (n))
 #define KIRDANZUG_WORK_WORDS_MAX KIRDANZUG_WORK_WORDS(KIRDANZUG_MAX_STATES)
+
+/* The words of work that trim needs for a card of this many cells. */
+#define KIRDANZUG_TRIM_WORK_WORDS(cells) ((size_t)(cells))
+#define KIRDANZUG_TRIM_WORK_WORDS_MAX KIRDANZUG_TRIM_WORK_WORDS(KIRDANZUG_MAX_CELLS)
 
 /* The words of a table with this many states, actions and observations that marks no parked states; one
  * that does has one more. The second is enough for both. */
@@ -114,7 +118,7 @@ enum {
     KIRDANZUG_REFUSED_NO_START = 6,      /* there is no start state; 1 */
     KIRDANZUG_REFUSED_UNSHOWN = 7,       /* a state shows no observation; the lowest such state */
     KIRDANZUG_REFUSED_WORK_ROOM = 8,     /* the work room is too short; the words needed */
-    KIRDANZUG_REFUSED_CARD_ROOM = 9,     /* yes, but the card room is too short; the words needed */
+    KIRDANZUG_REFUSED_CARD_ROOM = 9,     /* the card room is too short (solve: on a yes); the words needed */
     KIRDANZUG_REFUSED_TABLE_ROOM = 10,   /* the room for a written table is too short; the words needed */
     KIRDANZUG_REFUSED_UNUSED_SLOT = 11,  /* an unused slot of the fields is not 0; 0 */
     KIRDANZUG_REFUSED_NUMBER = 12,       /* the card has no such cell, or else no such observation; that number */
@@ -156,6 +160,17 @@ void kirdanzug_write(uint32_t n, uint32_t a, uint32_t o,
 void kirdanzug_rewrite(const uint32_t *table, size_t table_length,
                        uint32_t *out, size_t out_length,
                        uint64_t answer[3]);
+
+/* Writes the card without its idle cells to the front of `out`: 0, length, number of cells kept. Kept, in
+ * their order and renumbered, are the cells reached from the first words by next words that name a cell;
+ * where no first word names one, cell 0 counts as reached. On every list of observations the trimmed card
+ * gives the same actions and refusals, what judge_card accepts stays accepted, and trimming again changes
+ * nothing. The card's own length is always room enough. Refused: 13, 8, 9. After done and 9 the first
+ * KIRDANZUG_TRIM_WORK_WORDS(m) words of `work` are 0, m being the card's number of cells. */
+void kirdanzug_trim(const uint32_t *card, size_t card_length,
+                    uint32_t *work, size_t work_length,
+                    uint32_t *out, size_t out_length,
+                    uint64_t answer[3]);
 
 /* ---- Deciding -------------------------------------------------------------------------------- */
 

@@ -41,6 +41,15 @@ pub struct CardSize {
     pub observations: u32,
 }
 
+/// What [`trim`] writes.
+#[derive(Clone, Copy, PartialEq, Eq, Debug)]
+pub struct Trimmed<'a> {
+    /// How many cells were kept.
+    pub cells: u32,
+    /// The trimmed card's words, in front of the room that was lent.
+    pub card: &'a [u32],
+}
+
 /// The two values of a call that is done.
 #[inline]
 fn done(call: impl FnOnce(&mut Answer)) -> Result<(u64, u64), Refusal> {
@@ -145,6 +154,17 @@ pub fn write<'a>(fields: &Fields, out: &'a mut [u32]) -> Result<&'a [u32], Refus
         raw::write(states, actions, observations, start, bad, parked_marked, parked, &shown, &moves, out, answer)
     })?;
     Ok(&out[..length])
+}
+
+/// Writes the card without its idle cells: kept, in their order and renumbered, are the cells reached from
+/// the first words by next words that name a cell; where no first word names one, cell 0 counts as reached.
+/// On every list of observations the trimmed card gives the same actions and refusals, what [`judge_card`]
+/// accepts stays accepted, and trimming again changes nothing. The work room needs
+/// [`trim_work_words`](crate::trim_work_words) words, and the card's own length is always room enough.
+/// Refused: 13, 8, 9.
+pub fn trim<'a>(card: &[u32], work: &mut [u32], out: &'a mut [u32]) -> Result<Trimmed<'a>, Refusal> {
+    let (length, cells) = done(|answer| raw::trim(card, work, out, answer))?;
+    Ok(Trimmed { cells: cells as u32, card: &out[..length as usize] })
 }
 
 /// Opens a run of the card with the first observation. Refused: 13, 12, 14.

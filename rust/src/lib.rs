@@ -36,8 +36,8 @@ pub mod raw;
 mod refusal;
 
 pub use calls::{
-    check_card, check_table, join, judge, judge_card, meet, open, rewrite, run, show, solve, step, write, CardSize,
-    Move, Verdict,
+    check_card, check_table, join, judge, judge_card, meet, open, rewrite, run, show, solve, step, trim, write,
+    CardSize, Move, Trimmed, Verdict,
 };
 pub use fields::Fields;
 pub use numbers::{Action, Cell, Observation, State, StateSet};
@@ -66,6 +66,8 @@ pub const TABLE_WORDS_MAX: usize = table_words(MAX_STATES, MAX_ACTIONS, MAX_OBSE
 pub const CARD_WORDS_MAX: usize = card_words(924, MAX_OBSERVATIONS);
 /// The words of work that are enough for every table.
 pub const WORK_WORDS_MAX: usize = work_words(MAX_STATES);
+/// The words of work that are enough to [`trim`] every card.
+pub const TRIM_WORK_WORDS_MAX: usize = trim_work_words(MAX_CELLS);
 
 /// The stack that is enough for a call of any function of the archive, in bytes.
 pub const STACK_BYTES: usize = 12_288;
@@ -85,4 +87,9 @@ pub const fn card_words(cells: usize, observations: usize) -> usize {
 /// The words of work that [`solve`] needs for so many states.
 pub const fn work_words(states: usize) -> usize {
     4 << states
+}
+
+/// The words of work that [`trim`] needs for a card of so many cells.
+pub const fn trim_work_words(cells: usize) -> usize {
+    cells
 }

@@ -77,6 +77,13 @@ extern "C" {
         card: *const u32, card_length: usize,
         answer: *mut Answer,
     );
+    /// Writes a card without its idle cells.
+    pub fn kirdanzug_trim(
+        card: *const u32, card_length: usize,
+        work: *mut u32, work_length: usize,
+        out: *mut u32, out_length: usize,
+        answer: *mut Answer,
+    );
 }
 
 // Each call below is sound because the slices are valid for their lengths and, being Rust
@@ -210,4 +217,17 @@ pub fn show(table: &[u32], card: &[u32], cell: u32, answer: &mut Answer) {
 #[inline]
 pub fn judge_card(table: &[u32], card: &[u32], answer: &mut Answer) {
     unsafe { kirdanzug_judge_card(table.as_ptr(), table.len(), card.as_ptr(), card.len(), answer) }
+}
+
+/// 0, words of the trimmed card, cells kept.
+#[inline]
+pub fn trim(card: &[u32], work: &mut [u32], out: &mut [u32], answer: &mut Answer) {
+    unsafe {
+        kirdanzug_trim(
+            card.as_ptr(), card.len(),
+            work.as_mut_ptr(), work.len(),
+            out.as_mut_ptr(), out.len(),
+            answer,
+        )
+    }
 }

@@ -3,7 +3,7 @@
 use core::fmt;
 
 /// A refused call: which check failed, and where. The call changed none of the buffers lent to it
-/// (9 alone sets the work words to 0).
+/// (9 alone, of solve and of trim, sets the work words to 0).
 #[derive(Clone, Copy, PartialEq, Eq, Debug)]
 pub struct Refusal {
     number: u32,
@@ -22,9 +22,10 @@ const TEXTS: [&str; 19] = [
     "a mask names a state from n up: take the state out of the mask, or raise n",
     "there is no start state: name one",
     "a state, the place, shows no reading: give the state to a reading",
-    "the work room is shorter than 4·2^n words: lend as many words as the place says",
-    "the answer is yes, but the card room is too short for the card: lend as many words as the place says, and call \
-     again",
+    "the work room is shorter than 4·2^n words, or for trim than the card has cells: lend as many words as the place \
+     says",
+    "the room for the card that is written is too short (in solve the answer is yes): lend as many words as the place \
+     says, and call again",
     "the room for the table that is written is too short: lend as many words as the place says",
     "an unused slot of the fields that are written is not 0: clear it, or raise the number that makes it used (the \
      parked states: mark them)",
@@ -59,7 +60,7 @@ impl Refusal {
     pub const UNSHOWN: u32 = 7;
     /// 8: the work room is short.
     pub const WORK_ROOM: u32 = 8;
-    /// 9: yes, but the card room is short.
+    /// 9: the card room is short; of solve, on a yes alone.
     pub const CARD_ROOM: u32 = 9;
     /// 10: the room for a table is short.
     pub const TABLE_ROOM: u32 = 10;

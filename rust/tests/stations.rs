@@ -76,6 +76,47 @@ fn the_tightest_cell_is_named() {
     assert_eq!(open(&room, Observation(0)), Ok(Move { cell: Cell(1), action: Action(1) }));
 }
 
+/// Every word of the card above names cell 1: cell 0 is idle.
+const TIGHTEST_TRIMMED: [u32; 4] = [0x80210001, 0x90000000, 0xA0100009, 0xB0000000];
+
+#[test]
+fn idle_cells_trimmed_off() {
+    let (mut work, mut room) = ([7; 3], [7; 6]);
+    let trimmed = Ok(Trimmed { cells: 1, card: &TIGHTEST_TRIMMED[..] });
+    assert_eq!(trim(&TIGHTEST_CARD, &mut work, &mut room), trimmed);
+    assert_eq!((work, &room[4..]), ([0, 0, 7], &[7, 7][..]));
+    assert_eq!(trim(&TIGHTEST_TRIMMED, &mut work[..1], &mut room[..4]), trimmed);
+    for card in [&A_CARD[..], &C_CARD] {
+        let same = Ok(Trimmed { cells: 2, card });
+        assert_eq!(trim(card, &mut [7; trim_work_words(2)], &mut [7; 9]), same);
+    }
+}
+
+#[test]
+fn trim_refused() {
+    let (mut work, mut room) = ([7; 2], [7; 6]);
+    assert_eq!(refused(trim(&A_CARD[..5], &mut [], &mut [])), (Refusal::CARD, 5));
+    assert_eq!(refused(trim(&[], &mut work, &mut room)), (Refusal::CARD, 0));
+    assert_eq!(refused(trim(&TIGHTEST_CARD, &mut work[1..], &mut [])), (Refusal::WORK_ROOM, 2));
+    assert_eq!(work, [7; 2]);
+    assert_eq!(refused(trim(&TIGHTEST_CARD, &mut work, &mut room[3..])), (Refusal::CARD_ROOM, 4));
+    assert_eq!((work, room), ([0; 2], [7; 6]));
+}
+
+#[test]
+fn a_trimmed_card_does_as_before() {
+    let (_, card) = solved(&TIGHTEST).expect("the table is right").expect("the answer is yes");
+    let (mut work, mut room) = (vec![7; TRIM_WORK_WORDS_MAX], vec![7; card.len()]);
+    let trimmed = trim(&card, &mut work, &mut room).expect("there is room").card;
+    assert_eq!(check_card(trimmed), Ok(CardSize { cells: 1, observations: 1 }));
+    assert_eq!(judge_card(&TIGHTEST, trimmed), Ok(()));
+    let (mut before, mut after) = ([Action(9); 4], [Action(9); 4]);
+    for observations in [[0, 0, 0, 0], [0, 0, 1, 0], [7, 0, 0, 0]].map(|list| list.map(Observation)) {
+        assert_eq!(run(&card, &observations, &mut before), run(trimmed, &observations, &mut after));
+    }
+    assert_eq!(after, [Action(1); 4]);
+}
+
 #[test]
 fn moves_of_a_card() {
     let entered = |cell, action| Ok(Move { cell: Cell(cell), action: Action(action) });

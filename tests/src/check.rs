@@ -2,7 +2,7 @@
 
 use crate::game::{members, subset, Game};
 use crate::oracle::{Card, NO_CELL};
-use std::collections::{HashMap, HashSet};
+use std::collections::{BTreeMap, HashMap, HashSet};
 
 /// What moves a play on: opening with the first observation, then one step for each later one.
 /// Each gives the cell entered and its action, or nothing where it refuses.
@@ -165,6 +165,54 @@ pub fn differ_in_names(first: &[u32], second: &[u32]) -> Result<usize, String> {
         names += usize::from(one != other);
     }
     Ok(names)
+}
+
+/// Document 02's change 5 on the words of a card and of what it was trimmed to. Both are followed side by side
+/// from the first words on, or from cell 0 where these name none: rows that meet differ in cell numbers alone, a
+/// cell always meets the same one, and in the card's order those met are 0, 1, 2 and so on to the last.
+pub fn is_trimmed(card: &[u32], trimmed: &[u32]) -> Result<(), String> {
+    let part = 1 + (card[0] >> 16 & 15) as usize;
+    let kept = trimmed.first().map_or(0, |head| (head & 0xFFFF) as usize);
+    if trimmed.len() != (1 + kept) * part || trimmed[0] >> 16 != card[0] >> 16 {
+        return Err(format!("{} words with the head {:x?} of {:X}", trimmed.len(), trimmed.first(), card[0]));
+    }
+    let mut numbers = BTreeMap::new();
+    let mut waiting = named_together(&card[1..part], &trimmed[1..part])?;
+    if waiting.is_empty() {
+        waiting.push((0, 0));
+    }
+    while let Some((cell, number)) = waiting.pop() {
+        match numbers.insert(cell, number) {
+            Some(other) if other != number => return Err(format!("cell {cell} becomes {other} and {number}")),
+            Some(_) => continue,
+            None if number >= kept => return Err(format!("cell {cell} becomes {number} of {kept}")),
+            None => (),
+        }
+        let (old, new) = (&card[(1 + cell) * part..][..part], &trimmed[(1 + number) * part..][..part]);
+        if old[0] != new[0] {
+            return Err(format!("cell {cell} is {:X}, and {:X} as cell {number}", old[0], new[0]));
+        }
+        waiting.extend(named_together(&old[1..], &new[1..])?);
+    }
+    match numbers.values().copied().eq(0..kept) {
+        true => Ok(()),
+        false => Err(format!("the {kept} cells kept are not these in their order: {numbers:?}")),
+    }
+}
+
+/// What two rows of first or next words name, pair by pair; nothing else differs.
+fn named_together(old: &[u32], new: &[u32]) -> Result<Vec<(usize, usize)>, String> {
+    let mut pairs = Vec::new();
+    for (&old, &new) in old.iter().zip(new) {
+        match (old & 0xFFFF, new & 0xFFFF) {
+            (NO_CELL, NO_CELL) if old == new => (),
+            (cell, number) if cell != NO_CELL && number != NO_CELL && old >> 16 == new >> 16 => {
+                pairs.push((cell as usize, number as usize));
+            }
+            _ => return Err(format!("{old:X} becomes {new:X}")),
+        }
+    }
+    Ok(pairs)
 }
 
 /// Plays every play of at most `rounds` rounds one by one, with nothing remembered.

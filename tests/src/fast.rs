@@ -13,7 +13,7 @@ const SETS: usize = 4096;
 /// How many machine words hold a family of sets.
 const LANES: usize = SETS / 64;
 /// The cell number that means "cannot occur".
-const NO_CELL: u32 = 65_535;
+pub(crate) const NO_CELL: u32 = 65_535;
 
 /// What solve answers.
 #[derive(Clone, Copy, PartialEq, Eq, Debug)]
@@ -695,13 +695,14 @@ macro_rules! by_length {
         }
     };
 }
+pub(crate) use by_length;
 
 /// What a move answers: the cell entered and its action, or number and place of a refusal.
 pub type Moved = Result<(u32, u32), (u32, usize)>;
 
 /// A card that passed its check. Its words are rows of 1 + o: row 0 has the head and the first cells,
 /// row c + 1 the action and the next cells of cell c.
-struct Rows<'c> {
+pub(crate) struct Rows<'c> {
     words: &'c [u32],
     cells: usize,
     o: usize,
@@ -710,7 +711,7 @@ struct Rows<'c> {
 impl Rows<'_> {
     /// Refusal 13 of head and length; the numbers of cells, observations and actions.
     #[inline(always)]
-    fn head(words: &[u32]) -> Result<(usize, usize, u32), (u32, usize)> {
+    pub(crate) fn head(words: &[u32]) -> Result<(usize, usize, u32), (u32, usize)> {
         let head = words.first().copied().unwrap_or(0);
         let (cells, o, a) = (head as usize & 0xFFFF, head as usize >> 16 & 15, head >> 20 & 15);
         let fits = head >> 24 == 0x80
@@ -768,7 +769,7 @@ impl Rows<'_> {
 
 /// The first of these words that is not a cell or none, in the frame of its place.
 #[inline(always)]
-fn wrong_target(words: &[u32], kind: u32, cells: usize) -> Option<usize> {
+pub(crate) fn wrong_target(words: &[u32], kind: u32, cells: usize) -> Option<usize> {
     let wrong = |(r, word): (u32, &u32)| {
         let cell = word ^ (kind | r << 16);
         cell as usize >= cells && cell != NO_CELL
@@ -965,7 +966,7 @@ impl CardJudge {
 }
 
 /// The lowest word of the cells' rows that is not a card's.
-fn wrong_row<const PART: usize>(rows: &[u32], cells: usize, a: usize) -> Option<usize> {
+pub(crate) fn wrong_row<const PART: usize>(rows: &[u32], cells: usize, a: usize) -> Option<usize> {
     let (rows, _) = rows.as_chunks::<PART>();
     let wrong = |(i, row)| wrong_word(row, cells, a).map(|place| i * PART + place);
     rows.iter().enumerate().find_map(wrong)

@@ -362,6 +362,94 @@ pub fn card(rng: &mut Rng, cells: usize, a: usize, o: usize) -> Vec<u32> {
     card_words(&Card { a, o, first, cells: (0..cells).map(&mut cell).collect() })
 }
 
+/// How the cells of a card that nobody's solver drew name each other.
+#[derive(Clone, Copy, PartialEq, Eq, Debug)]
+pub enum Wiring {
+    /// Any cell.
+    Any,
+    /// Any cell, but seldom one at all.
+    Few,
+    /// The cell below.
+    Down,
+    /// The next in a shuffled order, now and then none.
+    Shuffled,
+    /// Mostly itself.
+    Loops,
+    /// One of the same remainder: cells of other remainders are reached by first words alone.
+    Islands,
+    /// One above or below, so that what is reached spreads from the first cells.
+    Near,
+}
+
+pub const WIRINGS: [Wiring; 7] = [
+    Wiring::Any,
+    Wiring::Few,
+    Wiring::Down,
+    Wiring::Shuffled,
+    Wiring::Loops,
+    Wiring::Islands,
+    Wiring::Near,
+];
+
+/// A random card of this wiring. In `entered` ones some first word names a cell, in others none does. Sets and
+/// actions are any, so that each cell's word says mostly which cell it is.
+pub fn wired(rng: &mut Rng, wiring: Wiring, cells: usize, a: usize, o: usize, entered: bool) -> Card {
+    let (order, islands) = (permutation(rng, cells), rng.within(2, 5));
+    let mut first: Vec<Option<usize>> = (0..o).map(|_| rng.percent(30).then(|| rng.below(cells))).collect();
+    match entered {
+        true => first[rng.below(o)] = Some(rng.below(cells)),
+        false => first.fill(None),
+    }
+    let next = |rng: &mut Rng, cell: usize| match wiring {
+        Wiring::Any => (!rng.percent(25)).then(|| rng.below(cells)),
+        Wiring::Few => rng.percent(20).then(|| rng.below(cells)),
+        Wiring::Down => cell.checked_sub(1).filter(|_| rng.percent(80)),
+        Wiring::Shuffled => (!rng.percent(10)).then(|| order[cell]),
+        Wiring::Loops => Some(if rng.percent(85) { cell } else { rng.below(cells) }),
+        Wiring::Islands => Some(rng.below(cells) / islands * islands + cell % islands).filter(|&other| other < cells),
+        Wiring::Near => Some((cell + cells + rng.within(0, 2) - 1) % cells).filter(|_| rng.percent(60)),
+    };
+    let mut cell = |cell| {
+        let next = (0..o).map(|_| next(rng, cell)).collect();
+        Cell { mask: rng.set(12, 40), action: rng.below(a), next }
+    };
+    let cells = (0..cells).map(&mut cell).collect();
+    Card { a, o, first, cells }
+}
+
+/// How many cards of so many cells and observations there are, but for sets and actions.
+pub fn small_cards(cells: usize, o: usize) -> u64 {
+    (cells as u64 + 1).pow((o * (1 + cells)) as u32)
+}
+
+/// One of these by its number: each first and next word is a digit. Cell c has the set of state c and action c.
+pub fn small_card(cells: usize, o: usize, mut number: u64) -> Card {
+    let mut named = |_| {
+        let digit = (number % (cells as u64 + 1)) as usize;
+        number /= cells as u64 + 1;
+        (digit < cells).then_some(digit)
+    };
+    let first = (0..o).map(&mut named).collect();
+    let cell = |cell: usize| Cell { mask: 1 << cell, action: cell, next: (0..o).map(&mut named).collect() };
+    Card { a: cells, o, first, cells: (0..cells).map(cell).collect() }
+}
+
+/// The chain in the worst order: the first words name the highest cell, and each cell the one below it, on the
+/// last observation; the others cannot occur. Every cell is reached.
+pub fn chain(cells: usize, o: usize) -> Card {
+    let last = |named| (1..=o).map(|r| if r == o { named } else { None }).collect();
+    let cell = |cell: usize| Cell { mask: cell as u32 % 4096, action: cell % 8, next: last(cell.checked_sub(1)) };
+    Card { a: 8, o, first: vec![Some(cells - 1); o], cells: (0..cells).map(cell).collect() }
+}
+
+/// One reached cell, in the middle: the first words and its next words name it alone. The others name each other.
+pub fn lone(cells: usize, o: usize) -> Card {
+    let middle = cells / 2;
+    let named = |cell: usize| if cell == middle { middle } else { (cell + 1) % cells };
+    let cell = |cell: usize| Cell { mask: cell as u32 % 4096, action: cell % 8, next: vec![Some(named(cell)); o] };
+    Card { a: 8, o, first: vec![Some(middle); o], cells: (0..cells).map(cell).collect() }
+}
+
 /// A card as a person would draw it: sets that survive their action, and words that name a cell with the
 /// states in question, where there is one.
 pub fn drawn(rng: &mut Rng, game: &Game, cells: usize) -> Card {
@@ -543,6 +631,18 @@ pub fn walk(rng: &mut Rng, card: &Card, length: usize) -> Vec<u32> {
         targets = &card.cells[targets[r].expect("it can occur")].next;
     }
     observations
+}
+
+/// Numbers for a run: what the card takes one after the other, mostly with some other number among them.
+pub fn numbers(rng: &mut Rng, card: &Card, longest: usize) -> Vec<u32> {
+    let length = rng.within(0, longest);
+    let mut numbers = walk(rng, card, length);
+    let (o, any, wild) = (card.o as u32, rng.below(card.o) as u32, rng.word());
+    if rng.percent(60) {
+        let other = rng.pick(&[any, any, any, o, o + 1, any | 1 << 16, wild]);
+        numbers.insert(rng.within(0, numbers.len()), other);
+    }
+    numbers
 }
 
 /// Damages words: a bit flipped, a word cut, added, replaced, swapped or pushed by a little, or what marks the

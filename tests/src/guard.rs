@@ -1,9 +1,9 @@
 //! Calls of the archive with guard words before and behind every buffer and random contents in it.
-//! After each call every word of every buffer is compared, and of each card that solve wrote it is checked
-//! that the tightest cells are named.
+//! After each call every word of every buffer is compared. Of each card that solve wrote it is checked
+//! that the tightest cells are named, and of each that trim wrote that it has the reached cells alone.
 
 use crate::archive;
-use crate::check::{names_tightest, Runner};
+use crate::check::{is_trimmed, names_tightest, Runner};
 use crate::gen::Rng;
 use crate::oracle::{card_length, Call, Fields, Outcome};
 use std::fmt::Debug;
@@ -77,6 +77,30 @@ impl<T: Draw> Lent<T> {
     }
 }
 
+impl Lent<u32> {
+    /// Contents that could be taken for what a program notes of cells: in either half of a word, in both or in
+    /// neither a number about as large as the buffer is long, or the same in all words.
+    fn scribble(&mut self, rng: &mut Rng) {
+        let (style, bound) = (rng.below(8), self.length + 2);
+        let (low, high) = (rng.below(bound) as u32, rng.below(bound) as u32);
+        for word in self.part_mut() {
+            let (some, other) = (rng.below(bound) as u32, rng.below(bound) as u32);
+            *word = match style {
+                0 => some,
+                1 => some << 16,
+                2 => other << 16 | some,
+                3 => rng.pick(&[0, 1]),
+                4 => rng.pick(&[0, 1 << 16]),
+                5 => high << 16 | low,
+                6 => rng.pick(&[u32::MAX, 0xFFFF, 0xFFFF_0000]),
+                _ => *word,
+            };
+        }
+        let words = self.part().to_vec();
+        self.expect(&words);
+    }
+}
+
 impl Lent<u64> {
     fn array(&mut self) -> &mut [u64; 3] {
         self.part_mut().try_into().expect("the answer has three words")
@@ -124,6 +148,11 @@ impl Buffers {
             Call::Show { table, card, .. } | Call::JudgeCard { table, card } => {
                 Buffers::new(rng, &[table, card], 0, 0)
             }
+            Call::Trim { card, work, out } => {
+                let mut buffers = Buffers::new(rng, &[card], work, out);
+                buffers.work.scribble(rng);
+                buffers
+            }
         }
     }
 
@@ -149,6 +178,7 @@ impl Buffers {
             Call::Drive { observations, .. } => archive::drive(input(0), observations, answer),
             Call::Show { cell, .. } => archive::show(input(0), input(1), cell, answer),
             Call::JudgeCard { .. } => archive::judge_card(input(0), input(1), answer),
+            Call::Trim { .. } => archive::trim(input(0), work, out, answer),
         }
     }
 
@@ -160,16 +190,20 @@ impl Buffers {
         self.inputs.iter().for_each(|input| input.check("input", call));
         self.work.check("work", call);
         self.out.check("result", call);
-        self.check_names(call);
+        self.check_law(call);
     }
 
     /// The law on the words themselves, so that no mistake of the model hides one of the archive.
-    fn check_names(&self, call: &Call) {
-        if let (Call::Solve { table, .. }, &[0, _, cells]) = (call, self.answer.part()) {
-            let words = card_length(cells as usize, (table[0] >> 16 & 15) as usize);
-            let named = names_tightest(table, &self.out.part()[..words]);
-            assert_eq!(named, Ok(()), "{call:?}");
-        }
+    fn check_law(&self, call: &Call) {
+        let held = match (call, self.answer.part()) {
+            (Call::Solve { table, .. }, &[0, _, cells]) => {
+                let words = card_length(cells as usize, (table[0] >> 16 & 15) as usize);
+                names_tightest(table, &self.out.part()[..words])
+            }
+            (Call::Trim { card, .. }, &[0, words, _]) => is_trimmed(card, &self.out.part()[..words as usize]),
+            _ => Ok(()),
+        };
+        assert_eq!(held, Ok(()), "{call:?}");
     }
 }
 

@@ -2,23 +2,29 @@
 //! code.
 //!
 //! - `game`, `oracle`: the game, the words, the entries and their refusals, as plain as can be;
-//! - `check`: checkers of verdicts by playing and by searching for strategies, and of the cells that a card names;
+//! - `trim`: cards without idle cells, as plain;
+//! - `check`: checkers of verdicts by playing and by searching for strategies, of the cells that a card names, and
+//!   of a trimmed card;
 //! - `finished`: what document 02's change 2 says of all tables with parked states;
-//! - `fast`: a quick solver, lists, judges and runner for the benchmark;
+//! - `idle`: what its change 5 says of all cards;
+//! - `fast`, `fast_trim`: a quick solver, lists, judges, runner and trimmer for the benchmark;
 //! - `gen`: random tables, lists, cards, plays and damage;
 //! - `stations`: the inputs and answers that document 01 itself gives, judged cards, stations with parked
-//!   states, and stations in which several cells hold the states in question;
+//!   states, stations in which several cells hold the states in question, and trimmed cards;
 //! - `archive`, `guard`, `stack` (only with the feature `archive`): the proved archive by the raw layer
 //!   of the crate in `rust/`, called with guard words around every buffer, and its stack measured.
 
 pub mod check;
 pub mod fast;
+pub mod fast_trim;
 pub mod finished;
 pub mod game;
 pub mod gen;
+pub mod idle;
 pub mod oracle;
 pub mod run;
 pub mod stations;
+pub mod trim;
 
 #[cfg(feature = "archive")]
 pub mod guard;

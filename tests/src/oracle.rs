@@ -1,7 +1,8 @@
 //! The entries of document 01 and of document 02's changes 1 to 3 as a plain independent model: words,
-//! checks, refusals in their order, and what becomes of every lent word.
+//! checks, refusals in their order, and what becomes of every lent word. (Change 5 has a file of its own, `trim`.)
 
 use crate::game::{self, members, subset, Game};
+use crate::trim;
 use std::fmt;
 
 /// Document 01's limits.
@@ -609,6 +610,7 @@ pub enum Call<'a> {
     Drive { card: &'a [u32], observations: [u32; 3] },
     Show { table: &'a [u32], card: &'a [u32], cell: u32 },
     JudgeCard { table: &'a [u32], card: &'a [u32] },
+    Trim { card: &'a [u32], work: usize, out: usize },
 }
 
 /// What a call must leave: the answer, and the front of the buffers. All other words stay.
@@ -679,6 +681,7 @@ pub fn outcome(call: &Call) -> Outcome {
             show(table, card, cell).map(|(offset, length)| Outcome::done(offset as u64, length as u64))
         }
         Call::JudgeCard { table, card } => judge_card(table, card).map(|()| Outcome::done(0, 0)),
+        Call::Trim { card, work, out } => Ok(trim::outcome(card, work, out)),
     };
     result.unwrap_or_else(|refusal| Outcome::refused(refusal.number, refusal.place))
 }
@@ -725,6 +728,7 @@ impl fmt::Debug for Call<'_> {
                 write!(f, "show, cell {cell}, table {}, card {}", hex(table), hex(card))
             }
             Call::JudgeCard { table, card } => write!(f, "judge a card, table {}, card {}", hex(table), hex(card)),
+            Call::Trim { card, work, out } => write!(f, "trim, work {work}, out {out}, card {}", hex(card)),
         }
     }
 }

@@ -118,6 +118,7 @@ fn machine(call: &Call, rooms: &mut Rooms) -> Option<Machine> {
             machine!(kirdanzug_show, pair(table), pair(card), numbers(&[cell]), answer)
         }
         Call::JudgeCard { table, card } => machine!(kirdanzug_judge_card, pair(table), pair(card), answer),
+        Call::Trim { card, .. } => machine!(kirdanzug_trim, pair(card), work, out, answer),
         Call::Drive { .. } => return None,
     })
 }
@@ -164,6 +165,9 @@ impl Measured {
     fn card(&mut self, rng: &mut Rng, table: &[u32], card: &[u32]) {
         self.call(Call::CheckCard { card });
         self.call(Call::JudgeCard { table, card });
+        for (work, out) in [(1 << 12, card.len()), (1 << 12, 0), (0, 0)] {
+            self.call(Call::Trim { card, work, out });
+        }
         for observation in 0..=8 {
             let observations = &vec![observation; rng.within(0, 20)];
             self.call(Call::Open { card, observation });
@@ -187,6 +191,7 @@ impl Measured {
 fn lengths(call: &Call) -> (usize, usize) {
     match *call {
         Call::Solve { work, card, .. } => (work, card),
+        Call::Trim { work, out, .. } => (work, out),
         Call::Join { out, .. }
         | Call::Meet { out, .. }
         | Call::Rewrite { out, .. }
@@ -204,6 +209,9 @@ pub fn measure(rng: &mut Rng) -> Most {
     stations::rows().for_each(|row| measured.call(row.call));
     measured.table(rng, &oracle::table_words(&gen::counter(12)));
     measured.table(rng, &oracle::table_words(&gen::ring(12, &gen::WIDE_RING, 8)));
+    for card in [gen::chain(4096, 8), gen::lone(4096, 8), gen::chain(4096, 1), gen::lone(4096, 1)] {
+        measured.card(rng, &stations::A, &oracle::card_words(&card));
+    }
     for i in 0..100 {
         let n = rng.within(1, 12);
         let mut table = gen::table(rng, SHAPES[i % SHAPES.len()], n, 8, 8);

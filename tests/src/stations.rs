@@ -1,8 +1,8 @@
 //! What document 01 itself gives: its stations with their answers, and every row of the table of
 //! refusals with its small input. The answers here are copied from the document, not computed. Runs
 //! over lists of observations are done by hand on its cards, and so are the judged cards of document
-//! 02's change 1, the stations with parked states of its change 2 and those of its change 3, in which several
-//! cells hold the states in question.
+//! 02's change 1, the stations with parked states of its change 2, those of its change 3, in which several
+//! cells hold the states in question, and the trimmed cards of its change 5.
 
 use crate::oracle::{Call, Fields, Outcome};
 
@@ -301,7 +301,7 @@ pub fn checks() -> Vec<Row> {
 pub fn rows() -> impl Iterator<Item = Row> {
     let base = stations().into_iter().chain(refusals()).chain(runs()).chain(checks()).chain(judged());
     let base = base.chain(parked_stations()).chain(parked_refusals()).chain(parked_writes()).chain(parked_cards());
-    base.chain(tightest_stations()).chain(tightest_cards())
+    base.chain(tightest_stations()).chain(tightest_cards()).chain(trimmed()).chain(trim_refusals())
 }
 
 // ---- Finished batches (document 02, change 2) --------------------------------------------------
@@ -679,6 +679,137 @@ pub fn tightest_cards() -> Vec<Row> {
         judge(&TIED, &TIED_NEXT_HIGHEST),
         judge(&TIED, &TIED_NEXT_WIDE),
         judge(&TIED, &TIED_LOWEST),
+    ]
+}
+
+// ---- Cards without idle cells (document 02, change 5) ------------------------------------------
+
+/// Cell 0 is idle: every word names cell 1.
+pub const TIGHTEST_TRIMMED: [u32; 4] = [0x80210001, 0x90000000, 0xA0100009, 0xB0000000];
+/// The cells 0 and 2 are.
+const TIED_TRIMMED: [u32; 4] = [0x80310001, 0x90000000, 0xA0100009, 0xB0000000];
+/// Cell 0 names itself. Cell 2 is named by cell 1 and by itself, but cell 1 is not reached.
+pub const REMOTE: [u32; 8] = [
+    0x80210003, 0x90000000, 0xA0000001, 0xB0000000, 0xA0100002, 0xB0000002, 0xA0000004, 0xB0000002,
+];
+/// The cells 1 and 2 name each other.
+const REMOTE_RING: [u32; 8] = with(REMOTE, 7, 0xB0000001);
+/// Cell 1 names cell 0, which is reached.
+const REMOTE_BACK: [u32; 8] = with(REMOTE, 5, 0xB0000000);
+pub const REMOTE_TRIMMED: [u32; 4] = [0x80210001, 0x90000000, 0xA0000001, 0xB0000000];
+/// The first words name 4 and 2; these name each other and 2 itself. The others name reached cells too.
+pub const SCATTERED: [u32; 18] = [
+    0x80320005, 0x90000004, 0x90010002, 0xA0000001, 0xB0000004, 0xB0010000, 0xA0100002, 0xB000FFFF, 0xB0010003,
+    0xA0200004, 0xB0000004, 0xB0010002, 0xA0000008, 0xB0000001, 0xB001FFFF, 0xA0100010, 0xB0000002, 0xB001FFFF,
+];
+/// 2 is now 0, and 4 is 1.
+pub const SCATTERED_TRIMMED: [u32; 9] = [
+    0x80320002, 0x90000001, 0x90010000, 0xA0200004, 0xB0000001, 0xB0010000, 0xA0100010, 0xB0000000, 0xB001FFFF,
+];
+/// No first word names a cell. From cell 0 one comes to 3, and from there to 3 and 0.
+pub const UNENTERED: [u32; 15] = [
+    0x80220004, 0x9000FFFF, 0x9001FFFF, 0xA0000001, 0xB0000003, 0xB001FFFF, 0xA0100002, 0xB0000000, 0xB0010002,
+    0xA0000004, 0xB0000001, 0xB0010000, 0xA0100008, 0xB0000003, 0xB0010000,
+];
+pub const UNENTERED_TRIMMED: [u32; 9] = [
+    0x80220002, 0x9000FFFF, 0x9001FFFF, 0xA0000001, 0xB0000001, 0xB001FFFF, 0xA0100008, 0xB0000001, 0xB0010000,
+];
+/// From cell 0 nothing can occur; cell 1 names it.
+const UNENTERED_ALONE: [u32; 6] = [0x80110002, 0x9000FFFF, 0xA0000001, 0xB000FFFF, 0xA0000002, 0xB0000000];
+const UNENTERED_ALONE_TRIMMED: [u32; 4] = [0x80110001, 0x9000FFFF, 0xA0000001, 0xB000FFFF];
+/// One first word names a cell, 2, so cell 0 does not count; 2 names 1.
+pub const HALF_ENTERED: [u32; 12] = [
+    0x80220003, 0x9000FFFF, 0x90010002, 0xA0000001, 0xB0000000, 0xB001FFFF, 0xA0000002, 0xB0000001, 0xB001FFFF,
+    0xA0100004, 0xB000FFFF, 0xB0010001,
+];
+pub const HALF_ENTERED_TRIMMED: [u32; 9] = [
+    0x80220002, 0x9000FFFF, 0x90010001, 0xA0000002, 0xB0000000, 0xB001FFFF, 0xA0100004, 0xB000FFFF, 0xB0010000,
+];
+/// One comes to 3, then 1, then 2, then 3 again; cell 0 names 1, and is idle.
+pub const DISCOVERED: [u32; 10] = [
+    0x80410004, 0x90000003, 0xA0000001, 0xB0000001, 0xA0100002, 0xB0000002, 0xA0200004, 0xB0000003, 0xA0300008,
+    0xB0000001,
+];
+pub const DISCOVERED_TRIMMED: [u32; 8] = [
+    0x80410003, 0x90000002, 0xA0100002, 0xB0000001, 0xA0200004, 0xB0000002, 0xA0300008, 0xB0000000,
+];
+/// Each cell names the one below it.
+const DOWNWARDS: [u32; 10] = [
+    0x80110004, 0x90000003, 0xA0000001, 0xB000FFFF, 0xA0000002, 0xB0000000, 0xA0000004, 0xB0000001, 0xA0000008,
+    0xB0000002,
+];
+
+/// Cards and what they are trimmed to, by hand. A's, C's and the others in the first rows have no idle cell.
+pub const TRIMS: [(&str, &[u32], &[u32]); 19] = [
+    ("A's card trimmed", &A_CARD, &A_CARD),
+    ("C's card trimmed", &C_CARD, &C_CARD),
+    ("F's card trimmed", &F_CARD, &F_CARD),
+    ("N's card trimmed", &N_CARD, &N_CARD),
+    ("E parked, its card trimmed", &E_PARKED_CARD, &E_PARKED_CARD),
+    ("a cell for each state of G, trimmed", &G_CARD, &G_CARD),
+    ("each cell names the one below", &DOWNWARDS, &DOWNWARDS),
+    ("A's card, no first cell", &A_CARD_NO_FIRST, &A_CARD_NO_FIRST),
+    ("A's card with a cell that is never entered, trimmed", &A_CARD_IDLE, &A_CARD),
+    ("tightest trimmed", &TIGHTEST_CARD, &TIGHTEST_TRIMMED),
+    ("tied trimmed", &TIED_CARD, &TIED_TRIMMED),
+    ("named by an unreached cell alone", &REMOTE, &REMOTE_TRIMMED),
+    ("two unreached cells that name each other", &REMOTE_RING, &REMOTE_TRIMMED),
+    ("an unreached cell that names a reached one", &REMOTE_BACK, &REMOTE_TRIMMED),
+    ("renumbered", &SCATTERED, &SCATTERED_TRIMMED),
+    ("no first cell", &UNENTERED, &UNENTERED_TRIMMED),
+    ("no first cell, and nothing from cell 0", &UNENTERED_ALONE, &UNENTERED_ALONE_TRIMMED),
+    ("one first word of two names a cell", &HALF_ENTERED, &HALF_ENTERED_TRIMMED),
+    ("not in the order of discovery", &DISCOVERED, &DISCOVERED_TRIMMED),
+];
+
+/// How many cells a card's head says it has.
+fn cells_of(card: &[u32]) -> usize {
+    (card[0] & 0xFFFF) as usize
+}
+
+/// Each of these with exact rooms, with more room, one word short of either, and trimmed again.
+pub fn trimmed() -> Vec<Row> {
+    let rows = |(name, card, result): (&'static str, &'static [u32], &'static [u32])| {
+        let (zeroed, words) = (cells_of(card), result.len());
+        let answer = [0, words as u64, cells_of(result) as u64];
+        let done = |zeroed| Outcome { answer, zeroed, written: result.to_vec() };
+        let short = Outcome { answer: [2, 9, words as u64], zeroed, written: Vec::new() };
+        [
+            row(name, Call::Trim { card, work: zeroed, out: words }, done(zeroed)),
+            row(name, Call::Trim { card, work: zeroed + 3, out: words + 5 }, done(zeroed)),
+            row(name, Call::Trim { card, work: zeroed - 1, out: words }, refused(8, zeroed as u64)),
+            row(name, Call::Trim { card, work: zeroed, out: words - 1 }, short),
+            row(name, Call::Trim { card: result, work: cells_of(result), out: words }, done(cells_of(result))),
+        ]
+    };
+    TRIMS.into_iter().flat_map(rows).collect()
+}
+
+const REMOTE_WRONG: [u32; 8] = with(REMOTE, 7, 0xB0000003);
+
+/// What trim refuses, and in which order.
+pub fn trim_refusals() -> Vec<Row> {
+    let trim = |card, work, out| Call::Trim { card, work, out };
+    let short = |zeroed, words| Outcome { answer: [2, 9, words], zeroed, written: Vec::new() };
+    vec![
+        row("13", trim(&A_CARD_HEAD, 9, 9), refused(13, 6)),
+        row("13, no words", trim(&[], 9, 9), refused(13, 0)),
+        row("13, a table", trim(&A, 9, 9), refused(13, 0)),
+        row("13, kind", trim(&A_CARD_KIND, 9, 9), refused(13, 1)),
+        row("13, mask", trim(&A_CARD_MASK, 9, 9), refused(13, 2)),
+        row("13, cell", trim(&A_CARD_CELL, 9, 9), refused(13, 3)),
+        row("13, action", trim(&A_CARD_ACTION, 9, 9), refused(13, 4)),
+        row("13, spare bit", trim(&A_CARD_SPARE, 9, 9), refused(13, 5)),
+        row("13, in an idle cell", trim(&REMOTE_WRONG, 9, 9), refused(13, 7)),
+        row("8, no work", trim(&A_CARD, 0, 6), refused(8, 2)),
+        row("8, work for the cells kept alone", trim(&TIGHTEST_CARD, 1, 4), refused(8, 2)),
+        row("9, no room", trim(&TIGHTEST_CARD, 2, 0), short(2, 4)),
+        row("9, more work", trim(&SCATTERED, 40, 8), short(5, 9)),
+        row("order: 13 before 8", trim(&A_CARD_SPARE, 0, 6), refused(13, 5)),
+        row("order: 13 before 9", trim(&REMOTE_WRONG, 3, 0), refused(13, 7)),
+        row("order: 13 of no words before both", trim(&[], 0, 0), refused(13, 0)),
+        row("order: 8 before 9", trim(&A_CARD, 1, 5), refused(8, 2)),
+        row("order: 8 before 9, no rooms", trim(&TIGHTEST_CARD, 0, 0), refused(8, 2)),
     ]
 }
 

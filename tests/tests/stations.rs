@@ -1,10 +1,12 @@
 //! The models against what document 01 itself says: stations, refusals, printed text; and against the stations
-//! with parked states and those in which several cells hold the states in question, worked out by hand.
+//! with parked states, those in which several cells hold the states in question, and trimmed cards, worked out by
+//! hand.
 
 use kirdanzug_tests::check::{
     differ_in_names, holds_by_states, keeps_clear, keeps_within, names_tightest, no_holds, Runner,
 };
 use kirdanzug_tests::fast::{self, Search};
+use kirdanzug_tests::fast_trim::Trimmer;
 use kirdanzug_tests::game::{self, Game};
 use kirdanzug_tests::oracle::{self, Call, Refusal, Verdict};
 use kirdanzug_tests::stations::{self, Row};
@@ -56,6 +58,12 @@ fn oracle_gives_the_refusals_with_parked_states() {
 fn oracle_gives_the_tightest_cells() {
     check(stations::tightest_stations());
     check(stations::tightest_cards());
+}
+
+#[test]
+fn oracle_gives_the_trimmed_cards() {
+    check(stations::trimmed());
+    check(stations::trim_refusals());
 }
 
 #[test]
@@ -225,6 +233,7 @@ fn fast_model_gives_the_stations(search: Search) {
     let mut solver = fast::Solver::new(search);
     let mut judge = fast::Judge::new();
     let mut card_judge = fast::CardJudge::new();
+    let mut trimmer = Trimmer::new();
     for Row { name, call, outcome } in stations::rows() {
         let mut out = vec![0; 64];
         let found = match call {
@@ -243,6 +252,10 @@ fn fast_model_gives_the_stations(search: Search) {
             Call::Run { card, observations, out: room } => answer(fast::run(card, observations, &mut out[..room])),
             Call::Drive { card, observations } => moved(fast::drive(card, observations)),
             Call::JudgeCard { table, card } => answer(card_judge.judge(table, card).map(|()| 0)),
+            Call::Trim { card, work, out: room } => {
+                let done = trimmer.trim(card, &mut vec![7; work], &mut out[..room]);
+                done.map_or_else(|refusal| answer(Err(refusal)), |(words, cells)| [0, words as u64, cells as u64])
+            }
             // The benchmark has none of these.
             Call::Rewrite { .. }
             | Call::CheckTable { .. }

@@ -6,16 +6,18 @@
 //! it (`bench PLOT.svg`) also writes a plot of time against n there. Both sides read the table's words, write
 //! the card and zero the lent work words, as document 01 says. Buffers are not cleared before a call.
 //! Both sides check a card once in a run, in a step and in each move of a runner. Both judges of cards read the
-//! table's and the card's words in each call.
+//! table's and the card's words in each call, both trimmers the card's. `bench trim` prints the trimmers' rows alone.
 //! Answers are compared before anything is timed. What is measured is the
 //! processor time of the thread, the two sides in turn, so that a busy machine does little harm.
 
 use kirdanzug_tests::archive;
 use kirdanzug_tests::fast::{self, Search};
-use kirdanzug_tests::gen::{self, Rng, Shape, SHAPES};
-use kirdanzug_tests::oracle::{card_words, decide, read_table, table_words, Verdict, NO_CELL};
+use kirdanzug_tests::fast_trim::Trimmer;
+use kirdanzug_tests::gen::{self, Rng, Shape, Wiring, SHAPES};
+use kirdanzug_tests::oracle::{card_words, decide, read_card, read_table, table_words, Verdict, NO_CELL};
 use kirdanzug_tests::run::seed;
 use kirdanzug_tests::stations;
+use kirdanzug_tests::trim;
 use std::hint::black_box;
 use std::path::PathBuf;
 
@@ -409,6 +411,49 @@ fn measure_card_judge(pairs: &[Pair]) -> (Medians, String) {
     (measure(pairs.len(), &mut [&mut rattle, &mut rust]), what)
 }
 
+/// Trims each card into rooms for the largest, on both sides.
+fn measure_trim(cards: &[Vec<u32>]) -> (Medians, String) {
+    let mut trimmer = Trimmer::new();
+    let longest = cards.iter().map(Vec::len).max().expect("there are cards");
+    let [mut work, mut other_work] = [(); 2].map(|_| vec![7u32; 4096]);
+    let [mut out, mut other_out] = [(); 2].map(|_| vec![7u32; longest]);
+    let (mut cells, mut kept) = (0, 0);
+    for card in cards {
+        let mut answer = [9; 3];
+        archive::trim(card, &mut work, &mut out, &mut answer);
+        let (words, left) = trimmer.trim(card, &mut other_work, &mut other_out).expect("there is room");
+        assert_eq!(answer, [0, words as u64, left as u64], "the trimmers differ on {card:x?}");
+        assert_eq!((&work, &out), (&other_work, &other_out), "the words differ on {card:x?}");
+        (cells, kept) = (cells + (card[0] & 0xFFFF), kept + left);
+    }
+    let mut rattle = || {
+        for card in cards {
+            let mut answer = [0; 3];
+            archive::trim(black_box(card), &mut work, &mut out, &mut answer);
+            black_box(answer);
+        }
+    };
+    let mut rust = || {
+        for card in cards {
+            black_box(trimmer.trim(black_box(card), &mut other_work, &mut other_out)).expect("there is room");
+        }
+    };
+    let medians = measure(cards.len(), &mut [&mut rattle, &mut rust]);
+    let many = if cards.len() > 1 { format!("{} cards, ", cards.len()) } else { String::new() };
+    (medians, format!("{many}{kept} of {cells} cells kept"))
+}
+
+/// The solver's cards for those of the tables that have one.
+fn solved_cards(tables: Vec<Vec<u32>>) -> Vec<Vec<u32>> {
+    solved(tables).into_iter().map(|(_, card)| card).collect()
+}
+
+/// The cards without their idle cells.
+fn without_idle(cards: Vec<Vec<u32>>) -> Vec<Vec<u32>> {
+    let trimmed = |card: &Vec<u32>| card_words(&trim::trimmed(&read_card(card).expect("it is a card")));
+    cards.iter().map(trimmed).collect()
+}
+
 /// An antichain of so many random sets of six states.
 fn random_antichain(rng: &mut Rng, length: usize) -> Vec<u32> {
     let mut sets: Vec<u32> = (0..4096u32).filter(|set| set.count_ones() == 6).collect();
@@ -437,6 +482,9 @@ fn print_row(name: &str, (medians, what): &(Medians, String)) {
 fn main() {
     let plot = std::env::args().nth(1).map(PathBuf::from);
     println!("Median of {SAMPLES} measurements, per call; ratio is Rattle over Rust. Seed {}.\n", seed());
+    if plot.as_deref().is_some_and(|name| name.as_os_str() == "trim") {
+        return print_trims();
+    }
     print_head();
     let mut ratios = Vec::new();
     for row in rows_at_twelve() {
@@ -454,6 +502,8 @@ fn main() {
     print_card_judges();
     println!("\nMedian ratio of the solve rows: {:.2}\n", median(ratios));
     print_parked();
+    print_trims();
+    println!();
     print_head();
     let curves = growth();
     match plot {
@@ -508,6 +558,32 @@ fn print_card_judges() {
     for o in [1, 8] {
         row(&format!("all sets, by hand, n 12, o {o}"), &[all_sets(o)]);
         row(&format!("all sets, refused at a first word, o {o}"), &[refused_early(all_sets(o), o)]);
+    }
+}
+
+/// Cards without idle cells: the solver's, of which some have idle cells and some not, and cards of 4,096 cells.
+fn print_trims() {
+    print_head();
+    let row = |name: &str, cards: &[Vec<u32>]| print_row(&format!("trim: {name}"), &measure_trim(cards));
+    row("station A", &[stations::A_CARD.to_vec()]);
+    row("station tightest", &[stations::TIGHTEST_CARD.to_vec()]);
+    row("random, mixed, n 12, a 8, o 8", &solved_cards(mixed_tables(12, 5)));
+    row("rings, n 12, a 8, o 8", &solved_cards(random_tables(Shape::Ring, 12, 20)));
+    for o in [1, 8] {
+        row(&format!("large antichain, n 12, o {o}"), &solved_cards(wide_ring(o)));
+    }
+    for Tables { name, tables } in overlapping_rows() {
+        let cards = solved_cards(tables);
+        row(&name, &cards);
+        row(&format!("{name}, again"), &without_idle(cards));
+    }
+    for o in [1, 8] {
+        row(&format!("chain of 4,096 cells, o {o}"), &[card_words(&gen::chain(4096, o))]);
+        row(&format!("one reached cell of 4,096, o {o}"), &[card_words(&gen::lone(4096, o))]);
+    }
+    for o in [2, 8] {
+        let card = gen::wired(&mut Rng::new(seed(), 5), Wiring::Islands, 4096, 8, o, true);
+        row(&format!("cells in islands, 4,096, o {o}"), &[card_words(&card)]);
     }
 }
 
