@@ -244,7 +244,7 @@ pub extern "C" fn kirdanzug_judge_card(table: &[u32], card: &[u32], answer: &mut
     *answer = answers::check_words(certificates::judge_card(table, card));
 }
 
-// 0, words, cells: the card without the cells that no list of observations leads to, in front of `out`.
+// 0, words, cells: the card without its idle cells, in front of `out`.
 #[no_mangle]
 pub extern "C" fn kirdanzug_trim(
     card: &[u32],

@@ -1,17 +1,18 @@
-// The trimmer (document 02, change 5): a card without the cells that no list of observations leads to. Each cell is taken up once: a
-// word of the work has a cell's mark in its lower half, and in its upper half an entry of the list of waiting cells. Later these are
-// the cell's new number and an entry of the list of kept cells.
+// The trimmer (document 02, change 5): a card without its idle cells, those that are not reached. Each reached cell is taken up once: a
+// word of the work has a cell's mark in its lower half, and in its upper half a cell that waits. Later these are the cell's new number
+// and an entry of the list of kept cells.
 ghost use mathlib.Core.Path.{_≡_};
 ghost use mathlib.Core.List.{_++_};
 ghost use Prim.Native.Nat.{_+_, _<_, _≤_};
 ghost use lib.ListN.{length, drop};
 ghost use Rattle.games.specs.Answers.{leaves};
+ghost use Rattle.games.specs.Automaton.{noCell};
 ghost use Rattle.games.specs.Format.{numberValues, kindValues};
 ghost use Rattle.games.specs.declared.Checked.the-variants.{Fine};
 ghost use Rattle.cards.specs.Card.{cardCells, cardObservations, automaton, checked};
 ghost use Rattle.trimming.specs.Trim.{trimmed};
 ghost use Rattle.trimmer.specs.Halves.{halfValues, lowerHalf, upperHalf, putLower, putUpper, marked};
-ghost use Rattle.trimmer.specs.Marking.{Listing, Added, namedFrom, NamesInside, Naming, Begun, Marked};
+ghost use Rattle.trimmer.specs.Marking.{Listing, Added, namedFrom, namedOr, NamesInside, Naming, Own, FirstNamed, Taking, Marked};
 ghost use Rattle.trimmer.specs.Numbering.{Numbered, Renumbering, newName, rowWords};
 ghost use Rattle.trimmer.specs.Trimmer.{keptCells, byRoom, buffers, trimmedInto, Trims};
 use games::Cell;
@@ -57,53 +58,114 @@ fn put_upper(work: &mut [u32], i: usize, x: u32)
     work[i] = x * HALF_VALUES + old % HALF_VALUES;
 }
 
-// Marks a cell and puts it behind those that wait, unless it is marked already; how many wait then.
-fn mark(work: &mut [u32], waiting: usize, cell: Cell) -> usize
-    requires { ⌜ Listing (now work) waiting × (cell .0 < length (now work)) × (length (now work) ≤ halfValues) ⌝ }
-    ensures { λ r. ⌜ Added (λ _. cell .0) 1 (now (work .entry)) waiting (now (work .exit)) r ⌝ }
-{
-    let c = cell.0;
-    if 0 < lower(work, c as usize) {
-        return waiting;
-    }
-    put_lower(work, c as usize, 1);
-    put_upper(work, waiting, c);
-    waiting + 1
+// The cells that wait to be taken up: how many, and the one that is next. Those behind it stand in the upper halves of the work; it is
+// held apart, so that a chain of cells is followed without waiting for the memory.
+struct Waiting {
+    cells: usize,
+    next: Cell,
 }
 
-// Marks the cells that so many first or next words from a place on name, and puts them behind those that wait.
-fn mark_named(card: &[u32], at: usize, count: u32, work: &mut [u32], waiting: usize) -> usize
-    requires { ⌜ Naming (now card) at count (length (now work)) × Listing (now work) waiting ⌝ }
-    ensures { λ r. ⌜ Added (namedFrom (now (card .entry)) at) count (now (work .entry)) waiting (now (work .exit)) r ⌝ }
+// The cell that a word names; the other one where it names none.
+fn named_or(cell: Cell, other: Cell) -> Cell
+    ensures { λ r. ⌜ r .0 ≡ namedOr (cell .0) (other .0) ⌝ }
+{
+    if cell.0 == games::NO_CELL {
+        return other;
+    }
+    cell
+}
+
+// Marks the cell that a word names and puts it in front of those that wait, unless it is marked already. A word that names none counts
+// as a cell that is marked, so that one test does for both.
+fn mark(work: &mut [u32], own: Cell, cell: Cell, waiting: Waiting) -> Waiting
+    requires { ⌜ Listing (now work) (waiting .cells) (waiting .next .0) × Own (now work) (own .0)
+        × NamesInside (cell .0) (length (now work)) × (length (now work) ≤ noCell) ⌝ }
+    ensures { λ r. ⌜ Added (λ _. cell .0) 1 (now (work .entry)) (waiting .cells) (waiting .next .0) (now (work .exit)) (r .cells) (r .next .0) ⌝ }
+{
+    let tested = named_or(cell, own);
+    if 0 < lower(work, tested.0 as usize) {
+        return waiting;
+    }
+    let behind = waiting.next;
+    put_lower(work, cell.0 as usize, 1);
+    put_upper(work, waiting.cells, behind.0);
+    Waiting {
+        cells: waiting.cells + 1,
+        next: cell,
+    }
+}
+
+// Marks the cells that so many first or next words from a place on name.
+fn mark_named(
+    card: &[u32],
+    at: usize,
+    count: u32,
+    own: Cell,
+    work: &mut [u32],
+    waiting: Waiting,
+) -> Waiting
+    requires { ⌜ Naming (now card) at count (length (now work)) × Listing (now work) (waiting .cells) (waiting .next .0)
+        × Own (now work) (own .0) ⌝ }
+    ensures { λ r. ⌜ Added (namedFrom (now (card .entry)) at) count (now (work .entry)) (waiting .cells) (waiting .next .0)
+        (now (work .exit)) (r .cells) (r .next .0) ⌝ }
 {
     let mut listed = waiting;
     let mut j: u32 = 0;
     while j < count {
         let cell = games::low_field(card[at + j as usize]);
-        if cell != games::NO_CELL {
-            listed = mark(work, listed, Cell(cell));
-        }
+        listed = mark(work, own, Cell(cell), listed);
         j += 1;
     }
     listed
 }
 
+// The first cell that a first word names; cell 0 where none does.
+fn first_named(card: &[u32]) -> Cell
+    requires { ⌜ checked (now card) ≡ Fine ⌝ }
+    ensures { λ r. ⌜ FirstNamed (automaton (now (card .entry))) (cardObservations (now (card .entry))) (r .0) ⌝ }
+{
+    let o = cards::observations(card);
+    let mut j: u32 = 0;
+    while j < o {
+        let cell = cards::first_cell(card, Observation(j));
+        if cell.0 != games::NO_CELL {
+            return cell;
+        }
+        j += 1;
+    }
+    Cell(0)
+}
+
 // Marks the cells where a run begins: those that first words name, or cell 0 where no first word names one.
-fn mark_firsts(card: &[u32], work: &mut [u32]) -> usize
+fn mark_firsts(card: &[u32], work: &mut [u32]) -> Waiting
     requires { ⌜ (checked (now card) ≡ Fine) × (length (now work) ≡ cardCells (now card)) ⌝ }
-    ensures { λ r. ⌜ Begun (automaton (now (card .entry))) (cardObservations (now (card .entry))) (now (work .exit)) r ⌝ }
+    ensures { λ r. ⌜ Taking (automaton (now (card .entry))) (cardObservations (now (card .entry))) 0 (now (work .exit)) (r .cells) (r .next .0) ⌝ }
 {
     let cells = work.len();
     sets::fill(work, cells, 0);
-    let waiting = mark_named(card, 1, cards::observations(card), work, 0);
-    if waiting == 0 {
-        return mark(work, waiting, Cell(0));
-    }
-    waiting
+    let first = first_named(card);
+    put_lower(work, first.0 as usize, 1);
+    let waiting = Waiting {
+        cells: 1,
+        next: first,
+    };
+    mark_named(card, 1, cards::observations(card), first, work, waiting)
 }
 
-// Marks the reached cells: each waiting cell is taken up once, and the cells that its next words name wait behind it. How many cells
-// are reached.
+// What waits behind the next cell.
+fn behind_next(work: &[u32], waiting: Waiting) -> Waiting
+    requires { ⌜ (0 < waiting .cells) × (waiting .cells ≤ length (now work)) ⌝ }
+    ensures { λ r. ⌜ (r .cells + 1 ≡ waiting .cells) × (r .next .0 ≡ upperHalf (now (work .entry)) (r .cells)) × (r .next .0 < halfValues) ⌝ }
+{
+    let cells = waiting.cells - 1;
+    Waiting {
+        cells,
+        next: Cell(upper(work, cells)),
+    }
+}
+
+// Marks the reached cells: each waiting cell is taken up once, and the cells that its next words name wait then. How many cells are
+// reached.
 fn mark_reached(card: &[u32], work: &mut [u32]) -> usize
     requires { ⌜ (checked (now card) ≡ Fine) × (length (now work) ≡ cardCells (now card)) ⌝ }
     ensures { λ r. ⌜ Marked (automaton (now (card .entry))) (cardObservations (now (card .entry))) (now (work .exit)) r ⌝ }
@@ -111,13 +173,14 @@ fn mark_reached(card: &[u32], work: &mut [u32]) -> usize
     let o = cards::observations(card);
     let mut waiting = mark_firsts(card, work);
     let mut taken: usize = 0;
-    while taken < waiting {
-        let cell = upper(work, taken);
-        let at = cards::cell_place(o, Cell(cell));
-        waiting = mark_named(card, at + 1, o, work, waiting);
+    while 0 < waiting.cells {
+        let cell = waiting.next;
+        let at = cards::cell_place(o, cell);
+        let others = behind_next(work, waiting);
+        waiting = mark_named(card, at + 1, o, cell, work, others);
         taken += 1;
     }
-    waiting
+    taken
 }
 
 // Numbers the marked cells in their order: the new number takes the mark's place, and the list of kept cells that of the waiting ones.
@@ -217,7 +280,7 @@ fn trim_into(card: &[u32], work: &mut [u32], out: &mut [u32]) -> Answer
     Answer::Trimmed(need, kept)
 }
 
-// Trimming a card: the cells that no list of observations leads to are dropped.
+// Trimming a card: its idle cells are dropped.
 pub fn trim(card: &[u32], work: &mut [u32], out: &mut [u32]) -> Answer
     ensures determined { λ r. ⌜ leaves r (buffers (now (work .exit)) (now (out .exit)))
         ≡ trimmedInto (now (card .entry)) (now (work .entry)) (now (out .entry)) ⌝ }

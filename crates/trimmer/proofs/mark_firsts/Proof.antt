@@ -1,4 +1,4 @@
--- `trimmer::mark_firsts` meets its contract: no cell is marked, then those that first words name; where none is, cell 0.
+-- `trimmer::mark_firsts` meets its contract: no cell is marked, then the first one that is named, and from there the others.
 -- Assumes nothing.
 use borrow.Author.Needs.{needs}
 use mathlib.Core.Path.{_≡_, sym, ap, _∙_, subst}
@@ -8,82 +8,102 @@ use Prim.Native.Nat.{ℕ, _≤_, _<_}
 use native.Mathlib.Omega.{arith}
 use lib.ListN.{length}
 use Rattle.games.specs.Automaton.{Automaton, noCell}
-use Rattle.games.specs.declared.Checked.the-variants.{Fine}
-use Rattle.cards.specs.Card.{cardCells, cardObservations, automaton, checked}
+use Rattle.cards.specs.Card.{cardCells, cardObservations, automaton}
 use Rattle.cards.proofs.Checked.{fitting}
 use Rattle.cards.proofs.Running.{size-of}
-use Rattle.trimmer.specs.Halves.{marked}
-use Rattle.trimmer.specs.Marking.{Added, namedFrom, Naming}
-use Rattle.trimmer.proofs.Halves.{zeroed}
-use Rattle.trimmer.proofs.Marking.{none-listed, added-ext, begun-some, begun-alone}
+use Rattle.trimmer.specs.Halves.{halfValues, marked, putLower}
+use Rattle.trimmer.specs.Marking.{Added, namedFrom, Naming, Own, Listing}
+use Rattle.trimmer.proofs.Halves.{zeroed, put-lower-length}
+use Rattle.trimmer.proofs.Marking.{added-ext, one-listing, one-marked, begun}
 use Rattle.trimmer.proofs.Naming.{first-name, firsts-naming}
 use Rattle.trimmer.proofs.mark_firsts.Statement.{statement}
 use Rattle.trimmer.proofs.mark_firsts.Tie as tie
 
-abbrev entry : tie.After-fill → tie.Start
-entry c = c .before .before .before .before
-
 -- the words of 0
-abbrev zeros : tie.After-fill → List ℕ
-zeros c = c .fill .last .0
+abbrev Begins : Type 0
+Begins = tie.After-first-named
 
-no-marks : (c : tie.After-fill) (d : ℕ) → marked (zeros c) d ≡ false
-no-marks c d = ap (λ (w : List ℕ). marked w d) (c .fill .ensures) ∙ zeroed (entry c .args .work .now) d
-
-many : (c : tie.After-fill) → length (zeros c) ≡ cardCells (entry c .args .card .now)
-many c = c .fill .kept .0 ∙ entry c .pre .1
-
--- where the observations are known
-abbrev filled : tie.After-observations → tie.After-fill
+abbrev filled : Begins → tie.After-fill
 filled c = c .before .before .before
 
-naming : (c : tie.After-observations) → Naming (entry (filled c) .args .card .now) 1 (c .observations .result) (length (zeros (filled c)))
-naming c = let x = entry (filled c) in firsts-naming (x .args .card .now) (x .pre .0) _ _ (c .observations .ensures) (many (filled c))
+abbrev entry : Begins → tie.Start
+entry c = filled c .before .before .before .before
 
--- where the first words have been gone through
-abbrev asked : tie.After-mark-named → tie.After-observations
-asked c = c .before .before
+abbrev words : Begins → List ℕ
+words c = entry c .args .card .now
 
-abbrev played : tie.After-mark-named → Automaton
-played c = automaton (entry (filled (asked c)) .args .card .now)
+abbrev zeros : Begins → List ℕ
+zeros c = filled c .fill .last .0
 
-abbrev seen : tie.After-mark-named → ℕ
-seen c = cardObservations (entry (filled (asked c)) .args .card .now)
+abbrev played : Begins → Automaton
+played c = automaton (words c)
 
-sized : (c : tie.After-mark-named) → length (zeros (filled (asked c))) ≡ played c .size
-sized c = many (filled (asked c)) ∙ sym (size-of (entry (filled (asked c)) .args .card .now))
+no-marks : (c : Begins) (d : ℕ) → marked (zeros c) d ≡ false
+no-marks c d = ap (λ (w : List ℕ). marked w d) (filled c .fill .ensures) ∙ zeroed (entry c .args .work .now) d
 
-added : (c : tie.After-mark-named) → Added (played c .begins) (seen c) (zeros (filled (asked c))) 0 (c .mark-named .last .1 .1 .1 .0) (c .mark-named .result)
-added c =
-    let at = asked c in
-    let f = filled at in
-    let x = entry f in
-    added-ext (namedFrom (x .args .card .now) 1) (played c .begins) (seen c) (zeros f) 0 _ _ (first-name (x .args .card .now) (x .pre .0) _ _ (at .observations .ensures) (many f))
-    (subst (λ (n : ℕ). Added (namedFrom (x .args .card .now) 1) n (zeros f) 0 (c .mark-named .last .1 .1 .1 .0) (c .mark-named .result)) (at .observations .ensures) (c .mark-named .ensures))
+many : (c : Begins) → length (zeros c) ≡ cardCells (words c)
+many c = filled c .fill .kept .0 ∙ entry c .pre .1
 
-some-cell : (c : tie.After-mark-named) → 0 < played c .size
-some-cell c = let x = entry (filled (asked c)) in fitting (x .args .card .now) (x .pre .0) .some-cell
+sized : (c : Begins) → length (zeros c) ≡ played c .size
+sized c = many c ∙ sym (size-of (words c))
 
-few : (c : tie.After-mark-named) → played c .size ≤ noCell
-few c = let x = entry (filled (asked c)) in omega (arith, fitting (x .args .card .now) (x .pre .0) .cells)
+few : (c : Begins) → length (zeros c) ≤ halfValues
+few c = omega (arith, sized c, fitting (words c) (entry c .pre .0) .cells)
 
-mark-requires : tie.Need-mark-requires
-mark-requires c κs =
-    let named = c .before .before .before .before in
-    let D = added named in
-    (D .listing, omega (arith, D .same, sized named, some-cell named), omega (arith, D .same, sized named, few named))
+-- the first cell that is named
+abbrev first : Begins → ℕ
+first c = c .first-named .result .0
+
+inside : (c : Begins) → first c < length (zeros c)
+inside c = omega (arith, c .first-named .ensures .inside, sized c)
+
+-- it is marked
+abbrev begins : tie.After-put-lower → Begins
+begins c = c .before .before .before
+
+one-is : (c : tie.After-put-lower) → c .put-lower .last .0 ≡ putLower (zeros (begins c)) (first (begins c)) 1
+one-is c = c .put-lower .ensures
+
+one-long : (c : tie.After-put-lower) → length (c .put-lower .last .0) ≡ cardCells (words (begins c))
+one-long c = ap length (one-is c) ∙ put-lower-length (zeros (begins c)) (first (begins c)) 1 ∙ many (begins c)
+
+own : (c : tie.After-put-lower) → Own (c .put-lower .last .0) (first (begins c))
+own c =
+    let at = begins c in
+    subst (λ (w : List ℕ). Own w (first at)) (sym (one-is c))
+    (record { inside = omega (arith, inside at, put-lower-length (zeros at) (first at) 1); is-marked = one-marked (zeros at) (no-marks at) (first at) (inside at) (few at) })
+
+listing : (c : tie.After-put-lower) → Listing (c .put-lower .last .0) 1 (first (begins c))
+listing c =
+    let at = begins c in
+    subst (λ (w : List ℕ). Listing w 1 (first at)) (sym (one-is c)) (one-listing (zeros at) (no-marks at) (first at) (inside at) (few at))
+
+-- where the first words are gone through
+abbrev marked-one : tie.After-observations → tie.After-put-lower
+marked-one c = c .before .before .before
+
+naming : (c : tie.After-observations) → Naming (words (begins (marked-one c))) 1 (c .observations .result) (length (marked-one c .put-lower .last .0))
+naming c =
+    let one = marked-one c in
+    let at = begins one in
+    firsts-naming (words at) (entry at .pre .0) _ _ (c .observations .ensures) (one-long one)
 
 returns : tie.Need-returns
 returns c =
-    let alone = c .before .before in
-    let none = alone .before .before in
-    let named = none .before .before .before in
-    begun-alone (played named) (seen named) _ (sized named) (no-marks (filled (asked named))) _ _ (added named) (none .if1 .taken) _ _ (some-cell named) (alone .mark .ensures)
-
-returns-2 : tie.Need-returns-2
-returns-2 c =
-    let named = c .before .before .before in
-    begun-some (played named) (seen named) _ (sized named) (no-marks (filled (asked named))) _ _ (added named) (c .if1 .left)
+    let named = c .before .before in
+    let asked = named .before .before in
+    let one = marked-one asked in
+    let at = begins one in
+    let w = words at in
+    let A = played at in
+    let o = cardObservations w in
+    let v = named .mark-named .last .1 .1 .1 .1 .0 in
+    let k = named .mark-named .result .cells in
+    let top = named .mark-named .result .next .0 in
+    begun (zeros at) (no-marks at) (first at) (inside at) (few at) A o (sized at) (at .first-named .ensures) v k top
+    (added-ext (namedFrom w 1) (A .begins) o _ 1 (first at) v k top (first-name w (entry at .pre .0) _ _ (asked .observations .ensures) (one-long one))
+    (subst (λ (u : List ℕ). Added (namedFrom w 1) o u 1 (first at) v k top) (one-is one)
+    (subst (λ (n : ℕ). Added (namedFrom w 1) n (one .put-lower .last .0) 1 (first at) v k top) (asked .observations .ensures) (named .mark-named .ensures))))
 
 pub mark-firsts-spec : {M : Type 1} → statement M
 mark-firsts-spec =
@@ -91,9 +111,9 @@ mark-firsts-spec =
     (tie.spec
     (λ c κs. search needs)
     (λ c κs. search needs)
-    (λ c κs. (naming (c .before), none-listed _ (no-marks (filled (c .before)))))
-    mark-requires
     (λ c. search needs)
-    returns
+    (λ c κs. (inside (c .before .before), omega arith))
+    (λ c κs. search needs)
+    (λ c κs. let asked = c .before in let one = marked-one asked in (naming asked, listing one, own one))
     (λ c. search needs)
-    returns-2)
+    returns)

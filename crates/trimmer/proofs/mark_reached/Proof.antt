@@ -1,5 +1,5 @@
--- `trimmer::mark_reached` meets its contract. The loop's invariant: the cells that the next words of the first `taken` waiting cells
--- name are marked. The measure is how many cells are left to be taken up.
+-- `trimmer::mark_reached` meets its contract. The loop's invariant: `taken` of the marked cells were taken up, and the others wait. The
+-- measure is how many cells are left to be taken up.
 -- Assumes nothing.
 use borrow.Author.Needs.{needs}
 use mathlib.Core.Path.{_≡_, sym, ap, _∙_, subst}
@@ -8,99 +8,123 @@ use Prim.Native.Nat.{ℕ, _+_, _≤_, _<_, _-_}
 use native.Mathlib.Omega.{arith}
 use lib.ListN.{length}
 use Rattle.games.specs.Automaton.{Automaton}
-use Rattle.games.specs.Format.{maxCells}
 use Rattle.games.specs.declared.Checked.the-variants.{Fine}
-use Rattle.cards.specs.Card.{cardCells, cardObservations, cellPlace, automaton, checked}
-use Rattle.cards.proofs.Checked.{fitting, cell-in}
+use Rattle.cards.specs.Card.{cardCells, cardObservations, automaton, checked, Fitting, cardActions}
+use Rattle.cards.proofs.Checked.{fitting}
 use Rattle.cards.proofs.Running.{size-of}
 use Rattle.sets.proofs.Bounded.{count-le}
-use Rattle.trimmer.specs.Halves.{upperHalf, marked}
-use Rattle.trimmer.specs.Marking.{Added, namedFrom, Naming}
-use Rattle.trimmer.proofs.Marking.{Taking, added-ext, taking-none, next-inside, taking-more, taking-end}
+use Rattle.trimmer.specs.Halves.{halfValues, marked}
+use Rattle.trimmer.specs.Marking.{Added, namedFrom, Naming, Taking, Own, Listing}
+use Rattle.trimmer.proofs.Marking.{added-ext, next-inside, next-marked, rest-listing, taking-more, taking-end}
 use Rattle.trimmer.proofs.Naming.{next-name, nexts-naming}
 use Rattle.trimmer.proofs.mark_reached.Statement.{statement}
 use Rattle.trimmer.proofs.mark_reached.Tie as tie
 
 abbrev Inv-loop : tie.InvT-loop
-Inv-loop card work₀ o waiting₀ taken₀ work waiting taken = Taking (automaton card) (cardObservations card) taken waiting work
+Inv-loop card work₀ o waiting₀ taken₀ work waiting taken = Taking (automaton card) (cardObservations card) taken work (waiting .cells) (waiting .next .0)
 
 abbrev μ-loop : tie.MeasureT-loop
 μ-loop card work₀ o waiting₀ taken₀ work waiting taken = length work₀ - taken
 
--- the entry; the card and its automaton; a turn
-abbrev entry : tie.At-loop Inv-loop μ-loop → tie.Start Inv-loop μ-loop
+-- ---- a turn: the card and its automaton
+
+abbrev Turn : Type 0
+Turn = tie.At-loop Inv-loop μ-loop
+
+abbrev entry : Turn → tie.Start Inv-loop μ-loop
 entry t = t .before .before .before .before .before .before .before .before
 
-abbrev words : tie.At-loop Inv-loop μ-loop → List ℕ
+abbrev words : Turn → List ℕ
 words t = entry t .args .card .now
 
-fine : (t : tie.At-loop Inv-loop μ-loop) → checked (words t) ≡ Fine
+abbrev played : Turn → Automaton
+played t = automaton (words t)
+
+abbrev o : Turn → ℕ
+o t = t .before .before .before .before .before .observations .result
+
+fine : (t : Turn) → checked (words t) ≡ Fine
 fine t = entry t .pre .0
 
-seen : (t : tie.At-loop Inv-loop μ-loop) → t .before .before .before .before .before .observations .result ≡ cardObservations (words t)
+fits : (t : Turn) → Fitting (played t) (cardActions (words t)) (cardObservations (words t))
+fits t = fitting (words t) (fine t)
+
+seen : (t : Turn) → o t ≡ cardObservations (words t)
 seen t = t .before .before .before .before .before .observations .ensures
 
-many : (t : tie.At-loop Inv-loop μ-loop) → length (t .loop .work) ≡ cardCells (words t)
-many t = t .loop .inv .begun .size ∙ size-of (words t)
+many : (t : Turn) → length (t .loop .work) ≡ cardCells (words t)
+many t = t .loop .inv .size ∙ size-of (words t)
 
--- as many cells wait at most as there are
-few : (t : tie.At-loop Inv-loop μ-loop) → t .loop .waiting ≤ cardCells (words t)
-few t =
-    let w = t .loop .work in
-    omega (arith, t .loop .inv .begun .listing .many, count-le (length w) (marked w), many t)
+-- no more were taken up, and wait, than there are
+few : (t : Turn) → t .loop .taken + t .loop .waiting .cells ≤ played t .size
+few t = omega (arith, t .loop .inv .many, count-le (played t .size) (marked (t .loop .work)))
 
-first-many : (t : tie.At-loop Inv-loop μ-loop) → length (t .before .before .before .mark-firsts .last .1 .0) ≡ cardCells (words t)
-first-many t = t .before .before .before .mark-firsts .ensures .size ∙ size-of (words t)
+first-many : (t : Turn) → length (t .before .before .before .mark-firsts .last .1 .0) ≡ played t .size
+first-many t = t .before .before .before .mark-firsts .ensures .size
 
--- the cell that is taken up
-abbrev turn : tie.After-upper Inv-loop μ-loop → tie.At-loop Inv-loop μ-loop
+-- ---- the cell that is taken up
+
+abbrev turn : tie.After-cell Inv-loop μ-loop → Turn
 turn c = c .before .before .before
 
-below : (c : tie.After-upper Inv-loop μ-loop) → c .upper .result < cardCells (words (turn c))
-below c =
+some : (c : tie.After-cell Inv-loop μ-loop) → 0 < turn c .loop .waiting .cells
+some c = c .before .if1 .taken
+
+abbrev cell : tie.After-cell Inv-loop μ-loop → ℕ
+cell c = turn c .loop .waiting .next .0
+
+inside : (c : tie.After-cell Inv-loop μ-loop) → cell c < played (turn c) .size
+inside c = let t = turn c in next-inside (played t) (cardObservations (words t)) (t .loop .taken) (t .loop .work) _ (cell c) (t .loop .inv) (some c)
+
+below : (c : tie.After-cell Inv-loop μ-loop) → cell c < cardCells (words (turn c))
+below c = omega (arith, inside c, size-of (words (turn c)))
+
+own : (c : tie.After-cell Inv-loop μ-loop) → Own (turn c .loop .work) (cell c)
+own c =
     let t = turn c in
-    omega (arith, c .upper .ensures, size-of (words t), next-inside (automaton (words t)) (cardObservations (words t)) (t .loop .waiting) (t .loop .work) (t .loop .taken) (t .loop .inv) (c .before .before .loop-test .taken))
+    record {
+      inside = omega (arith, inside c, t .loop .inv .size);
+      is-marked = next-marked (played t) (cardObservations (words t)) (t .loop .taken) (t .loop .work) _ (cell c) (t .loop .inv) (some c);
+    }
 
-cell-place-requires : tie.Need-cell-place-requires Inv-loop μ-loop
-cell-place-requires c κs =
-    let t = turn c in
-    let F = fitting (words t) (fine t) in
-    (omega (arith, seen t, F .observations), omega (arith, below c, F .cells, size-of (words t)))
+-- ---- what waits behind it, and the words that it has
 
-abbrev placed : tie.After-cell-place Inv-loop μ-loop → tie.At-loop Inv-loop μ-loop
-placed c = turn (c .before)
+abbrev Rest : Type 0
+Rest = tie.After-behind-next Inv-loop μ-loop
 
-naming : (c : tie.After-cell-place Inv-loop μ-loop) → Naming (words (placed c)) (c .cell-place .result + 1) (placed c .before .before .before .before .before .observations .result) (length (placed c .loop .work))
-naming c = let t = placed c in nexts-naming (words t) (fine t) _ _ (seen t) (many t) (c .before .upper .result) _ (below (c .before)) (c .cell-place .ensures)
+abbrev taken-up : Rest → tie.After-cell Inv-loop μ-loop
+taken-up c = c .before .before .before
 
-add-mark-named : tie.Need-add-mark-named Inv-loop μ-loop
-add-mark-named c =
-    let t = placed c in
-    omega (arith, seen t, c .cell-place .ensures, below (c .before), fitting (words t) (fine t) .cells, fitting (words t) (fine t) .observations, size-of (words t), naming c .within)
+abbrev here : Rest → Turn
+here c = turn (taken-up c)
+
+naming : (c : Rest) → Naming (words (here c)) (c .before .before .cell-place .result + 1) (o (here c)) (length (here c .loop .work))
+naming c = let t = here c in nexts-naming (words t) (fine t) _ _ (seen t) (many t) (cell (taken-up c)) _ (below (taken-up c)) (c .before .before .cell-place .ensures)
+
+listing : (c : Rest) → Listing (here c .loop .work) (c .behind-next .result .cells) (c .behind-next .result .next .0)
+listing c =
+    let t = here c in
+    let rest = c .behind-next .ensures in
+    rest-listing (played t) (cardObservations (words t)) (t .loop .taken) (t .loop .work) _ (cell (taken-up c)) (t .loop .inv) (some (taken-up c)) _ _ (rest .0) (rest .1) (rest .2)
 
 loop-again : tie.Need-loop-again Inv-loop μ-loop
 loop-again c =
     let named = c .before .before in
-    let at = named .before .before in
-    let t = placed at in
+    let rest = named .before .before in
+    let at = taken-up rest in
+    let t = turn at in
     let w = words t in
-    let A = automaton w in
-    let o = cardObservations w in
-    let cell = at .before .upper .result in
-    let name = namedFrom w (at .cell-place .result + 1) in
-    let E : Added name o (t .loop .work) (t .loop .waiting) (named .mark-named .last .1 .1 .1 .0) (named .mark-named .result) =
-    subst (λ (n : ℕ). Added name n (t .loop .work) (t .loop .waiting) (named .mark-named .last .1 .1 .1 .0) (named .mark-named .result)) (seen t) (named .mark-named .ensures) in
-    taking-more A o (t .loop .waiting) (t .loop .work) (t .loop .taken) (t .loop .inv) (at .before .before .before .loop-test .taken) _ _
-    (added-ext name (A .next (upperHalf (t .loop .work) (t .loop .taken))) o _ _ _ _
-    (λ j. next-name w (fine t) _ _ (seen t) (many t) cell _ (below (at .before)) (at .cell-place .ensures) j ∙ ap (λ (d : ℕ). A .next d j) (at .before .upper .ensures)) E)
-
-same-length : tie.Need-same-length Inv-loop μ-loop
-same-length c = let t = c .before in many t ∙ sym (entry t .pre .1)
-
-returns : tie.Need-returns Inv-loop μ-loop
-returns c =
-    let t = c .before in
-    taking-end (automaton (words t)) (cardObservations (words t)) (t .loop .waiting) (t .loop .work) (t .loop .taken) (t .loop .inv) (c .loop-test .left)
+    let A = played t in
+    let name = namedFrom w (rest .before .before .cell-place .result + 1) in
+    let k = rest .behind-next .result .cells in
+    let top = rest .behind-next .result .next .0 in
+    let v = named .mark-named .last .1 .1 .1 .1 .0 in
+    let q = named .mark-named .result .cells in
+    let up = named .mark-named .result .next .0 in
+    taking-more A (cardObservations w) (t .loop .taken) (t .loop .work) _ (cell at) (t .loop .inv) (some at) k top (rest .behind-next .ensures .0) (rest .behind-next .ensures .1) v q up
+    (added-ext name (A .next (cell at)) (cardObservations w) (t .loop .work) k top v q up
+    (next-name w (fine t) _ _ (seen t) (many t) (cell at) _ (below at) (rest .before .before .cell-place .ensures))
+    (subst (λ (n : ℕ). Added name n (t .loop .work) k top v q up) (seen t) (named .mark-named .ensures)))
 
 pub mark-reached-spec : {M : Type 1} → statement M
 mark-reached-spec =
@@ -110,13 +134,13 @@ mark-reached-spec =
     μ-loop
     (λ c κs. c .before .before .pre .0)
     (λ c κs. c .before .before .before .before .pre)
-    (λ c. taking-none (automaton _) _ _ _ (c .before .before .mark-firsts .ensures))
-    (λ c κs. let t = c .before .before in omega (arith, c .before .loop-test .taken, few t, many t))
-    cell-place-requires
-    add-mark-named
-    (λ c κs. let at = c .before in (naming at, placed at .loop .inv .begun .listing))
-    (λ c. let at = c .before .before .before .before in let t = placed at in omega (arith, at .before .before .before .loop-test .taken, few t, fitting (words t) (fine t) .cells, size-of (words t)))
-    (λ c. let at = c .before .before .before .before in let t = placed at in omega (arith, at .before .before .before .loop-test .taken, few t, first-many t))
+    (λ c. c .before .before .mark-firsts .ensures)
+    (λ c κs. let t = turn c in (omega (arith, seen t, fits t .observations), omega (arith, inside c, fits t .cells)))
+    (λ c κs. let at = c .before .before in let t = turn at in (some at, omega (arith, few t, t .loop .inv .size)))
+    (λ c. omega (arith, naming c .within))
+    (λ c κs. let rest = c .before in (naming rest, listing rest, own (taken-up rest)))
+    (λ c. let at = taken-up (c .before .before .before .before) in let t = turn at in omega (arith, some at, few t, fits t .cells))
+    (λ c. let at = taken-up (c .before .before .before .before) in let t = turn at in omega (arith, some at, few t, first-many t))
     loop-again
-    same-length
-    returns)
+    (λ c. let t = c .before .before in many t ∙ sym (entry t .pre .1))
+    (λ c. let t = c .before .before in taking-end (played t) (cardObservations (words t)) (t .loop .taken) (t .loop .work) _ _ (t .loop .inv) (c .if1 .left)))
