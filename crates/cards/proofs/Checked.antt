@@ -277,6 +277,11 @@ cell-set a x e =
     let s = eqb x (word kindCell (lowField x) 0 (actionField x)) in
     ltb-true (lowField x) maxSets (and-right s (ltb (lowField x) maxSets) (and-left (s && ltb (lowField x) maxSets) (ltb (actionField x) a) e))
 
+named-shape : (k m j x : ℕ) → cellNamed k m j x ≡ true → x ≡ word k (lowField x) j 0
+unfolding cellNamed
+named-shape k m j x e =
+    eqb-true x (word k (lowField x) j 0) (and-left (eqb x (word k (lowField x) j 0)) (ltb (lowField x) m || eqb (lowField x) noCell) e)
+
 cell-shape : (a x : ℕ) → cellFits a x ≡ true → x ≡ word kindCell (lowField x) 0 (actionField x)
 unfolding cellFits
 cell-shape a x e =
@@ -322,7 +327,19 @@ module _ (w : List ℕ) (e : checked w ≡ Fine) where
         next-named = λ c j l k. named kindNext m j _ (sym (word-next w c j k) ∙ right (nextPlace os c j) (next-within m os c j l k));
       }
 
-  -- a cell's own word is that of its set and its action
+  -- the words are those of the automaton: the head's, the first cells', a cell's set and action, its next cells'
+  pub head-word : getD w headPlace 0 ≡ cardHead (automaton w .size) os (cardActions w)
+  unfolding automaton
+  head-word = headed (getD w headPlace 0) (sound w e .head) .shape
+
+  pub first-word : (j : ℕ) → j < os → getD w (firstPlace j) 0 ≡ word kindFirst (automaton w .begins j) j 0
+  unfolding automaton
+  first-word j l = named-shape kindFirst m j _ (sym (word-begins w j l) ∙ right (firstPlace j) (first-within m os j l))
+
+  pub next-word : (c j : ℕ) → c < m → j < os → getD w (nextPlace os c j) 0 ≡ word kindNext (automaton w .next c j) j 0
+  unfolding automaton
+  next-word c j l k = named-shape kindNext m j _ (sym (word-next w c j k) ∙ right (nextPlace os c j) (next-within m os c j l k))
+
   pub own-word : (c : ℕ) → c < m → getD w (cellPlace os c) 0 ≡ word kindCell (automaton w .set c) 0 (automaton w .action c)
   unfolding automaton
   own-word c l = cell-shape (cardActions w) (getD w (cellPlace os c) 0) (cell-right c l)

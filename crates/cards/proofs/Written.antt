@@ -8,7 +8,7 @@ use Prim.Native.Nat.{ℕ, suc, _+_, _*_, _-_, _≤_, _<_}
 use native.Mathlib.Omega.{arith}
 use lib.Dec.{eqb, ltb}
 use lib.ListN.{length, getD, length-append, List·getD-append}
-use lib.Seq.{getD-append-add}
+use lib.Seq.{getD-append-add, ext-getD}
 use borrow.Author.Tests.{eq-eqb, lt-ltb}
 use Rattle.sets.specs.Bounded.{gather}
 use Rattle.sets.proofs.Logic.{and-intro, or-left, or-right}
@@ -21,7 +21,8 @@ use Rattle.games.specs.declared.Checked.the-variants.{Fine}
 use Rattle.cards.specs.Card.{headPlace, firstPlace, cellPlace, nextPlace, cardCells, cardObservations, cardActions, automaton, headFits, cellNamed, cellFits, wordFits, checked, Named, Fitting}
 use Rattle.sets.proofs.Fills.{gather-length, gather-at, gather-ext, length-values, getD-values}
 use Rattle.cards.proofs.Spots.{every-place}
-use Rattle.cards.proofs.Checked.{word-head, word-begins, word-cell, word-next, only-words, fits-all}
+use Rattle.cards.proofs.Checked.{word-head, word-begins, word-cell, word-next, only-words, fits-all, shaped}
+use Rattle.cards.proofs.Checked.{head-word as head-told, first-word as first-told, own-word as own-told, next-word as next-told}
 use Rattle.cards.proofs.Running.{size-of, set-of, action-of, begins-of, next-of}
 
 -- the fields of a word
@@ -219,3 +220,20 @@ module _ (A : Automaton) (a o : ℕ) (F : Fitting A a o) where
         next-same = λ c j l k. next-of w c j ∙ ap (λ (p : ℕ). lowField (getD w (nextPlace p c j) 0)) written-observations ∙ ap lowField (next-at A a o c j (out c l) k)
             ∙ low-of kindNext (A .next c j) j 0 (cell-small (A .next c j) (F .next-named c j (out c l) k)) (omega arith) (omega arith);
       }
+
+-- a card is the words of what it means
+pub words-back : (w : List ℕ) → checked w ≡ Fine → cardWords (automaton w) (cardActions w) (cardObservations w) ≡ w
+words-back w e =
+    let A = automaton w in
+    let a = cardActions w in
+    let o = cardObservations w in
+    let inside : (c : ℕ) → c < A .size → c < cardCells w = λ c l. omega (arith, size-of w) in
+    let long : length (cardWords A a o) ≡ cardLength (A .size) o = card-long A a o in
+    ext-getD 0 (cardWords A a o) w (long ∙ ap (λ (m : ℕ). cardLength m o) (size-of w) ∙ sym (shaped w e .long))
+    (λ p l.
+    every-place (A .size) o (λ q. getD (cardWords A a o) q 0 ≡ getD w q 0)
+    (head-at A a o ∙ sym (head-told w e))
+    (λ j b. first-at A a o j b ∙ sym (first-told w e j b))
+    (λ c b. cell-at A a o c b ∙ sym (own-told w e c (inside c b)))
+    (λ c j b k. next-at A a o c j b k ∙ sym (next-told w e c j (inside c b) k))
+    p (omega (arith, long)))

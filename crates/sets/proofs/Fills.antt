@@ -8,7 +8,7 @@ use native.Mathlib.Nat.{le-refl, le-step, eq-or-lt-of-le, le-of-suc-le-suc, not-
 use native.Mathlib.Numerals.{add-one}
 use native.Mathlib.Omega.{arith}
 use lib.ListN.{length, getD, set, take, drop, replicate, length-append, length-drop, List·getD-append}
-use lib.Seq.{drop-cons, drop-at, take-suc-set, length-take-le, set-at, getD-append-add, getD-drop}
+use lib.Seq.{drop-cons, drop-at, take-suc-set, length-take-le, set-at, getD-append-add, getD-drop, ext-getD}
 use Rattle.sets.specs.Bounded.{gather, filledBy, fill}
 
 -- ---- pieces of the same length, one behind the other
@@ -97,6 +97,12 @@ module _ (f : ℕ → ℕ) where
 pub filled-ext : (f g : ℕ → ℕ) (k : ℕ) (d : List ℕ) → ((i : ℕ) → i < k → f i ≡ g i) → filledBy k f d ≡ filledBy k g d
 filled-ext f g k d h =
     ap (λ (l : List ℕ). l ++ drop k d) (gather-ext k (λ i. f i ∷ []) (λ i. g i ∷ []) (λ i l. ap (λ (x : ℕ). x ∷ []) (h i l)))
+
+-- a list's own values are the list
+pub values-back : (l : List ℕ) → gather (length l) (λ i. getD l i 0 ∷ []) ≡ l
+values-back l =
+    let f : ℕ → ℕ = λ i. getD l i 0 in
+    ext-getD 0 (gather (length l) (λ i. f i ∷ [])) l (length-values f (length l)) (λ i b. getD-values f (length l) i (omega (arith, length-values f (length l))))
 
 -- ---- a front set to 0
 

@@ -27,21 +27,45 @@ use Rattle.trimming.proofs.Reaching.{reached-first, reached-next}
 use Rattle.trimming.proofs.Numbers.{new-none, no-none, old-in}
 use Rattle.trimming.proofs.Trimmed.{trim-size, trim-begins, trim-set, trim-action, trim-next}
 use Rattle.trimmer.specs.Halves.{lowerHalf, upperHalf}
-use Rattle.trimmer.specs.Marking.{namedFrom, NamesInside}
-use Rattle.trimmer.specs.Numbering.{Renumbering, newName, rowWords}
+use Rattle.trimmer.specs.Marking.{namedFrom, NamesInside, namedOr}
+use Rattle.trimmer.specs.Numbering.{Renumbering, numberedAs, newName, rowWords}
 use Rattle.trimmer.specs.Trimmer.{keptCells}
+use Rattle.trimmer.proofs.Marking.{or-none, or-some}
 use Rattle.trimmer.proofs.Naming.{first-name, next-name}
 
 -- ---- the name in the work
 
+module _ (c n : ℕ) where
+  pub as-none : c ≡ noCell → c ≡ numberedAs c n
+  as-none e = e ∙ sym (ap (λ (b : Bool). cond b noCell n) (eq-eqb c noCell e))
+
+  pub as-some : (c ≡ noCell → ⊥) → n ≡ numberedAs c n
+  as-some z = sym (ap (λ (b : Bool). cond b noCell n) (ne-eqb c noCell z))
+
 module _ (w : List ℕ) (c : ℕ) where
   pub name-none : c ≡ noCell → c ≡ newName w c
   unfolding newName
-  name-none e = e ∙ sym (ap (λ (b : Bool). cond b noCell (lowerHalf w c)) (eq-eqb c noCell e))
+  name-none e = as-none c (lowerHalf w c) e
 
   pub name-some : (c ≡ noCell → ⊥) → lowerHalf w c ≡ newName w c
   unfolding newName
-  name-some n = sym (ap (λ (b : Bool). cond b noCell (lowerHalf w c)) (ne-eqb c noCell n))
+  name-some z = as-some c (lowerHalf w c) z
+
+  -- the cell that is asked for it: cell 0 for none
+  pub asked-inside : NamesInside c (length w) → 0 < length w → namedOr c 0 < length w
+  asked-inside named some =
+      ⊎-elim
+      (λ e. subst (λ (x : ℕ). x < length w) (or-none c 0 (eqb-true c noCell e)) some)
+      (λ e.
+      subst (λ (x : ℕ). x < length w) (or-some c 0 (eqb-false c noCell e))
+      (⊎-elim (λ l. l) (λ f. absurd (eqb-false c noCell e f)) named))
+      (decided (eqb c noCell))
+
+  pub asked-name : (x : ℕ) → x ≡ lowerHalf w (namedOr c 0) → numberedAs c x ≡ newName w c
+  asked-name x e =
+      ⊎-elim (λ f. let z = eqb-true c noCell f in sym (as-none c x z) ∙ name-none z)
+      (λ f. let z = eqb-false c noCell f in sym (as-some c x z) ∙ e ∙ ap (λ (d : ℕ). lowerHalf w d) (sym (or-some c 0 z)) ∙ name-some z)
+      (decided (eqb c noCell))
 
   -- it fits a word
   pub name-small : newName w c < lowValues

@@ -25,9 +25,13 @@ pub record Renumbering (A : Automaton) (o : ℕ) (w : List ℕ) : Type 0 where
   pub new : (c : ℕ) → c < A .size → reached A o c ≡ true → lowerHalf w c ≡ renumbered A o c
   pub old : (i : ℕ) → i < length (kept A o) → upperHalf w i ≡ getD (kept A o) i 0
 
--- the new number of a cell, as it stands in the work; no cell stays none
+-- a cell's new number; no cell stays none
+abbrev pub numberedAs : (c number : ℕ) → ℕ
+numberedAs c n = cond (eqb c noCell) noCell n
+
+-- the new number of a cell, as it stands in the work
 unfoldable pub newName : List ℕ → (c : ℕ) → ℕ
-newName w c = cond (eqb c noCell) noCell (lowerHalf w c)
+newName w c = numberedAs c (lowerHalf w c)
 
 -- a word, and behind it those that the card has from a place on, of a kind and with new numbers
 unfoldable pub rowWords : (card : List ℕ) (at count kind own : ℕ) (work : List ℕ) → List ℕ

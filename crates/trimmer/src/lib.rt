@@ -13,7 +13,7 @@ ghost use Rattle.cards.specs.Card.{cardCells, cardObservations, automaton, chec
 ghost use Rattle.trimming.specs.Trim.{trimmed};
 ghost use Rattle.trimmer.specs.Halves.{halfValues, lowerHalf, upperHalf, putLower, putUpper, marked};
 ghost use Rattle.trimmer.specs.Marking.{Listing, Added, namedFrom, namedOr, NamesInside, Naming, Own, FirstNamed, Taking, Marked};
-ghost use Rattle.trimmer.specs.Numbering.{Numbered, Renumbering, newName, rowWords};
+ghost use Rattle.trimmer.specs.Numbering.{Numbered, Renumbering, numberedAs, newName, rowWords};
 ghost use Rattle.trimmer.specs.Trimmer.{keptCells, byRoom, buffers, trimmedInto, Trims};
 use games::Cell;
 use games::Checked;
@@ -200,15 +200,23 @@ fn number(work: &mut [u32])
     }
 }
 
-// The new number of the cell that a word names; no cell stays none.
-fn new_name(work: &[u32], cell: Cell) -> Cell
-    requires { ⌜ NamesInside (cell .0) (length (now work)) ⌝ }
-    ensures { λ r. ⌜ r .0 ≡ newName (now (work .entry)) (cell .0) ⌝ }
+// A cell's new number; no cell stays none.
+fn numbered(cell: Cell, number: u32) -> Cell
+    ensures { λ r. ⌜ r .0 ≡ numberedAs (cell .0) number ⌝ }
 {
     if cell.0 == games::NO_CELL {
         return cell;
     }
-    Cell(lower(work, cell.0 as usize))
+    Cell(number)
+}
+
+// The new number of the cell that a word names. Where it names none, that of cell 0 is looked up in vain, so that no branch is taken.
+fn new_name(work: &[u32], cell: Cell) -> Cell
+    requires { ⌜ NamesInside (cell .0) (length (now work)) × (0 < length (now work)) ⌝ }
+    ensures { λ r. ⌜ r .0 ≡ newName (now (work .entry)) (cell .0) ⌝ }
+{
+    let asked = named_or(cell, Cell(0));
+    numbered(cell, lower(work, asked.0 as usize))
 }
 
 // The front or a part of the trimmed card: its own word, and behind it the first or next words (the kind says which) that the card has
@@ -223,7 +231,7 @@ fn write_row(
     out: &mut [u32],
 )
     requires { ⌜ Naming (now card) at count (length (now work)) × (count ≤ numberValues) × (kind < kindValues)
-        × (length (now out) ≡ 1 + count) ⌝ }
+        × (length (now out) ≡ 1 + count) × (0 < length (now work)) ⌝ }
     ensures { λ _. ⌜ now (out .exit) ≡ rowWords (now (card .entry)) at count kind own (now (work .entry)) ⌝ }
 {
     let mut j: u32 = 0;
@@ -236,7 +244,7 @@ fn write_row(
     out[0] = own;
 }
 
-// The trimmed card at the front of its room: the front, and the parts of the kept cells.
+// The trimmed card at the front of its room, from the new numbers: the front, and the parts of the kept cells.
 fn write_trimmed(card: &[u32], work: &[u32], kept: u32, out: &mut [u32])
     requires { ⌜ (checked (now card) ≡ Fine) × Renumbering (automaton (now card)) (cardObservations (now card)) (now work)
         × (kept ≡ keptCells (now card)) × (length (trimmed (now card)) ≤ length (now out)) ⌝ }
@@ -265,6 +273,32 @@ fn write_trimmed(card: &[u32], work: &[u32], kept: u32, out: &mut [u32])
     }
 }
 
+// A card as it is, at the front of its room.
+fn copy_card(card: &[u32], out: &mut [u32])
+    requires { ⌜ length (now card) ≤ length (now out) ⌝ }
+    ensures { λ _. ⌜ now (out .exit) ≡ now (card .entry) ++ drop (length (now (card .entry))) (now (out .entry)) ⌝ }
+{
+    let mut i: usize = 0;
+    while i < card.len() {
+        out[i] = card[i];
+        i += 1;
+    }
+}
+
+// The trimmed card at the front of its room, from the marks. A card without idle cells stays as it is.
+fn write_marked(card: &[u32], work: &mut [u32], kept: u32, out: &mut [u32])
+    requires { ⌜ (checked (now card) ≡ Fine) × Marked (automaton (now card)) (cardObservations (now card)) (now work) kept
+        × (length (trimmed (now card)) ≤ length (now out)) ⌝ }
+    ensures { λ _. ⌜ now (out .exit) ≡ trimmed (now (card .entry)) ++ drop (length (trimmed (now (card .entry)))) (now (out .entry)) ⌝ }
+{
+    if kept == cards::cells(card) {
+        copy_card(card, out);
+        return;
+    }
+    number(work);
+    write_trimmed(card, work, kept, out);
+}
+
 // For a card with work for its cells: the reached cells, then 9 or the trimmed card.
 fn trim_into(card: &[u32], work: &mut [u32], out: &mut [u32]) -> Answer
     requires { ⌜ (checked (now card) ≡ Fine) × (length (now work) ≡ cardCells (now card)) ⌝ }
@@ -275,8 +309,7 @@ fn trim_into(card: &[u32], work: &mut [u32], out: &mut [u32]) -> Answer
     if out.len() < need {
         return Answer::Refused(9, need);
     }
-    number(work);
-    write_trimmed(card, work, kept, out);
+    write_marked(card, work, kept, out);
     Answer::Trimmed(need, kept)
 }
 

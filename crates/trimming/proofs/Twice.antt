@@ -1,6 +1,6 @@
 -- Every cell of a trimmed card is reached, so trimming it again changes nothing.
 -- Assumes nothing.
-use mathlib.Core.Path.{_≡_, sym, ap, ap₂, _∙_, subst}
+use mathlib.Core.Path.{_≡_, refl, sym, ap, _∙_, subst}
 use mathlib.Core.Logic.{⊎-elim}
 use mathlib.Core.Bool.{true}
 use mathlib.Core.List.{List}
@@ -8,13 +8,12 @@ use Prim.Native.Nat.{ℕ, _<_}
 use native.Mathlib.Omega.{arith}
 use lib.ListN.{length, getD}
 use Rattle.sets.specs.Bounded.{count}
-use Rattle.sets.proofs.Bounded.{count-zero, count-all}
+use Rattle.sets.proofs.Bounded.{count-zero, count-all, count-same}
 use Rattle.games.specs.Automaton.{Automaton}
-use Rattle.games.specs.Words.{cardWords}
 use Rattle.games.specs.declared.Checked.the-variants.{Fine}
 use Rattle.cards.specs.Card.{cardActions, cardObservations, automaton, checked, Named, Fitting}
 use Rattle.cards.proofs.Checked.{fitting}
-use Rattle.cards.proofs.Written.{Agree, same-words}
+use Rattle.cards.proofs.Written.{Agree, same-words, words-back}
 use Rattle.trimming.specs.Reach.{Names, Reached, byFirst, byNext, alone}
 use Rattle.trimming.specs.Trim.{reached, kept, renumbered, trim, trimmed}
 use Rattle.trimming.proofs.Reaching.{reached-inside, all-found, just-found}
@@ -50,6 +49,16 @@ module _ (A : Automaton) (a o : ℕ) (F : Fitting A a o) (every : (c : ℕ) → 
         next-same = λ i j l k.
             trim-next A o i j ∙ ap (λ (c : ℕ). renumbered A o (A .next c j)) (same-place i l) ∙ same-number (A .next i j) (F .next-named i j (here i l) k);
       }
+
+-- a card whose cells are all kept stays as it is
+pub full-trimmed : (w : List ℕ) → checked w ≡ Fine → length (kept (automaton w) (cardObservations w)) ≡ automaton w .size → trimmed w ≡ w
+unfolding trimmed
+full-trimmed w e all =
+    let A = automaton w in
+    let o = cardObservations w in
+    let full : count (A .size) (reached A o) ≡ count (A .size) (λ c. true) = sym (kept-length A o) ∙ all ∙ sym (count-all (A .size) (λ c. true) (λ c l. refl)) in
+    same-words (trim A o) A o (full-agrees A (cardActions w) o (fitting w e) (count-same (A .size) (reached A o) (λ c. true) (λ c l h. refl) full)) (cardActions w)
+    ∙ words-back w e
 
 -- ---- the cells of a trimmed card
 
@@ -94,8 +103,6 @@ module _ (w : List ℕ) (e : checked w ≡ Fine) where
       (all-found B o (F .some-cell) (new-reached (just-found A o (getD (kept A o) i 0) (c .0) (c .1))))
 
   pub twice : trimmed (trimmed w) ≡ trimmed w
-  unfolding trimmed
   twice =
-      ap₂ (λ (a n : ℕ). cardWords (trim B n) a n) (trimmed-actions w e) (trimmed-observations w e)
-      ∙ same-words (trim B o) B o (full-agrees B (cardActions w) o F all-reached) (cardActions w)
-      ∙ same-words B (trim A o) o (trimmed-agrees w e) (cardActions w)
+      full-trimmed (trimmed w) (trimmed-checked w e)
+      (ap (λ (n : ℕ). length (kept B n)) (trimmed-observations w e) ∙ kept-length B o ∙ count-all (B .size) (reached B o) all-reached)

@@ -15,7 +15,6 @@ use Rattle.cards.proofs.Running.{size-of}
 use Rattle.trimming.specs.Trim.{trimmed}
 use Rattle.trimming.proofs.Numbers.{kept-few}
 use Rattle.trimmer.specs.Trimmer.{keptCells}
-use Rattle.trimmer.proofs.Numbering.{numbered-new}
 use Rattle.trimmer.proofs.Writing.{trimmed-long}
 use Rattle.trimmer.proofs.Answers.{room-short, room-filled}
 use Rattle.trimmer.proofs.trim_into.Statement.{statement}
@@ -55,30 +54,18 @@ need-is c =
 returns : tie.Need-returns
 returns c = let m = reached (c .before) in room-short (words m) (entry m .args .out .now) _ (need-is (c .before)) (c .if1 .taken)
 
-number-requires : tie.Need-number-requires
-number-requires c κs =
-    let m = reached (c .before .before) in
-    omega (arith, m .mark-reached .ensures .size, fitting (words m) (entry m .pre .0) .cells)
-
-write-trimmed-requires : tie.Need-write-trimmed-requires
-write-trimmed-requires c κs =
-    let numbered = c .before .before .before .before in
-    let fits = numbered .before .before in
+write-marked-requires : tie.Need-write-marked-requires
+write-marked-requires c κs =
+    let fits = c .before .before in
     let m = reached (fits .before) in
-    let w = words m in (
-      entry m .pre .0,
-      numbered-new (automaton w) (cardObservations w) (m .mark-reached .result) (m .mark-reached .last .1 .0) (numbered .number .last .0) (fitting w (entry m .pre .0) .cells) (m .mark-reached .ensures) (numbered .number .ensures),
-      m .mark-reached .ensures .many,
-      subst (λ (n : ℕ). n ≤ length (entry m .args .out .now)) (need-is (fits .before)) (fits .if1 .left),
-    )
+    (entry m .pre .0, m .mark-reached .ensures, subst (λ (n : ℕ). n ≤ length (entry m .args .out .now)) (need-is (fits .before)) (fits .if1 .left))
 
 returns-2 : tie.Need-returns-2
 returns-2 c =
-    let wrote = c .before .before in
-    let numbered = wrote .before .before .before .before .before in
-    let fits = numbered .before .before in
+    let wrote = c .before .before .before .before in
+    let fits = wrote .before .before .before in
     let m = reached (fits .before) in
-    room-filled (words m) (entry m .args .out .now) _ (need-is (fits .before)) (fits .if1 .left) _ _ (m .mark-reached .ensures .many) (wrote .write-trimmed .ensures)
+    room-filled (words m) (entry m .args .out .now) _ (need-is (fits .before)) (fits .if1 .left) _ _ (m .mark-reached .ensures .many) (wrote .write-marked .ensures)
 
 pub trim-into-spec : {M : Type 1} → statement M
 trim-into-spec =
@@ -90,8 +77,7 @@ trim-into-spec =
     card-length-requires
     (λ c. search needs)
     returns
-    number-requires
-    write-trimmed-requires
+    write-marked-requires
     (λ c. search needs)
     (λ c. search needs)
     returns-2)

@@ -84,7 +84,7 @@ write-row-spec =
     (λ c. omega (arith, inside c))
     (λ c. inside (c .before))
     (λ c κs. search needs)
-    (λ c κs. let t = c .before .before .before in subst (λ (y : ℕ). NamesInside y (length (entry t .args .work .now))) (sym (c .low-field .ensures)) (entry t .pre .0 .named (t .loop .j) (c .before .before .loop-test .taken)))
+    (λ c κs. let t = c .before .before .before in (subst (λ (y : ℕ). NamesInside y (length (entry t .args .work .now))) (sym (c .low-field .ensures)) (entry t .pre .0 .named (t .loop .j) (c .before .before .loop-test .taken)), entry t .pre .4))
     naming-requires
     (λ c. search needs)
     (λ c. omega (arith, in-room c))

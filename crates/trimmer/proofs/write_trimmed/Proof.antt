@@ -93,6 +93,9 @@ front-fits h = omega (arith, front-length-is h, front-within (many h) (seen h) (
 work-long : (h : Headed) → length (entry h .args .work .now) ≡ cardCells (words h)
 work-long h = entry h .pre .1 .size ∙ size-of (words h)
 
+some-work : (h : Headed) → 0 < length (entry h .args .work .now)
+some-work h = omega (arith, entry h .pre .1 .size, fits h .some-cell)
+
 heading-requires : tie.Need-heading-requires Inv-loop μ-loop
 heading-requires c κs =
     let x = c .before .before .before .before .before .before .before in
@@ -110,6 +113,7 @@ write-row-requires c κs =
       omega (arith, o-is h, fits h .observations),
       omega arith,
       length-take-le _ _ (front-fits h) ∙ h .before .before .before .front-length .ensures,
+      some-work h,
     )
 
 -- ---- the front that was written
@@ -208,6 +212,7 @@ write-row-requires-2 c κs =
       omega (arith, o-is h, fits h .observations),
       omega arith,
       carded-part (seen h) (many h) (parts h) _ (t .loop .i) (t .loop .out) (t .loop .inv) (more at) _ _ (at-is at) (part-length-is h) ∙ ap partLength (sym (o-is h)),
+      some-work h,
     )
 
 loop-again : tie.Need-loop-again Inv-loop μ-loop
