@@ -1,5 +1,5 @@
 //! A quick independent trimmer of cards (document 02, change 5), for the benchmark. Each cell is taken up once.
-//! Where no cell is idle the card is copied as it is.
+//! Where no cell is idle the card is copied as it is. The check is that of the quick judge of cards.
 
 use crate::fast::{by_length, wrong_row, wrong_target, Rows, NO_CELL};
 
@@ -7,9 +7,6 @@ use crate::fast::{by_length, wrong_row, wrong_target, Rows, NO_CELL};
 const CELLS: usize = 4096;
 /// How many numbers a first or next word has room for: arrays of this length are looked up without a test.
 const NUMBERS: usize = 1 << 16;
-/// In short rows the words of so many are tested together; it was measured up to which length this is quicker.
-const TOGETHER: usize = 64;
-const SHORT: usize = 4;
 
 /// Number and place of a refusal.
 type Refused = (u32, usize);
@@ -132,29 +129,14 @@ fn parts<const PART: usize>(card: &[u32]) -> (&[u32; PART], &[[u32; PART]]) {
     card.as_chunks::<PART>().0.split_first().expect("a card has a front")
 }
 
-/// Refusal 13 at a word; head and length are right.
+/// Refusal 13 at a word, as the quick judge of cards finds it; head and length are right.
 fn check<const PART: usize>(card: &[u32], cells: usize, a: usize) -> Result<(), Refused> {
     let (front, rows) = parts::<PART>(card);
     if let Some(place) = wrong_target(&front[1..], 0x9000_0000, cells) {
         return Err((13, 1 + place));
     }
-    if PART <= SHORT && !rows.chunks(TOGETHER).any(|rows| any_wrong(rows, cells, a)) {
-        return Ok(());
-    }
     match wrong_row::<PART>(rows.as_flattened(), cells, a) {
         Some(place) => Err((13, PART + place)),
         None => Ok(()),
     }
-}
-
-/// Whether some word of these rows is not a card's.
-#[inline(always)]
-fn any_wrong<const PART: usize>(rows: &[[u32; PART]], cells: usize, a: usize) -> bool {
-    let wrong = |row: &[u32; PART]| {
-        let cell = row[0] ^ 0xA000_0000;
-        let wrong_cell = (cell & !0x00F0_0FFF != 0) | (cell >> 20 >= a as u32);
-        let named = |r: usize| row[r] ^ (0xB000_0000 | (r as u32 - 1) << 16);
-        (1..PART).fold(wrong_cell, |any, r| any | (named(r) >= cells as u32) & (named(r) != NO_CELL))
-    };
-    rows.iter().fold(false, |any, row| any | wrong(row))
 }
