@@ -13,8 +13,13 @@ use std::process::{Command, Output, Stdio};
 const ARCHIVE: &str = env!("KIRDANZUG_ARCHIVE_FOLDER");
 
 /// The sections of the page that have a caller.
-const CALLERS: [&str; 4] =
-    ["A caller in C", "Tables and cards by themselves", "A card drawn by hand", "A caller in Rust"];
+const CALLERS: [&str; 5] = [
+    "A caller in C",
+    "Tables and cards by themselves",
+    "A card drawn by hand",
+    "A card for a small store",
+    "A caller in Rust",
+];
 
 fn root() -> PathBuf {
     Path::new(env!("CARGO_MANIFEST_DIR")).parent().expect("rust/ has a parent").to_path_buf()
@@ -137,8 +142,13 @@ fn card_judged_in_c() {
 }
 
 #[test]
-fn caller_in_rust() {
+fn card_trimmed_in_c() {
     build_and_run(CALLERS[3]);
+}
+
+#[test]
+fn caller_in_rust() {
+    build_and_run(CALLERS[4]);
 }
 
 /// No block of the page is left out: each is a file, the commands or the output of a caller.
