@@ -12,13 +12,12 @@ use lib.Seq.{take-at}
 use borrow.Author.Tests.{lt-ltb, le-ltb}
 use Rattle.sets.specs.Bounded.{fill}
 use Rattle.sets.proofs.Logic.{decided}
-use Rattle.games.specs.Answers.{unless, Leaves, leaves}
-use Rattle.games.specs.declared.Checked.{Checked}
+use Rattle.games.specs.Answers.{Leaves, leaves}
 use Rattle.games.specs.declared.Checked.the-variants.{Fine, Refused as Stopped}
 use Rattle.cards.specs.Card.{cardCells, checked}
 use Rattle.trimming.specs.Trim.{trimmed}
 use Rattle.trimming.proofs.Promised.{promised as promised-of}
-use Rattle.trimmer.specs.Trimmer.{keptCells, byRoom, Buffers, buffers, withWork, trimmedInto, Trims}
+use Rattle.trimmer.specs.Trimmer.{keptCells, byRoom, buffers, withWork, trimmedInto, Trims}
 use Rattle.trimmer.specs.declared.Answer.{Answer}
 use Rattle.trimmer.specs.declared.Answer.the-variants.{Trimmed, Refused}
 

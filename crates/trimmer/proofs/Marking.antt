@@ -15,11 +15,11 @@ use Rattle.sets.proofs.Logic.{decided, clash, lt-or-le}
 use Rattle.sets.proofs.Bounded.{count-ext, count-one, count-all, count-strict, count-none}
 use Rattle.games.specs.Automaton.{Automaton, noCell}
 use Rattle.trimming.specs.Reach.{Names, Reached, byFirst, byNext, alone}
-use Rattle.trimming.specs.Trim.{reached, kept}
+use Rattle.trimming.specs.Trim.{reached}
 use Rattle.trimming.proofs.Reaching.{Closed, marks-reached}
 use Rattle.trimming.proofs.Numbers.{kept-length}
 use Rattle.trimmer.specs.Halves.{halfValues, lowerHalf, upperHalf, putLower, putUpper, marked}
-use Rattle.trimmer.specs.Marking.{Waits, Listing, Added, NamesInside, namedOr, Own, FirstNamed, Done, Taking, Marked}
+use Rattle.trimmer.specs.Marking.{Waits, Listing, Added, NamesInside, namedOr, Own, FirstNamed, Taking, Marked}
 use Rattle.trimmer.proofs.Halves.{at-each, put-lower-length, put-upper-length, lower-here, lower-there, lower-stays, upper-here, upper-there, upper-stays, marks, same-mark}
 
 -- ---- the cell that is tested for a word

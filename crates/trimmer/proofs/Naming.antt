@@ -4,7 +4,7 @@ use mathlib.Core.Path.{_≡_, sym, ap, _∙_, subst}
 use mathlib.Core.List.{List}
 use Prim.Native.Nat.{ℕ, _+_, _≤_, _<_}
 use native.Mathlib.Omega.{arith}
-use lib.ListN.{length, getD}
+use lib.ListN.{getD}
 use Rattle.games.specs.Fields.{lowField}
 use Rattle.games.specs.Automaton.{noCell}
 use Rattle.games.specs.declared.Checked.the-variants.{Fine}

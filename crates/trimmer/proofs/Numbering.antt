@@ -4,7 +4,7 @@
 use mathlib.Core.Path.{_≡_, refl, sym, ap, ap₂, _∙_, subst}
 use mathlib.Core.Logic.{⊎-elim}
 use mathlib.Core.Bool.{Bool, true, false}
-use mathlib.Core.List.{List, [], _∷_, _++_}
+use mathlib.Core.List.{List, [], _∷_}
 use Prim.Native.Nat.{ℕ, _+_, _≤_, _<_}
 use native.Mathlib.Nat.{le-antisymm}
 use native.Mathlib.Omega.{arith}
@@ -13,7 +13,7 @@ use lib.Seq.{getD-at}
 use Rattle.sets.specs.Bounded.{count, select}
 use Rattle.sets.proofs.Logic.{clash, lt-or-le}
 use Rattle.sets.proofs.Bounded.{count-zero, count-hit, count-skip, count-le, count-ext, select-hit, select-skip, select-length, select-ext}
-use Rattle.games.specs.Automaton.{Automaton, noCell}
+use Rattle.games.specs.Automaton.{Automaton}
 use Rattle.games.specs.Format.{maxCells}
 use Rattle.trimming.specs.Trim.{reached, kept}
 use Rattle.trimming.proofs.Numbers.{new-count, kept-length}

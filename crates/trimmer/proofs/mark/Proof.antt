@@ -7,7 +7,7 @@ use mathlib.Core.List.{List}
 use Prim.Native.Nat.{ℕ, _+_, _≤_, _<_}
 use native.Mathlib.Omega.{arith}
 use lib.ListN.{length}
-use Rattle.trimmer.specs.Halves.{halfValues, marked, putUpper}
+use Rattle.trimmer.specs.Halves.{marked, putUpper}
 use Rattle.trimmer.specs.Marking.{Added, namedOr}
 use Rattle.trimmer.proofs.Halves.{marks, no-mark, put-lower-length}
 use Rattle.trimmer.proofs.Marking.{tested-inside, tested-marked, tested-free, mark-stays, mark-room, mark-adds}

@@ -7,7 +7,7 @@ use mathlib.Core.List.{List}
 use Prim.Native.Nat.{ℕ, _≤_, _<_}
 use native.Mathlib.Omega.{arith}
 use lib.ListN.{length}
-use Rattle.games.specs.Automaton.{Automaton, noCell}
+use Rattle.games.specs.Automaton.{Automaton}
 use Rattle.cards.specs.Card.{cardCells, cardObservations, automaton}
 use Rattle.cards.proofs.Checked.{fitting}
 use Rattle.cards.proofs.Running.{size-of}

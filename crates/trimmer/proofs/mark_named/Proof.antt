@@ -1,8 +1,7 @@
 -- `trimmer::mark_named` meets its contract. The loop's invariant: the cells that the first j words name are marked.
 -- Assumes nothing.
 use borrow.Author.Needs.{needs}
-use mathlib.Core.Path.{_≡_, sym, _∙_, subst}
-use mathlib.Core.List.{List}
+use mathlib.Core.Path.{sym, subst}
 use Prim.Native.Nat.{ℕ, _+_, _≤_, _<_, _-_}
 use native.Mathlib.Nat.{le-antisymm}
 use native.Mathlib.Omega.{arith}

@@ -1,8 +1,7 @@
 -- `trimmer::mark_reached` meets its contract. The loop's invariant: `taken` of the marked cells were taken up, and the others wait. The
 -- measure is how many cells are left to be taken up.
 -- Assumes nothing.
-use borrow.Author.Needs.{needs}
-use mathlib.Core.Path.{_≡_, sym, ap, _∙_, subst}
+use mathlib.Core.Path.{_≡_, sym, _∙_, subst}
 use mathlib.Core.List.{List}
 use Prim.Native.Nat.{ℕ, _+_, _≤_, _<_, _-_}
 use native.Mathlib.Omega.{arith}
@@ -13,7 +12,7 @@ use Rattle.cards.specs.Card.{cardCells, cardObservations, automaton, checked, F
 use Rattle.cards.proofs.Checked.{fitting}
 use Rattle.cards.proofs.Running.{size-of}
 use Rattle.sets.proofs.Bounded.{count-le}
-use Rattle.trimmer.specs.Halves.{halfValues, marked}
+use Rattle.trimmer.specs.Halves.{marked}
 use Rattle.trimmer.specs.Marking.{Added, namedFrom, Naming, Taking, Own, Listing}
 use Rattle.trimmer.proofs.Marking.{added-ext, next-inside, next-marked, rest-listing, taking-more, taking-end}
 use Rattle.trimmer.proofs.Naming.{next-name, nexts-naming}

@@ -1,15 +1,14 @@
 -- `trimmer::number` meets its contract. The loop's invariant: the marked cells below c are numbered.
 -- Assumes nothing.
-use borrow.Author.Needs.{needs}
-use mathlib.Core.Path.{_≡_, sym, ap, ap₂, _∙_, subst, subst₂}
+use mathlib.Core.Path.{_≡_, sym, ap, _∙_, subst, subst₂}
 use mathlib.Core.Logic.{⊎-elim}
 use mathlib.Core.Bool.{true, false}
 use mathlib.Core.List.{List}
 use Prim.Native.Nat.{ℕ, _+_, _≤_, _<_, _-_}
 use native.Mathlib.Omega.{arith}
 use lib.ListN.{length}
-use Rattle.trimmer.specs.Halves.{halfValues, marked, putLower, putUpper}
-use Rattle.trimmer.proofs.Halves.{marks, no-mark, same-mark, put-lower-length}
+use Rattle.trimmer.specs.Halves.{halfValues, marked, putUpper}
+use Rattle.trimmer.proofs.Halves.{marks, no-mark, put-lower-length}
 use Rattle.trimmer.proofs.Numbering.{Counting, counting-none, counting-few, counting-skip, counting-more, counting-end}
 use Rattle.trimmer.proofs.number.Statement.{statement}
 use Rattle.trimmer.proofs.number.Tie as tie

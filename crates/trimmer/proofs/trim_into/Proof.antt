@@ -8,13 +8,10 @@ use native.Mathlib.Omega.{arith}
 use lib.ListN.{length}
 use Rattle.games.specs.Format.{maxCells}
 use Rattle.games.specs.Words.{cardLength}
-use Rattle.games.specs.declared.Checked.the-variants.{Fine}
-use Rattle.cards.specs.Card.{cardCells, cardObservations, automaton, checked}
+use Rattle.cards.specs.Card.{cardObservations, automaton}
 use Rattle.cards.proofs.Checked.{fitting}
-use Rattle.cards.proofs.Running.{size-of}
 use Rattle.trimming.specs.Trim.{trimmed}
 use Rattle.trimming.proofs.Numbers.{kept-few}
-use Rattle.trimmer.specs.Trimmer.{keptCells}
 use Rattle.trimmer.proofs.Writing.{trimmed-long}
 use Rattle.trimmer.proofs.Answers.{room-short, room-filled}
 use Rattle.trimmer.proofs.trim_into.Statement.{statement}

@@ -5,10 +5,10 @@ use mathlib.Core.Path.{_≡_, refl, sym, ap, _∙_, subst}
 use mathlib.Core.List.{List, _++_}
 use Prim.Native.Nat.{ℕ, _+_, _≤_, _<_, _-_, _^_}
 use native.Mathlib.Omega.{arith}
-use lib.ListN.{length, getD, drop}
+use lib.ListN.{length, drop}
 use lib.Seq.{length-take-le}
 use Rattle.games.specs.Automaton.{Automaton}
-use Rattle.games.specs.Format.{maxCells, maxObservations}
+use Rattle.games.specs.Format.{maxCells}
 use Rattle.games.specs.Words.{frontLength, partLength, cardLength, cellWords}
 use Rattle.games.specs.declared.Checked.the-variants.{Fine}
 use Rattle.games.proofs.Limits.{parts-below}
@@ -18,8 +18,6 @@ use Rattle.cards.proofs.Running.{size-of}
 use Rattle.cards.proofs.Parts.{Carded, carded-none, carded-room, carded-part, carded-more, front-within, fronted-same, fronted-room, carded-whole}
 use Rattle.trimming.specs.Trim.{trim, trimmed}
 use Rattle.trimming.proofs.Numbers.{kept-few}
-use Rattle.trimmer.specs.Marking.{Naming}
-use Rattle.trimmer.specs.Trimmer.{keptCells}
 use Rattle.trimmer.proofs.Naming.{firsts-naming, nexts-naming}
 use Rattle.trimmer.proofs.Writing.{frontOf, front-long, part-long, front-is, kept-inside, part-is, trimmed-long, trimmed-is}
 use Rattle.trimmer.proofs.write_trimmed.Statement.{statement}
