@@ -75,7 +75,7 @@ module _ (A : Automaton) (a o : ℕ) where
   abbrev cellsOf : List ℕ
   cellsOf = gather (A .size) (cellWords A o)
 
-  cell-length : (c : ℕ) → length (cellWords A o c) ≡ partLength o
+  pub cell-length : (c : ℕ) → length (cellWords A o c) ≡ partLength o
   unfolding cellWords
   cell-length c = omega (arith, length-values (λ j. word kindNext (A .next c j) j 0) o)
 

@@ -15,7 +15,7 @@ use Rattle.sets.proofs.Fills.{gather-ext}
 use Rattle.games.specs.Automaton.{Automaton, noCell}
 use Rattle.games.specs.Format.{maxCells, lowValues, kindFirst, kindCell, kindNext}
 use Rattle.games.specs.Fields.{word}
-use Rattle.games.specs.Words.{frontLength, partLength, cardLength, cardHead, cellWords, cardWords}
+use Rattle.games.specs.Words.{frontLength, cardLength, cardHead, cellWords, cardWords}
 use Rattle.games.specs.declared.Checked.the-variants.{Fine}
 use Rattle.cards.specs.Card.{cardCells, cardActions, cardObservations, cellPlace, automaton, checked, Named}
 use Rattle.cards.proofs.Checked.{fitting, own-word}
@@ -93,10 +93,6 @@ frontOf A a o = cardHead (A .size) o a ∷ gather o (λ j. word kindFirst (A .be
 
 pub front-long : (A : Automaton) (a o : ℕ) → length (frontOf A a o) ≡ frontLength o
 front-long A a o = row-length o (λ j. word kindFirst (A .begins j) j 0)
-
-pub part-long : (A : Automaton) (o c : ℕ) → length (cellWords A o c) ≡ partLength o
-unfolding cellWords
-part-long A o c = row-length o (λ j. word kindNext (A .next c j) j 0)
 
 module _ (w : List ℕ) (e : checked w ≡ Fine) (work : List ℕ) (R : Renumbering (automaton w) (cardObservations w) work) where
   abbrev A : Automaton

@@ -15,11 +15,12 @@ use Rattle.games.proofs.Limits.{parts-below}
 use Rattle.cards.specs.Card.{cardCells, cardActions, cardObservations, cellPlace, automaton, checked, Fitting}
 use Rattle.cards.proofs.Checked.{fitting, cell-in}
 use Rattle.cards.proofs.Running.{size-of}
+use Rattle.cards.proofs.Written.{cell-length}
 use Rattle.cards.proofs.Parts.{Carded, carded-none, carded-room, carded-part, carded-more, front-within, fronted-same, fronted-room, carded-whole}
 use Rattle.trimming.specs.Trim.{trim, trimmed}
 use Rattle.trimming.proofs.Numbers.{kept-few}
 use Rattle.trimmer.proofs.Naming.{firsts-naming, nexts-naming}
-use Rattle.trimmer.proofs.Writing.{frontOf, front-long, part-long, front-is, kept-inside, part-is, trimmed-long, trimmed-is}
+use Rattle.trimmer.proofs.Writing.{frontOf, front-long, front-is, kept-inside, part-is, trimmed-long, trimmed-is}
 use Rattle.trimmer.proofs.write_trimmed.Statement.{statement}
 use Rattle.trimmer.proofs.write_trimmed.Tie as tie
 
@@ -223,7 +224,7 @@ loop-again c =
     carded-more (seen h) (many h) (parts h) _ (t .loop .i) (t .loop .out) (t .loop .inv) (more at) _ _ (at-is at) (part-length-is h) (wrote .write-row2 .last .1 .1 .1 .1 .1 .1 .0)
     (wrote .write-row2 .ensures
     ∙ part-is (words h) (fine h) (entry h .args .work .now) (entry h .pre .1) (o h) (many h) (o-is h) (entry h .pre .2) (t .loop .i) (from .before .upper .result) (more at) (from .before .upper .ensures) (from .cell-place .result) _ (from .cell-place .ensures) refl)
-    (part-long (left h) (seen h) (t .loop .i))
+    (cell-length (left h) (cardActions (words h)) (seen h) (t .loop .i))
 
 same-length : tie.Need-same-length Inv-loop μ-loop
 same-length c =
