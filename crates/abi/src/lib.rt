@@ -1,5 +1,7 @@
 // The functions of the library for C and Rust. Each fills three words of answer: 0 and two values (done), 1 and the round number (no),
 // 2, number and place (refused).
+#![tactic(auto)]
+
 ghost use Rattle.std.specs.Prelude.{◌≡◌, [], ◌∷◌, ℕ, take};
 ghost use Rattle.games.specs.Answers.{leaves};
 ghost use Rattle.games.specs.Words.{game};

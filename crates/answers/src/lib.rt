@@ -1,5 +1,7 @@
 // What an entry answers, as the three words that an exported function fills: 0 and two values (done), 1 and the round number (no),
 // 2, number and place (refused).
+#![tactic(auto)]
+
 ghost use Rattle.std.specs.Prelude.{◌≡◌};
 ghost use Rattle.answers.specs.Words.{done, no as no_words, refused as refused_words};
 ghost use Rattle.answers.specs.Words.{check_words, solve_words, judge_words, written_words, move_words, ran_words, show_words, trim_words, text_words, read_words};

@@ -1,4 +1,6 @@
 // The words of a card (document 01, "Words"): its checks, and the run over words and a cell number.
+#![tactic(auto)]
+
 ghost use Rattle.std.specs.Prelude.{◌≡◌, ◌+◌, ◌<◌, ◌≤◌, ◌&&◌, length, slice_index};
 ghost use Rattle.games.specs.Format.{low_values, number_values, action_values, kind_values, kind_cell, kind_next};
 ghost use Rattle.games.specs.Fields.{word};
@@ -11,14 +13,14 @@ ghost use Rattle.cards.specs.Run.{enters, begun, followed, opened, stepped, stan
 use games::{Action, Cell, Checked, Observation};
 
 // What an observation leads to: the cell entered and its action, or a refusal's number and place.
-#[derive(Drop)]
+#[derive(Clone, Copy)]
 pub enum Move {
     Entered(Cell, Action),
     Refused(u32, usize),
 }
 
 // The cell that a runner is in, and its last answer.
-#[derive(Drop)]
+#[derive(Clone, Copy)]
 pub struct Stood {
     pub cell: Cell,
     pub answer: Move,

@@ -1,4 +1,6 @@
 // Whether a card, whoever drew it, is safe for a table (document 02, change 1: the judge of cards).
+#![tactic(auto)]
+
 ghost use Rattle.std.specs.Prelude.{◌≡◌, ◌^◌, ◌<◌};
 ghost use Rattle.games.specs.Step.{post as post_of};
 ghost use Rattle.games.specs.Words.{game, front_length, part_length};

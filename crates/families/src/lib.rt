@@ -1,4 +1,6 @@
 // Families of sets of states as bits, 64 sets to a machine word (lane).
+#![tactic(auto)]
+
 ghost use Rattle.std.specs.Prelude.{◌≡◌, cond, not, ◌++◌, ℕ, ◌+◌, ◌*◌, ◌/◌, ◌^◌, ◌≤◌, ◌<◌, eqb, length, get_or, take, drop, replicate};
 ghost use Rattle.sets.specs.Mask.{member, union, subset};
 ghost use Rattle.sets.specs.Bounded.{count as count_of, select};

@@ -1,4 +1,6 @@
 // A table as fields (document 01, "Entries"): reading a table into fields, and writing fields as a table's words.
+#![tactic(auto)]
+
 ghost use Rattle.std.specs.Prelude.{◌≡◌, ◌<◌, ◌≤◌};
 ghost use Rattle.games.specs.Answers.{leaves};
 ghost use Rattle.games.specs.Places.{Limited};
@@ -12,7 +14,7 @@ use games::{Checked, Place, Written};
 use tables::Fields;
 
 // The answer of reading, with the fields beside it.
-#[derive(Drop)]
+#[derive(Clone, Copy)]
 pub struct ReadFields {
     pub answer: Checked,
     pub fields: Fields,

@@ -1,10 +1,12 @@
 // A strict reader of text, byte by byte: each reader goes on from a cursor, and passes on one that stopped.
+#![tactic(auto)]
+
 ghost use Rattle.std.specs.Prelude.{◌≡◌, ◌^◌, ◌<◌, ◌≤◌, length};
 ghost use Rattle.form.specs.Form.{byte_at, digit_fits};
 ghost use Rattle.form.specs.Cursors.{Passes, Gives, Ends, Said, no_value};
 
 // A place in a text: what comes next, or, where `ok` is false, the first byte that is not allowed. `value` is the number read last.
-#[derive(Drop)]
+#[derive(Clone, Copy)]
 pub struct Cursor {
     pub at: usize,
     pub ok: bool,

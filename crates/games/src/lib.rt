@@ -1,6 +1,8 @@
 // What document 01's tables and cards have in common: its four columns of numbers, the answers of checks and writers, its limits, the
 // fields of a word, the places of a table's words and the lengths of a card's parts.
 // Limits, bit positions and kinds stand here alone, and for the definitions in specs/Format.antt.
+#![tactic(auto)]
+
 ghost use Rattle.std.specs.Prelude.{◌≡◌, ◌<◌, ◌≤◌};
 ghost use Rattle.games.specs.Format.{within as is_within, low_values, number_values, action_values, kind_values, head_values};
 ghost use Rattle.games.specs.Fields.{low_field, number_field, action_field, word as word_of};
@@ -8,27 +10,27 @@ ghost use Rattle.games.specs.Places.{max_place, shape_of, place_at, place_of, pa
 ghost use Rattle.games.specs.Words.{front_length, part_length, card_length};
 
 // Document 01's four columns: state, action, reading and cell numbers. One can't be passed as another.
-#[derive(Drop)]
+#[derive(Clone, Copy)]
 pub struct State(pub u32);
 
-#[derive(Drop)]
+#[derive(Clone, Copy)]
 pub struct Action(pub u32);
 
-#[derive(Drop)]
+#[derive(Clone, Copy)]
 pub struct Observation(pub u32);
 
-#[derive(Drop)]
+#[derive(Clone, Copy)]
 pub struct Cell(pub u32);
 
 // What a check answers: fine, or a refusal's number and place.
-#[derive(Drop)]
+#[derive(Clone, Copy)]
 pub enum Checked {
     Fine,
     Refused(u32, usize),
 }
 
 // What a writer answers: how many words stand in front of the buffer, or a refusal's number and place.
-#[derive(Drop)]
+#[derive(Clone, Copy)]
 pub enum Written {
     Words(usize),
     Refused(u32, usize),
@@ -132,7 +134,7 @@ pub fn word(kind: u32, low: u32, number: u32, action: u32) -> u32
 }
 
 // The numbers of a table's head: states, actions and observations; and whether it marks parked states.
-#[derive(Drop)]
+#[derive(Clone, Copy)]
 pub struct Shape {
     pub states: u32,
     pub actions: u32,
@@ -153,7 +155,7 @@ pub fn shape_of(head: u32) -> Shape
 
 // What stands at a place of a table behind its head: the start set, the bad set, the parked set, the states that show an observation,
 // the successors that an action gives a state.
-#[derive(Drop)]
+#[derive(Clone, Copy)]
 pub enum Place {
     Start,
     Bad,

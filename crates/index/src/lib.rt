@@ -1,4 +1,6 @@
 // The settled cells as they are searched: the tightest cell that holds a set of states.
+#![tactic(auto)]
+
 ghost use Rattle.std.specs.Prelude.{◌≡◌, true, ℕ, ◌+◌, ◌/◌, ◌<◌, ◌≤◌, ◌^◌, length, get_or, replicate};
 ghost use Rattle.sets.specs.Mask.{member};
 ghost use Rattle.sets.specs.Family.{holds};
@@ -16,7 +18,7 @@ pub const LAYERS: usize = MAX_STATES as usize + 1;
 pub const MASKS: usize = LANE_SETS as usize + LANE_STATES as usize + 1;
 
 // What holds a set of states.
-#[derive(Drop)]
+#[derive(Clone, Copy)]
 pub enum Held {
     // the tightest cell whose set holds it, or NO_CELL where it has no state
     By(Cell),
@@ -25,7 +27,7 @@ pub enum Held {
 }
 
 // What a layer has for a set of states.
-#[derive(Drop)]
+#[derive(Clone, Copy)]
 enum Top {
     // the lowest of its sets that hold it
     Set(u32),

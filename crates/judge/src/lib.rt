@@ -1,4 +1,6 @@
 // The plain judge: is a set good for k rounds? A turn for the action and a turn for the observation ask each other; no list.
+#![tactic(auto)]
+
 ghost use Rattle.std.specs.Prelude.{◌≡◌, ◌<◌};
 ghost use Rattle.games.specs.Step.{good, meets};
 ghost use Rattle.games.specs.Words.{game};
@@ -11,7 +13,7 @@ use walk::Walked;
 // Document 01: k up to 4.
 const MOST_ROUNDS: u32 = 4;
 
-#[derive(Drop)]
+#[derive(Clone, Copy)]
 pub enum Judged {
     Good,
     NotGood,

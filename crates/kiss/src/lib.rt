@@ -1,5 +1,7 @@
 // What writing and reading a card as KISS2 (document 02, change 6) share: the bits of a number, and the lowest cell that no sequence of
 // observations leads to.
+#![tactic(auto)]
+
 ghost use Rattle.std.specs.Prelude.{◌≡◌, false, not, ◌≤◌, length};
 ghost use Rattle.sets.specs.Bounded.{first, or_else};
 ghost use Rattle.games.specs.Format.{max_actions, max_cells};

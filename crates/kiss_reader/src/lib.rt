@@ -1,5 +1,7 @@
 // The reader of KISS2 text (document 02, change 6; docs/KISS2.md): one pass over the text, in which each line is stored in the words of a
 // card that begins blank.
+#![tactic(auto)]
+
 ghost use Rattle.std.specs.Prelude.{◌≡◌, ◌+◌, ◌*◌, ◌<◌, ◌≤◌, length, get_or};
 ghost use Rattle.games.specs.Answers.{leaves};
 ghost use Rattle.games.specs.Format.{max_actions, max_observations, max_cells, number_values, kind_values};
@@ -17,14 +19,14 @@ use form::Cursor;
 use games::{Action, Cell, Observation};
 
 // What reading answers: the words of the card and its cells, or a refusal's number and place.
-#[derive(Drop)]
+#[derive(Clone, Copy)]
 pub enum Answer {
     Read(usize, u32),
     Refused(u32, usize),
 }
 
 // Actions and observations, and the cursor behind them.
-#[derive(Drop)]
+#[derive(Clone, Copy)]
 pub struct Counts {
     pub cursor: Cursor,
     pub actions: u32,
@@ -32,7 +34,7 @@ pub struct Counts {
 }
 
 // The numbers of the head, and the cursor behind it.
-#[derive(Drop)]
+#[derive(Clone, Copy)]
 pub struct Head {
     pub cursor: Cursor,
     pub actions: u32,
@@ -41,7 +43,7 @@ pub struct Head {
 }
 
 // The sizes of a machine: actions, observations and cells; the bits of an input and of an output, and how many numbers these can be.
-#[derive(Drop)]
+#[derive(Clone, Copy)]
 pub struct Sizes {
     pub actions: u32,
     pub observations: u32,
@@ -53,7 +55,7 @@ pub struct Sizes {
 }
 
 // A state and an observation, and the cursor behind them.
-#[derive(Drop)]
+#[derive(Clone, Copy)]
 pub struct Slot {
     pub cursor: Cursor,
     pub state: u32,
@@ -61,7 +63,7 @@ pub struct Slot {
 }
 
 // The cell that is entered and its output, and the cursor behind them.
-#[derive(Drop)]
+#[derive(Clone, Copy)]
 pub struct Entry {
     pub cursor: Cursor,
     pub cell: u32,
@@ -69,7 +71,7 @@ pub struct Entry {
 }
 
 // A line, and the cursor behind it.
-#[derive(Drop)]
+#[derive(Clone, Copy)]
 pub struct Line {
     pub cursor: Cursor,
     pub state: u32,
@@ -79,14 +81,14 @@ pub struct Line {
 }
 
 // The least and the most that a number can be.
-#[derive(Drop)]
+#[derive(Clone, Copy)]
 pub struct Range {
     pub least: u32,
     pub most: u32,
 }
 
 // How many words were read, and the cursor at the end.
-#[derive(Drop)]
+#[derive(Clone, Copy)]
 pub struct Carded {
     pub cursor: Cursor,
     pub words: usize,

@@ -1,5 +1,7 @@
 // Runs the rows for cards as KISS2 text (document 02, change 6) that stand on standard input, and prints what the writer and the reader
 // answer and leave in the room that they are lent. The input says what its lines are.
+#![tactic(auto)]
+
 mod card_rows;
 mod lines;
 mod load;

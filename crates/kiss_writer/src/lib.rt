@@ -1,4 +1,6 @@
 // Writing a card as KISS2 text (document 02, change 6): the room is counted, then the text is written from its first byte on.
+#![tactic(auto)]
+
 ghost use Rattle.std.specs.Prelude.{◌≡◌, [], ◌∷◌, suc, ◌+◌, ◌*◌, ◌≤◌, ◌<◌, length};
 ghost use Rattle.sets.specs.Bounded.{gather};
 ghost use Rattle.games.specs.Answers.{leaves};
@@ -14,14 +16,14 @@ ghost use Rattle.kiss_writer.specs.Write.{by_room, written_to, Writes};
 use games::{Action, Cell, Checked, Observation};
 
 // What writing answers: the bytes of the text, or a refusal's number and place.
-#[derive(Drop)]
+#[derive(Clone, Copy)]
 pub enum Answer {
     Written(usize),
     Refused(u32, usize),
 }
 
 // The bits of input and output.
-#[derive(Drop)]
+#[derive(Clone, Copy)]
 struct Bits {
     input: u32,
     output: u32,

@@ -1,4 +1,6 @@
 // Join and meet of two lists of sets (document 01, "Lists").
+#![tactic(auto)]
+
 ghost use Rattle.std.specs.Prelude.{◌≡◌, ℕ, ◌≤◌, length, take};
 ghost use Rattle.families.specs.Bits.{max_lanes, lanes, sets, Bits};
 ghost use Rattle.games.specs.Answers.{leaves};

@@ -1,5 +1,7 @@
 // The successors of every set of states in two reads, for the search and the judge of cards: a table for the lower half of the states
 // and one for the upper half.
+#![tactic(auto)]
+
 ghost use Rattle.std.specs.Prelude.{◌≡◌, ◌+◌, ◌*◌, ◌^◌, ◌<◌, ◌≤◌, min, length};
 ghost use Rattle.games.specs.Words.{game};
 ghost use Rattle.tables.specs.Check.{checked};
@@ -102,7 +104,7 @@ pub fn fill(table: &[u32], low: &mut [u32], high: &mut [u32])
 }
 
 // What a set comes to under an action.
-#[derive(Drop)]
+#[derive(Clone, Copy)]
 pub enum Posted {
     // the action is not enabled at a member
     Blocked,

@@ -1,4 +1,6 @@
 // A table and a card together: the check that stands before every use of both.
+#![tactic(auto)]
+
 ghost use Rattle.std.specs.Prelude.{◌≡◌};
 ghost use Rattle.tables.specs.Check.{checked as table_checked};
 ghost use Rattle.cards.specs.Card.{checked as card_checked};

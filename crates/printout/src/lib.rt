@@ -1,4 +1,6 @@
 // What the solving program prints (document 01): its lines, and a card part by part, written into a lent buffer.
+#![tactic(auto)]
+
 ghost use Rattle.std.specs.Prelude.{◌≡◌, ◌++◌, ◌+◌, ◌*◌, ◌≤◌, ◌<◌, length};
 ghost use Rattle.games.specs.Words.{part_length};
 ghost use Rattle.cards.specs.Card.{card_cells, card_observations, checked};

@@ -1,4 +1,6 @@
 // Rows of document 01 for tables, and what all rows share: the stations and the printing. `vectors` runs them.
+#![tactic(auto)]
+
 pub mod check_rows;
 pub mod field_rows;
 pub mod print;

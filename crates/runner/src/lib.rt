@@ -1,6 +1,8 @@
 // The runner (document 01, "Entries": Run): a card's words, held and not copied, and the cell it is in. A function that takes, makes
 // or has a local of a runner is proved by a walk of its MIR, by hand, so there are three: two over the covered steps of `cards`, and
 // `drive`, which has plain parameters and needs no walk in its callers. `run` needs no runner.
+#![tactic(auto)]
+
 ghost use Rattle.std.specs.Prelude.{◌≡◌, [], ◌∷◌, length};
 ghost use Rattle.games.specs.Answers.{leaves};
 ghost use Rattle.cards.specs.Card.{checked};
@@ -10,14 +12,14 @@ ghost use Rattle.runner.specs.Runs.{standing, move_on, ran_up_to, with_actions, 
 use cards::{Move, Stood};
 use games::{Cell, Checked, Observation};
 
-#[derive(Drop)]
+#[derive(Clone, Copy)]
 pub struct Runner<'c> {
     pub card: &'c [u32],
     pub cell: Cell,
 }
 
 // A runner with the answer to its opening.
-#[derive(Drop)]
+#[derive(Clone, Copy)]
 pub struct Opened<'c> {
     pub runner: Runner<'c>,
     pub answer: Move,
@@ -47,7 +49,7 @@ pub fn advance<'r, 'c>(r: &'r mut Runner<'c>, seen: Observation) -> Move
 }
 
 // A runner after its first, second and third observation.
-#[derive(Drop)]
+#[derive(Clone, Copy)]
 pub struct Driven {
     pub begun: Stood,
     pub moved: Stood,
@@ -81,7 +83,7 @@ pub fn drive(card: &[u32], first: Observation, second: Observation, third: Obser
 }
 
 // How many observations were taken, all of them; or a refusal: number, place, and how many were taken before it.
-#[derive(Drop)]
+#[derive(Clone, Copy)]
 pub enum Ran {
     Done(usize),
     Refused(u32, usize, usize),

@@ -1,4 +1,6 @@
 // The search on sets: the step, applied to families of sets as bits until a start set is lost or nothing changes.
+#![tactic(auto)]
+
 ghost use Rattle.std.specs.Prelude.{◌≡◌, ◌+◌, ◌*◌, ◌^◌, ◌<◌, length};
 ghost use Rattle.sets.specs.Mask.{member};
 ghost use Rattle.families.specs.Bits.{lanes, has as is_in, Bits};
@@ -187,7 +189,7 @@ fn same(first: &[u64], second: &[u64]) -> bool
 }
 
 // How the search ends: the families settled at k with the start sets in them, or a start set is not good for k.
-#[derive(Drop)]
+#[derive(Clone, Copy)]
 pub enum Ended {
     Settled(u32),
     Lost(u32),

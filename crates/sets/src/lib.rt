@@ -1,4 +1,6 @@
 // Sets of states as masks: bit i is state i.
+#![tactic(auto)]
+
 ghost use Rattle.std.specs.Prelude.{◌≡◌, ◌<◌, ◌≤◌, length};
 ghost use Rattle.sets.specs.Bounded.{fill as filled, first_from};
 ghost use Rattle.sets.specs.Mask.{member as is_member, common as common_part, union as united, subset as is_subset, single as one, without as lacking};

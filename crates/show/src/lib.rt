@@ -1,4 +1,6 @@
 // The move words of a cell's action, as a part of a table's words (document 01, "Entries": Show).
+#![tactic(auto)]
+
 ghost use Rattle.std.specs.Prelude.{◌≡◌};
 ghost use Rattle.pairs.specs.Pair.{checked};
 ghost use Rattle.show.specs.Show.{located, found, handed, part_of};
@@ -6,7 +8,7 @@ ghost use Rattle.show.specs.Show.{located, found, handed, part_of};
 use games::{Cell, Checked, Place, State};
 
 // Where the part starts in the table and how many words it has, or a refusal: number and place.
-#[derive(Drop)]
+#[derive(Clone, Copy)]
 pub enum Shown {
     Part(usize, usize),
     Refused(u32, usize),

@@ -1,5 +1,7 @@
 // The solving program: the words of a table on standard input, the verdict and the card on standard output. What it prints is put into a
 // buffer by functions whose contracts say what it is; the program reads, calls them, and writes the buffer out.
+#![tactic(auto)]
+
 ghost use Rattle.std.specs.Prelude.{◌≡◌, ◌+◌, ◌*◌, ◌/◌, ◌%◌, ◌≤◌, ◌<◌, length};
 ghost use Rattle.text.specs.Text.{Wrote};
 ghost use Rattle.solve.specs.Bytes.{word, words_of};
@@ -115,7 +117,7 @@ fn respond(bytes: &[u8], out: &mut [u8]) -> usize
 }
 
 // What was read: so many bytes, up to the end of the input or of the buffer; or a read failed.
-#[derive(Drop)]
+#[derive(Clone, Copy)]
 enum Input {
     Bytes(usize),
     Failed,
@@ -157,7 +159,7 @@ fn read_input(bytes: &mut [u8]) -> Input
 }
 
 // What is written, and where: the descriptor, and the length of the text in front of the buffer.
-#[derive(Drop)]
+#[derive(Clone, Copy)]
 struct Reply {
     to: i32,
     length: usize,

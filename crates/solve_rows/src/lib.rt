@@ -1,4 +1,6 @@
 // Solving: the stations, refusals 8 and 9, and what is left in the buffers.
+#![tactic(auto)]
+
 use rows::print::say;
 use rows::stations::{A, B, GUARD, changed_a};
 use rows::{print, stations};

@@ -1,4 +1,6 @@
 // The solver: the search on sets, and the card.
+#![tactic(auto)]
+
 ghost use Rattle.std.specs.Prelude.{◌≡◌, ◌≤◌, ◌^◌, length};
 ghost use Rattle.games.specs.Format.{max_states};
 ghost use Rattle.games.specs.Answers.{leaves};
@@ -25,7 +27,7 @@ fn set_count(n: u32) -> usize
 }
 
 // The answer of solve: yes with the settling count and the number of cells, no with the round number, or a refusal.
-#[derive(Drop)]
+#[derive(Clone, Copy)]
 pub enum Answer {
     Yes(u32, u32),
     No(u32),

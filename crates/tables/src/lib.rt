@@ -1,4 +1,6 @@
 // The words of a station table: checks, what the words say, and its fields.
+#![tactic(auto)]
+
 ghost use Rattle.std.specs.Prelude.{◌≡◌, ◌<◌, ◌+◌, ◌*◌, ◌≤◌, length};
 ghost use Rattle.sets.specs.Bounded.{filled_by};
 ghost use Rattle.games.specs.Format.{max_observations};
@@ -240,7 +242,7 @@ pub fn check(table: &[u32]) -> Checked
 
 // A table's numbers and sets. Slots of `shown` from `observations` up, and of `moves` from `actions` · `states` up, are unused, and so is
 // `parked` where the table doesn't mark parked states.
-#[derive(Drop)]
+#[derive(Clone, Copy)]
 pub struct Fields {
     pub states: u32,
     pub actions: u32,

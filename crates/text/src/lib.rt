@@ -1,4 +1,6 @@
 // Text as bytes in a lent buffer: writers that pass on the next place, and readers that pass on a cursor.
+#![tactic(auto)]
+
 ghost use Rattle.std.specs.Prelude.{◌≡◌, [], ◌∷◌, ◌+◌, ◌≤◌, ◌<◌, length, drop};
 ghost use Rattle.text.specs.Text.{room, Wrote};
 ghost use Rattle.text.specs.Decimal.{decimal, digit_at};
@@ -43,14 +45,14 @@ pub fn put_decimal(out: &mut [u8], at: usize, n: u64) -> usize
 }
 
 // Where reading stands: the next place, or the place of the first byte that is wrong, which is the text's end where the text stops short.
-#[derive(Drop)]
+#[derive(Clone, Copy)]
 pub enum Cursor {
     At(usize),
     Wrong(usize),
 }
 
 // A number, and the cursor behind it; 0 where it is wrong.
-#[derive(Drop)]
+#[derive(Clone, Copy)]
 pub struct Read {
     pub value: u64,
     pub next: Cursor,

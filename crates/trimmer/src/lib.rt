@@ -1,6 +1,8 @@
 // The trimmer (document 02, change 5): a card without its idle cells, those that are not reached. Each reached cell is taken up once: a
 // word of the work has a cell's mark in its lower half, and in its upper half a cell that waits. Later these are the cell's new number
 // and an entry of the list of kept cells.
+#![tactic(auto)]
+
 ghost use Rattle.std.specs.Prelude.{◌≡◌, ◌++◌, ◌+◌, ◌<◌, ◌≤◌, length, drop};
 ghost use Rattle.games.specs.Answers.{leaves};
 ghost use Rattle.games.specs.Automaton.{no_cell};
@@ -16,7 +18,7 @@ ghost use Rattle.trimmer.specs.Trimmer.{kept_cells, by_room, buffers, trimmed_in
 use games::{Cell, Checked, Observation};
 
 // What trimming answers: the words of the trimmed card and its cells, or a refusal's number and place.
-#[derive(Drop)]
+#[derive(Clone, Copy)]
 pub enum Answer {
     Trimmed(usize, u32),
     Refused(u32, usize),
@@ -57,7 +59,7 @@ fn put_upper(work: &mut [u32], i: usize, x: u32)
 
 // The cells that wait to be taken up: how many, and the one that is next. Those behind it stand in the upper halves of the work; it is
 // held apart, so that a chain of cells is followed without waiting for the memory.
-#[derive(Drop)]
+#[derive(Clone, Copy)]
 struct Waiting {
     cells: usize,
     next: Cell,

@@ -1,5 +1,7 @@
 // What a set of states comes to under an action: one walk over its members, from the lowest (document 02, change 4).
 // Whether a state is blocked, and its successors, are decided here and nowhere else.
+#![tactic(auto)]
+
 ghost use Rattle.std.specs.Prelude.{◌≡◌, ◌<◌};
 ghost use Rattle.games.specs.Game.{enabled as is_enabled};
 ghost use Rattle.games.specs.Words.{game};
@@ -9,7 +11,7 @@ ghost use Rattle.walk.specs.Walk.{moved, walked};
 use games::{Action, State};
 
 // What one state comes to under an action.
-#[derive(Drop)]
+#[derive(Clone, Copy)]
 pub enum Moved {
     // the action is blocked there
     Blocked,
@@ -44,7 +46,7 @@ pub fn enabled(table: &[u32], a: Action, i: State) -> bool
 }
 
 // What a set comes to under an action, and how many members were looked at.
-#[derive(Drop)]
+#[derive(Clone, Copy)]
 pub enum Walked {
     // the lowest member where the action is blocked, and the members up to and with it
     Blocked(State, u32),

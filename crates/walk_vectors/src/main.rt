@@ -1,5 +1,7 @@
 // Reads tables from standard input, one behind the other, and prints what each set comes to under each action in one walk (document 02,
 // change 4). The tests run it on many tables beside a walk of their own.
+#![tactic(auto)]
+
 ghost use Rattle.std.specs.Prelude.{◌+◌, ◌*◌, ◌≤◌, ◌<◌, ◌≡◌, length};
 ghost use Rattle.games.specs.Words.{game};
 ghost use Rattle.tables.specs.Layout.{Sized};

@@ -1,4 +1,6 @@
 // The card of a yes, from the settled cells and their index: the card's words.
+#![tactic(auto)]
+
 ghost use Rattle.std.specs.Prelude.{◌≡◌, ◌≤◌, ◌++◌, length, drop};
 ghost use Rattle.games.specs.Words.{game, front_length, part_length, card_length, card_of};
 ghost use Rattle.families.specs.Bits.{sets as sets_of};

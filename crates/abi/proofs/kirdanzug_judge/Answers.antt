@@ -1,0 +1,8 @@
+-- `abi::kirdanzug_judge` meets its contract: the words of what `judge` answers.
+use mathlib.Core.Path.{ap, ◌∙◌}
+use borrow.Author.Rules.{rules}
+use Rattle.answers.specs.Words.{judge_words}
+use Rattle.abi.proofs.kirdanzug_judge.Goals as goal
+
+pub returns : goal.returns
+returns c = c.judge_words.ensures ∙ ap judge_words c.judge.ensures

@@ -1,0 +1,8 @@
+-- `abi::kirdanzug_open` meets its contract: the words of what `begin` answers.
+use mathlib.Core.Path.{ap, ◌∙◌}
+use borrow.Author.Rules.{rules}
+use Rattle.answers.specs.Words.{move_words}
+use Rattle.abi.proofs.kirdanzug_open.Goals as goal
+
+pub returns : goal.returns
+returns c = c.move_words.ensures ∙ ap move_words c.begin.ensures

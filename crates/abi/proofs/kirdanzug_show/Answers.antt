@@ -1,0 +1,8 @@
+-- `abi::kirdanzug_show` meets its contract: the words of what `find` answers.
+use mathlib.Core.Path.{ap, ◌∙◌}
+use borrow.Author.Rules.{rules}
+use Rattle.answers.specs.Words.{show_words}
+use Rattle.abi.proofs.kirdanzug_show.Goals as goal
+
+pub returns : goal.returns
+returns c = c.show_words.ensures ∙ ap show_words c.find.ensures

@@ -1,0 +1,16 @@
+-- A late cell or observation is 12; else the next word names a cell, or none.
+use Rattle.std.proofs.Common.{◌∙◌, arith, rules}
+use Rattle.cards.proofs.Running.{outside_told, late_told, next_named_at, followed_told}
+use Rattle.cards.proofs.follow.Goals as goal
+
+pub returns-then-cells-cell : goal.returns-then-cells-cell
+returns-then-cells-cell c = outside_told _ _ _ (omega arith)
+
+pub returns-then-observations-seen : goal.returns-then-observations-seen
+returns-then-observations-seen c = late_told _ _ _ (omega arith) (omega arith)
+
+pub enter-requires : goal.enter-requires
+enter-requires c = (c.requires, next_named_at _ c.requires _ _ _ (omega arith) (omega arith) c.next_cell.ensures)
+
+pub returns : goal.returns
+returns c = c.enter.ensures ∙ followed_told _ _ _ (omega arith) _ (omega arith) c.next_cell.ensures

@@ -1,0 +1,9 @@
+-- The tests are those of the definition, on the fields that the code has read.
+use Rattle.std.proofs.Common.{rules}
+use Rattle.cards.proofs.Checked.{head_told}
+use Rattle.cards.proofs.head_fits.Goals as goal
+
+pub returns : goal.returns
+returns c =
+    head_told _ _ _ _ _ _ _ _ c.low_field-low.ensures c.number_field-number.ensures c.action_field-action.ensures
+    c.heading.ensures c.within.ensures c.within-2.ensures c.within-3.ensures

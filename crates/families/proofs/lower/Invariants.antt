@@ -1,0 +1,15 @@
+-- `families::lower` meets its contract: before each turn the subsets that differ below i alone are in.
+use mathlib.Core.Path.{◌≡◌, ap, ◌∙◌}
+use Prim.Native.Nat.{ℕ, ◌-◌, ◌≤◌, ◌<◌}
+use borrow.Author.Rules.{rules}
+use native.Mathlib.Omega.{arith}
+use Rattle.sets.specs.Mask.{member}
+use Rattle.families.specs.Bits.{lane_states, lane_sets}
+use Rattle.families.proofs.Lowering.{reached, reached_none, reached_more, reached_end}
+use Rattle.families.proofs.lower.Given as goal
+
+abbrev pub invariant-loop-i : goal.invariant-loop-i
+invariant-loop-i l = (l.i ≤ lane_states) × ((t : ℕ) → t < lane_sets → member l.all t ≡ reached l.word l.i t)
+
+abbrev pub decreases-loop-i : goal.decreases-loop-i
+decreases-loop-i l = lane_states - l.i

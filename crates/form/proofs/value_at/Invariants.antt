@@ -1,0 +1,12 @@
+-- `form::value_at` meets its contract. The loop's invariant: i digits are read, the number v.
+use Prim.Native.Nat.{◌*◌, ◌-◌, ◌≤◌}
+use native.Mathlib.Omega.{arith}
+use borrow.Author.Rules.{rules}
+use Rattle.form.proofs.Values.{Begun, begun_none, begun_scaled, begun_more, begun_end}
+use Rattle.form.proofs.value_at.Given as goal
+
+abbrev pub invariant-loop-i : goal.invariant-loop-i
+invariant-loop-i l = Begun l.t l.at l.base l.width l.i l.v
+
+abbrev pub decreases-loop-i : goal.decreases-loop-i
+decreases-loop-i l = l.width - l.i

@@ -1,0 +1,12 @@
+-- `kiss::lowest_unreached` meets its contract.
+use native.Mathlib.Omega.{arith}
+use borrow.Author.Rules.{rules}
+use Rattle.cards.proofs.Running.{size_of}
+use Rattle.kiss.proofs.Idling.{few_cells, idle_unmarked}
+use Rattle.kiss.proofs.lowest_unreached.Goals as goal
+
+pub lowest_unmarked-requires : goal.lowest_unmarked-requires
+lowest_unmarked-requires c = omega (arith, c.mark_reached.ensures.size, size_of c.args.card.now, few_cells c.args.card.now c.requires.0)
+
+pub returns : goal.returns
+returns c = idle_unmarked c.args.card.now c.requires.0 _ _ _ c.requires.2 c.mark_reached.ensures c.lowest_unmarked.ensures

@@ -1,0 +1,16 @@
+-- `kiss_reader::blank_row` meets its contract. The loop's invariant: the words for the observations below j are written.
+use borrow.Author.Rules.{rules}
+use mathlib.Core.Path.{sym, ◌∙◌}
+use Prim.Native.Nat.{ℕ, ◌+◌, ◌≤◌, ◌<◌, ◌-◌}
+use native.Mathlib.Omega.{arith}
+use lib.ListN.{length, length-set}
+use Rattle.games.specs.Automaton.{no_cell}
+use Rattle.games.specs.Fields.{word}
+use Rattle.cards.proofs.Parts.{Filled, filled_none, filled_more, filled_end}
+use Rattle.kiss_reader.proofs.blank_row.Given as goal
+
+abbrev pub invariant-loop-j : goal.invariant-loop-j
+invariant-loop-j l = (l.j ≤ l.o) × Filled l.o (λ i. word l.kind no_cell i 0) l.j l.row
+
+abbrev pub decreases-loop-j : goal.decreases-loop-j
+decreases-loop-j l = l.o - l.j

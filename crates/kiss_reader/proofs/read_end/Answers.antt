@@ -1,0 +1,7 @@
+-- `kiss_reader::read_end` meets its contract.
+use Rattle.kiss_reader.proofs.Parts.{end_read}
+use borrow.Author.Rules.{rules}
+use Rattle.kiss_reader.proofs.read_end.Goals as goal
+
+pub returns : goal.returns
+returns c = end_read _ _ _ _ c.expect-e.ensures c.finish.ensures

@@ -1,0 +1,7 @@
+-- `kiss_reader::read_line` meets its contract.
+use Rattle.kiss_reader.proofs.Lines.{line_read}
+use borrow.Author.Rules.{rules}
+use Rattle.kiss_reader.proofs.read_line.Goals as goal
+
+pub returns : goal.returns
+returns c = line_read _ _ _ _ _ _ c.read_slot-slot.result c.read_entry-entry.result c.read_slot-slot.ensures c.read_entry-entry.ensures

@@ -1,0 +1,11 @@
+-- `kiss_writer::entered` meets its contract: both kinds of state.
+use mathlib.Core.Path.{sym, ◌∙◌}
+use Rattle.kiss_writer.proofs.Lines.{target_first, target_next}
+use borrow.Author.Rules.{rules}
+use Rattle.kiss_writer.proofs.entered.Goals as goal
+
+pub returns-then-state-eq0 : goal.returns-then-state-eq0
+returns-then-state-eq0 c = c.first_cell.ensures ∙ sym (target_first c.args.card.now c.args.state _ c.if-state-eq0.true)
+
+pub returns : goal.returns
+returns c = c.next_cell.ensures ∙ sym (target_next c.args.card.now c.args.state _ c.if-state-eq0.false)

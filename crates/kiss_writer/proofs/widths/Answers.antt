@@ -1,0 +1,20 @@
+-- `kiss_writer::widths` meets its contract.
+use mathlib.Core.Path.{ap, ◌∙◌}
+use native.Mathlib.Omega.{arith}
+use Rattle.cards.proofs.Checked.{fitting}
+use Rattle.kiss.specs.Text.{bits}
+use borrow.Author.Rules.{rules}
+use Rattle.kiss_writer.proofs.widths.Goals as goal
+
+pub bits-requires : goal.bits-requires
+bits-requires c = omega (arith, c.observations.ensures, (fitting c.args.card.now c.requires).observations)
+
+pub bits-requires-2 : goal.bits-requires-2
+bits-requires-2 c = omega (arith, c.actions.ensures, (fitting c.args.card.now c.requires).actions)
+
+pub returns : goal.returns
+returns c =
+    record {
+      c = c.bits.ensures ∙ ap bits c.observations.ensures;
+      c = c.bits-2.ensures ∙ ap bits c.actions.ensures;
+    }

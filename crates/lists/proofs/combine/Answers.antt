@@ -1,0 +1,51 @@
+-- `lists::combine` meets its contract: each way out is one case of the outcome.
+use mathlib.Core.Path.{sym, ◌∙◌}
+use borrow.Author.Rules.{rules}
+use borrow.Author.Tests.{not-true, not-false}
+use native.Mathlib.Omega.{arith}
+use Rattle.sets.specs.Family.{meet}
+use Rattle.games.specs.Format.{max_states}
+use Rattle.games.proofs.Limits.{within_high}
+use Rattle.sets.proofs.Reaching.{front_none}
+use Rattle.lists.specs.Merging.{combined}
+use Rattle.lists.proofs.Outcomes.{Width, Clean, refused_width, refused_first, refused_second, allowed, masks}
+use Rattle.lists.proofs.combine.Goals as goal
+
+pub returns-then-not-within : goal.returns-then-not-within
+returns-then-not-within c = refused_width (combined c.args.meet c.args.n) c.args.n c.args.first.now c.args.second.now c.args.out.now (sym c.within.ensures ∙ not-true c.within.result c.if-not-within.true)
+
+pub single-end-requires : goal.single-end-requires
+single-end-requires c = omega (arith, within_high c.args.n max_states (sym c.within.ensures ∙ not-false c.within.result c.if-not-within.false))
+
+pub returns-then-i-first : goal.returns-then-i-first
+returns-then-i-first c =
+    let width : Width c.args.n c.single-end.result = record { right = sym c.within.ensures ∙ not-false c.within.result c.if-not-within.false; power = c.single-end.ensures } in
+    refused_first (combined c.args.meet c.args.n) c.args.n c.args.first.now c.args.second.now c.args.out.now c.single-end.result width c.first_from-i.result c.first_from-i.ensures c.if-i-first.true
+
+pub returns-then-j-second : goal.returns-then-j-second
+returns-then-j-second c =
+    let width : Width c.args.n c.single-end.result = record { right = sym c.within.ensures ∙ not-false c.within.result c.if-not-within.false; power = c.single-end.ensures } in
+    let clean_first : Clean c.single-end.result c.args.first.now = front_none c.args.first.now c.single-end.result c.first_from-i.result c.first_from-i.ensures (omega (arith, c.if-i-first)) in
+    refused_second (combined c.args.meet c.args.n) c.args.n c.args.first.now c.args.second.now c.args.out.now c.single-end.result width c.first_from-j.result
+    clean_first c.first_from-j.ensures c.if-j-second.true
+
+pub deliver-requires : goal.deliver-requires
+deliver-requires c =
+    let width : Width c.args.n c.single-end.result = record { right = sym c.within.ensures ∙ not-false c.within.result c.if-not-within.false; power = c.single-end.ensures } in
+    let clean_first : Clean c.single-end.result c.args.first.now = front_none c.args.first.now c.single-end.result c.first_from-i.result c.first_from-i.ensures (omega (arith, c.if-i-first)) in
+    let clean_second : Clean c.single-end.result c.args.second.now = front_none c.args.second.now c.single-end.result c.first_from-j.result c.first_from-j.ensures c.if-j-second.false in
+    let second : tie.Else3 = c in
+    let at = second.before.before.before.before in
+    let args = at.before.args in
+    masks args.n at.single.result args.first.now args.second.now (width at) (clean-first second.before.before) (clean-second second)
+
+pub returns : goal.returns
+returns c =
+    let width : Width c.args.n c.single-end.result = record { right = sym c.within.ensures ∙ not-false c.within.result c.if-not-within.false; power = c.single-end.ensures } in
+    let clean_first : Clean c.single-end.result c.args.first.now = front_none c.args.first.now c.single-end.result c.first_from-i.result c.first_from-i.ensures (omega (arith, c.if-i-first)) in
+    let clean_second : Clean c.single-end.result c.args.second.now = front_none c.args.second.now c.single-end.result c.first_from-j.result c.first_from-j.ensures c.if-j-second.false in
+    let second : tie.Else3 = c in
+    let at = second.before.before.before.before in
+    let args = at.before.args in
+    c.deliver.ensures
+    ∙ allowed (combined args.meet args.n) args.n args.first.now args.second.now args.out.now at.single.result (width at) (clean-first second.before.before) (clean-second second)

@@ -1,0 +1,22 @@
+use mathlib.Core.Path.{ap, ◌∙◌}
+use Prim.Native.Nat.{ℕ, ◌-◌}
+use borrow.Author.Rules.{rules}
+use native.Mathlib.Omega.{arith}
+use lib.ListN.{length, get_or}
+use Rattle.families.proofs.Mapping.{Mapping, mapping_none, mapping_more}
+use Rattle.lists.specs.Merging.{gathered}
+use Rattle.lists.proofs.Merging.{Merges}
+use Rattle.lists.proofs.merge.Goals as goal
+
+pub loop-i-init : goal.loop-i-init
+loop-i-init c = mapping_none (Merges c.args.meet c.args.a.now c.args.b.now) c.args.a.now
+
+pub loop-i-preserved : goal.loop-i-preserved
+loop-i-preserved c =
+    let at : tie.At-loop invariant-loop decreases-loop = c in
+    let args = at.before.before.before.args in
+    mapping_more (Merges args.meet args.a.now args.b.now) args.a.now at.loop.a at.loop.i c.gather.result at.loop.invariant (omega (arith, at.loop.invariant.long))
+    (c.gather.ensures ∙ ap (λ (x : ℕ). gathered args.meet x (get_or args.b.now at.loop.i 0)) (at.loop.invariant.kept at.loop.i (omega arith)))
+
+pub returns : goal.returns
+returns c = record { size = c.loop-i.invariant.long; words = λ i l. c.loop-i.invariant.done i (omega (arith, c.loop-i.invariant.long)) }

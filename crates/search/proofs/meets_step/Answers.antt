@@ -1,0 +1,44 @@
+use borrow.Author.Rules.{rules}
+use mathlib.Core.Bool.{false}
+use mathlib.Core.Path.{◌≡◌, ◌∙◌}
+use Prim.Native.Nat.{◌≤◌, ◌-◌}
+use native.Mathlib.Omega.{arith}
+use Rattle.sets.specs.Bounded.{any}
+use Rattle.sets.proofs.Bounded.{any_zero, any_more}
+use Rattle.sets.proofs.Logic.{or_false_intro}
+use Rattle.families.specs.Bits.{has}
+use Rattle.games.specs.Words.{game}
+use Rattle.games.specs.Step.{meets}
+use Rattle.tables.proofs.Checks.{sized}
+use Rattle.search.proofs.Turns.{step_bad, step_none, step_hit}
+use Rattle.search.proofs.meets_step.Goals as goal
+
+pub bad-requires : goal.bad-requires
+bad-requires c = sized c.args.table.now c.requires.0.fine
+
+pub returns-then-s-bad-ne0 : goal.returns-then-s-bad-ne0
+returns-then-s-bad-ne0 c =
+    let g = game c.args.table.now in
+    step_bad g (has c.args.family.now) c.args.s (rw c.bad.ensures at c.if-s-bad-ne0.true)
+
+pub actions-actions-requires : goal.actions-actions-requires
+actions-actions-requires c = sized c.args.table.now c.requires.0.fine
+
+pub loop-a-init : goal.loop-a-init
+loop-a-init c = (search rules, any_zero _)
+
+pub returns-then-action_meets : goal.returns-then-action_meets
+returns-then-action_meets c =
+    let g = game c.args.table.now in
+    step_hit g (has c.args.family.now) c.args.s (rw c.bad.ensures c c.if-s-bad-ne0.false) c.loop-a.a (omega arith) (cc)
+
+pub loop-a-preserved : goal.loop-a-preserved
+loop-a-preserved c =
+    let g = game c.args.table.now in
+    (search rules, any_more c.loop-a.a (meets g (has c.args.family.now) c.args.s) ∙ or_false_intro c.loop-a.invariant.1 (cc))
+
+pub returns : goal.returns
+returns c =
+    let g = game c.args.table.now in
+    let e : c.loop-a.a ≡ g.actions = omega arith in
+    step_none g (has c.args.family.now) c.args.s (rw e c c.loop-a.invariant.1)

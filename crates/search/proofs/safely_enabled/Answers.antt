@@ -1,0 +1,21 @@
+-- `search::safely_enabled` meets its contract: the two tests are the definition's.
+use mathlib.Core.Path.{ap₂}
+use mathlib.Core.Bool.{Bool, not, ◌&&◌}
+use native.Mathlib.Omega.{arith}
+use Rattle.tables.proofs.Checks.{sized}
+use Rattle.search.specs.Stages.{safely_enabled}
+use Rattle.tables.proofs.Bounds.{few_states}
+use Rattle.search.proofs.safely_enabled.Goals as goal
+
+pub bad-requires : goal.bad-requires
+bad-requires c = sized c.args.table.now c.requires.0
+
+pub member-bad-requires : goal.member-bad-requires
+member-bad-requires c = omega (arith, c.requires.2, few_states c.args.table.now (sized c.args.table.now c.requires.0))
+
+pub enabled-requires : goal.enabled-requires
+enabled-requires c = (sized c.args.table.now c.requires.0, c.requires.1, c.requires.2)
+
+pub returns : goal.returns
+unfolding safely_enabled
+returns c = ap₂ (λ (x y : Bool). x && not y) c.enabled.ensures (rw c.bad.ensures at c.member-bad.ensures)

@@ -1,0 +1,54 @@
+use borrow.Author.Rules.{rules}
+use borrow.Author.Tests.{not-true, not-false}
+use mathlib.Core.Bool.{true}
+use mathlib.Core.Path.{◌≡◌, sym, ◌∙◌}
+use Prim.Native.Nat.{◌≤◌, ◌-◌}
+use native.Mathlib.Omega.{arith}
+use Rattle.sets.specs.Bounded.{all}
+use Rattle.sets.specs.Mask.{common}
+use Rattle.sets.proofs.Bounded.{all_zero, all_more}
+use Rattle.sets.proofs.Logic.{and_intro}
+use Rattle.families.specs.Bits.{has}
+use Rattle.families.proofs.Lanes.{lane_there}
+use Rattle.games.specs.Words.{game}
+use Rattle.tables.proofs.Checks.{sized, accepted}
+use Rattle.games.proofs.Steps.{shown_below}
+use Rattle.search.proofs.Turns.{shown_fails, shown_holds, shown_whole}
+use Rattle.search.proofs.shown_in.Goals as goal
+
+pub has-requires : goal.has-requires
+has-requires c = rw c.requires.1.size (lane_there (game c.args.table.now).states c.args.u c.requires.2)
+
+pub returns-then-has : goal.returns-then-has
+returns-then-has c = shown_whole (game c.args.table.now) (has c.args.family.now) c.args.u c.requires.1.down (sym c.has.ensures ∙ c.if-has.true)
+
+pub observations-o-requires : goal.observations-o-requires
+observations-o-requires c = sized c.args.table.now c.requires.0
+
+pub loop-j-init : goal.loop-j-init
+loop-j-init c = (search rules, all_zero _)
+
+pub shown-requires : goal.shown-requires
+shown-requires c = (sized c.args.table.now c.requires.0, omega arith)
+
+pub has-requires-in-loop-j : goal.has-requires-in-loop-j
+has-requires-in-loop-j c = rw (c.requires.1.size, c.shown.ensures) (lane_there (game c.args.table.now).states (common c.args.u ((game c.args.table.now).shown c.loop-j.j)) (shown_below (game c.args.table.now) (accepted c.args.table.now c.requires.0) c.args.u c.loop-j.j (omega arith)))
+
+pub returns-then-not-has : goal.returns-then-not-has
+returns-then-not-has c =
+    shown_fails (game c.args.table.now) (has c.args.family.now) c.args.u c.loop-j.j (omega arith)
+    (rw c.shown.ensures c (sym c.has-in-loop-j.ensures ∙ not-true c.has-in-loop-j.result c.if-not-has.true))
+
+pub loop-j-preserved : goal.loop-j-preserved
+loop-j-preserved c =
+    (
+      search rules,
+      all_more c.loop-j.j (λ i. has c.args.family.now (common c.args.u ((game c.args.table.now).shown i)))
+          ∙ and_intro c.loop-j.invariant.1 (rw c.shown.ensures c (sym c.has-in-loop-j.ensures ∙ not-false c.has-in-loop-j.result c.if-not-has.false)),
+    )
+
+pub returns : goal.returns
+returns c =
+    let g = game c.args.table.now in
+    let e : c.loop-j.j ≡ g.observations = omega arith in
+    shown_holds g (has c.args.family.now) c.args.u (rw e c c.loop-j.invariant.1)

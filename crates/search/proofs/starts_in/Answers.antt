@@ -1,0 +1,49 @@
+use borrow.Author.Rules.{rules}
+use borrow.Author.Tests.{not-true, not-false}
+use mathlib.Core.Bool.{true}
+use mathlib.Core.Path.{◌≡◌, sym, ◌∙◌}
+use Prim.Native.Nat.{◌≤◌, ◌-◌}
+use native.Mathlib.Omega.{arith}
+use Rattle.sets.specs.Bounded.{all}
+use Rattle.sets.proofs.Bounded.{all_zero, all_more}
+use Rattle.sets.proofs.Logic.{and_intro}
+use Rattle.families.specs.Bits.{has}
+use Rattle.families.proofs.Lanes.{lane_there}
+use Rattle.games.specs.Verdict.{start_sets, start_set}
+use Rattle.games.specs.Words.{game}
+use Rattle.games.proofs.Starts.{start_below, starts_passed, starts_stop}
+use Rattle.tables.proofs.Checks.{sized, accepted}
+use Rattle.search.proofs.starts_in.Goals as goal
+
+pub start_sets-starts-requires : goal.start_sets-starts-requires
+start_sets-starts-requires c = sized c.args.table.now c.requires.0
+
+pub loop-j-init : goal.loop-j-init
+loop-j-init c = (search rules, all_zero _)
+
+pub start_set-requires : goal.start_set-requires
+start_set-requires c = (sized c.args.table.now c.requires.0, omega arith)
+
+pub has-requires : goal.has-requires
+has-requires c =
+    let g = game c.args.table.now in
+    rw (c.requires.1, c.start_set.ensures) (lane_there g.states (start_set g c.loop-j.j) (start_below g (accepted c.args.table.now c.requires.0) c.loop-j.j))
+
+pub returns-then-not-has : goal.returns-then-not-has
+returns-then-not-has c =
+    sym (starts_stop (game c.args.table.now) (has c.args.family.now) c.loop-j.j (omega arith)
+    (rw c.start_set.ensures c (sym c.has.ensures ∙ not-true c.has.result c.if-not-has.true)))
+
+pub loop-j-preserved : goal.loop-j-preserved
+loop-j-preserved c =
+    (
+      search rules,
+      all_more c.loop-j.j (λ i. has c.args.family.now (start_set (game c.args.table.now) i))
+          ∙ and_intro c.loop-j.invariant.1 (rw c.start_set.ensures c (sym c.has.ensures ∙ not-false c.has.result c.if-not-has.false)),
+    )
+
+pub returns : goal.returns
+returns c =
+    let g = game c.args.table.now in
+    let e : c.loop-j.j ≡ start_sets g = omega arith in
+    sym (starts_passed g (has c.args.family.now) (rw e c c.loop-j.invariant.1))

@@ -1,0 +1,14 @@
+-- `tables::check_departures` meets its contract: the moves lie in the table, and its move words are the moves.
+use mathlib.Core.Path.{◌∙◌}
+use native.Mathlib.Omega.{arith}
+use borrow.Author.Rules.{rules}
+use Rattle.games.proofs.Places.{moves_row}
+use Rattle.tables.specs.Layout.{shape_in}
+use Rattle.tables.proofs.Same.{table_parked}
+use Rattle.tables.proofs.check_departures.Goals as goal
+
+pub check_parked-requires : goal.check_parked-requires
+check_parked-requires c = rw (c.place_in-first_move.ensures, c.shape_in.ensures) (c.requires.limits, omega (arith, moves_row (shape_in c.args.table.now), c.requires.long))
+
+pub returns : goal.returns
+returns c = c.check_parked.ensures ∙ table_parked c.args.table.now _ _ _ c.place_in-first_move.ensures c.shape_in.ensures c.parked.ensures

@@ -1,0 +1,17 @@
+-- `tables::check_words` meets its contract: before each turn no word so far is faulty.
+use mathlib.Core.Path.{◌≡◌, sym}
+use Prim.Native.Nat.{◌≤◌, ◌-◌}
+use native.Mathlib.Omega.{arith}
+use borrow.Author.Rules.{rules}
+use lib.ListN.{length}
+use Rattle.sets.proofs.Bounded.{first_skip}
+use Rattle.sets.specs.Bounded.{first, nothing}
+use Rattle.tables.specs.Check.{faulty}
+use Rattle.tables.proofs.Checks.{words_none, words_misplaced, words_wide, words_fine}
+use Rattle.tables.proofs.check_words.Given as goal
+
+abbrev pub invariant-loop-p : goal.invariant-loop-p
+invariant-loop-p l = (1 ≤ l.p) × (l.p ≤ l.words) × (first l.p (faulty l.table) ≡ nothing)
+
+abbrev pub decreases-loop-p : goal.decreases-loop-p
+decreases-loop-p l = l.words - l.p

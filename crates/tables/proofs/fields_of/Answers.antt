@@ -1,0 +1,40 @@
+-- `tables::fields_of` meets its contract: each field is the table's.
+use mathlib.Core.Path.{refl}
+use Prim.Native.Nat.{◌*◌, ◌≤◌}
+use native.Mathlib.Omega.{arith}
+use borrow.Author.Rules.{rules}
+use Rattle.games.specs.Format.{max_moves}
+use Rattle.games.specs.Words.{game}
+use Rattle.games.proofs.Limits.{moves_below}
+use Rattle.games.proofs.Places.{shown_row, moves_row}
+use Rattle.tables.specs.Layout.{shape_in}
+use Rattle.tables.proofs.Fieldwise.{fields_are}
+use Rattle.tables.proofs.fields_of.Goals as goal
+
+pub copy_masks-requires : goal.copy_masks-requires
+copy_masks-requires c =
+    let s = shape_in c.args.table.now in
+    rw (c.place_in-first_shown.ensures, c.shape_in-s.ensures) (omega (arith, shown_row s, c.requires.long), c.requires.limits.most_observations)
+
+pub overflow_mul-s : goal.overflow_mul-s
+overflow_mul-s c =
+    let few : c.shape_in-s.result.actions * c.shape_in-s.result.states ≤ max_moves = rw c.shape_in-s.ensures (moves_below _ _ c.requires.limits.most_actions c.requires.limits.most_states) in
+    omega (arith, few)
+
+pub overflow_cast-s-2 : goal.overflow_cast-s-2
+overflow_cast-s-2 c =
+    let few : c.shape_in-s.result.actions * c.shape_in-s.result.states ≤ max_moves = rw c.shape_in-s.ensures (moves_below _ _ c.requires.limits.most_actions c.requires.limits.most_states) in
+    omega (arith, few)
+
+pub copy_masks-requires-2 : goal.copy_masks-requires-2
+copy_masks-requires-2 c =
+    let few : c.shape_in-s.result.actions * c.shape_in-s.result.states ≤ max_moves = rw c.shape_in-s.ensures (moves_below _ _ c.requires.limits.most_actions c.requires.limits.most_states) in
+    let s = shape_in c.args.table.now in
+    let inside = moves_row s in
+    rw c.place_in-first_move.ensures (rw c.shape_in-s.ensures (omega (arith, inside, c.requires.long)), few)
+
+pub returns : goal.returns
+unfolding game
+returns c =
+    fields_are c.args.table.now _ c.shape_in-s.result c.shape_in-s.ensures refl
+    _ _ c.mask.ensures c.mask-2.ensures c.parked.ensures c.place_in-first_shown.ensures c.copy_masks.ensures c.place_in-first_move.ensures c.copy_masks-2.ensures

@@ -1,0 +1,17 @@
+-- `trimmer::copy_card` meets its contract. The loop's invariant: the first i words are the card's.
+use borrow.Author.Rules.{rules}
+use mathlib.Core.Path.{◌≡◌, refl, ap, ◌∙◌}
+use mathlib.Core.List.{List, ◌++◌}
+use Prim.Native.Nat.{ℕ, ◌≤◌, ◌-◌}
+use native.Mathlib.Nat.{le_antisymm}
+use native.Mathlib.Omega.{arith}
+use lib.ListN.{length, get_or, drop, set, length-set}
+use Rattle.sets.specs.Bounded.{filled_by}
+use Rattle.sets.proofs.Fills.{filled_none, filled_more, values_back}
+use Rattle.trimmer.proofs.copy_card.Given as goal
+
+abbrev pub invariant-loop-i : goal.invariant-loop-i
+invariant-loop-i l = (l.i ≤ length l.card) × (length l.out ≡ length l.initial.out) × (l.out ≡ filled_by l.i (λ k. get_or l.card k 0) l.initial.out)
+
+abbrev pub decreases-loop-i : goal.decreases-loop-i
+decreases-loop-i l = length l.card - l.i
