@@ -184,6 +184,7 @@ def convert(crate, fdir, text, js, key, log):
             m=re.match(r"^([←]?)(.+)$",t)
             segs=t.split('.')
             root=segs[0]
+            if t=='at' and root in env: out.append(t); continue
             if root in env:
                 full=env[root]+segs[1:]
                 new=simplify(full)
@@ -204,6 +205,7 @@ def convert(crate, fdir, text, js, key, log):
         # record literal fields
         r=re.sub(r"(?<=[{;\s])([a-z][\w']*(?:-[\w']+)+)(?=\s*=\s)",lambda m: ROWS.get(m.group(1),m.group(1)) ,r)
         r=re.sub(r"\.pre\b",".requires",r)
+        r=re.sub(r"\(not-(?:true|false) _ (c\.if-not-[^ )]+)\)",r"\1",r)
         return r
     def expand_idents(body, roots):
         """replace (entry x) / entry x where entry in ident with x.before  (path root kept)"""
@@ -252,7 +254,7 @@ def convert(crate, fdir, text, js, key, log):
                 typ=inner[:pos.start()].strip(); val=inner[pos.end():].strip()
             v=strip_parens(val)
             mm=re.match(r"^("+IDCH+r"+)((?:\."+IDCH+r"+)*)$",v)
-            if mm and mm.group(1) in env and typ is None and nme!='_':
+            if mm and mm.group(1) in env and (typ is None or is_state(typ)) and nme!='_':
                 env=dict(env); env[nme]=env[mm.group(1)]+[s for s in mm.group(2).split('.') if s]
                 rest=after; continue
             nn=norm(nme) if '-' in nme else ROWS.get(nme,nme)
@@ -430,7 +432,9 @@ def convert(crate, fdir, text, js, key, log):
         else: nn=new[mapping[i]][1]
         used_now.clear()
         env={cargs[0]:[]}
+        extra=[a_ for a_ in cargs[1:] if a_ not in('κs','_')]
         body=process(rhs.rstrip(),env,{})
+        if extra: body='λ '+' '.join(extra)+'. '+body
         # helper lets in order
         hl=[];un=list(unf)
         need=set(used_now); done=[]
@@ -498,8 +502,9 @@ def main():
                 import traceback; traceback.print_exc(); print(crate,fdir,'FAILED',repr(e)); continue
             to=f'crates/{crate}/proofs/{fdir}'
             if res is None: print(crate,fdir,'NONE',log); continue
-            os.remove(to+'/Proof.antt')
+            os.path.exists(to+'/Proof.antt') and os.remove(to+'/Proof.antt')
+            os.makedirs(to,exist_ok=True)
             for n,t in res.items(): open(f'{to}/{n}','w').write(t)
-            if not res: os.removedirs(to) if not os.listdir(to) else None
+            if not res and not os.listdir(to): os.rmdir(to)
             for l in log: print(crate,fdir,':',l)
 main()

@@ -6,9 +6,7 @@ use Rattle.families.proofs.close.Goals as goal
 
 pub returns : goal.returns
 returns c =
-    let low : tie.After-lower-all = c in
-    let lowered = low.lower-all.ensures in
     record {
-      size = c.spread.ensures.size ∙ lowered.size;
-      each = λ lane t l. c.spread.ensures.each lane t l ∙ up_low low.before.before.before.args.bits.now low.lower-all.new.0 lowered.size lowered.each lane t l;
+      size = c.spread.ensures.size ∙ c.lower_all.ensures.size;
+      each = λ lane t l. c.spread.ensures.each lane t l ∙ up_low c.args.bits.now c.lower_all.new.bits c.lower_all.ensures.size c.lower_all.ensures.each lane t l;
     }

@@ -17,4 +17,4 @@ loop-i-preserved c = (search rules, λ t l. unite_more (λ i. word_with c.args.w
 pub returns : goal.returns
 returns c =
     let e : c.loop-i.i ≡ lane_states = omega arith in
-    rw e c c.loop-i.invariant.1
+    rw e at c.loop-i.invariant.1

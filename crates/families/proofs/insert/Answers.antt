@@ -42,4 +42,4 @@ loop-i-preserved c =
     (search rules, search rules, rw single_is (insert_more c.args.list.now c.loop-i.bits c.loop-i.i c.loop-i-test.true there c.loop-i.invariant.2))
 
 pub returns : goal.returns
-returns c = (c.loop-i.invariant.1, rw (take_all c.loop-i.i c.args.list.now (omega arith)) c c.loop-i.invariant.2)
+returns c = (c.loop-i.invariant.1, rw (take_all c.loop-i.i c.args.list.now (omega arith)) at c.loop-i.invariant.2)

@@ -21,4 +21,4 @@ loop-i-preserved c =
 pub returns : goal.returns
 returns c =
     let e : c.loop-i.i ≡ high_states = omega arith in
-    rw e c c.loop-i.invariant.1
+    rw e at c.loop-i.invariant.1

@@ -15,6 +15,6 @@ loop-i-preserved c = (search rules, reached_more c.args.word c.loop-i.all c.shif
 
 pub returns : goal.returns
 returns c =
-    let word : ℕ = c.args.word in
+    λ t l. let word : ℕ = c.args.word in
     let e : c.loop-i.i ≡ lane_states = omega arith in
     c.loop-i.invariant.1 t l ∙ ap (λ (x : ℕ). reached word x t) e ∙ reached_end word t l

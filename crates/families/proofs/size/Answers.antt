@@ -34,4 +34,4 @@ loop-lane-preserved c =
 pub returns : goal.returns
 returns c =
     let e : c.loop-lane.lane ≡ length c.args.bits.now = omega arith in
-    rw e c c.loop-lane.invariant.1 ∙ sym (sets_count c.args.bits.now)
+    rw e at c.loop-lane.invariant.1 ∙ sym (sets_count c.args.bits.now)

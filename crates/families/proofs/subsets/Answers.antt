@@ -28,6 +28,6 @@ loop-i-preserved c =
 
 pub returns : goal.returns
 returns c =
-    let h : ℕ = c.args.h in
+    λ t l. let h : ℕ = c.args.h in
     let e : c.loop-i.i ≡ lane_states = omega arith in
     c.loop-i.invariant.1 t l ∙ ap (λ (x : ℕ). lacks h x t) e ∙ lacks_end h t l

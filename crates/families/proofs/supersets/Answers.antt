@@ -27,6 +27,6 @@ loop-i-preserved c =
 
 pub returns : goal.returns
 returns c =
-    let h : ℕ = c.args.h in
+    λ t l. let h : ℕ = c.args.h in
     let e : c.loop-i.i ≡ lane_states = omega arith in
     c.loop-i.invariant.1 t l ∙ ap (λ (x : ℕ). lacks t x h) e ∙ lacks_end t h c.requires

@@ -34,4 +34,4 @@ pub returns : goal.returns
 returns c =
     let long : c.table_length-words.result ≡ words_length c.args.f = c.table_length-words.ensures ∙ ap table_length c.fields_shape.ensures in
     let e : c.loop-p.p ≡ words_length c.args.f = omega (arith, long) in
-    sym (masks_fine c.args.f (rw e c c.loop-p.invariant.2))
+    sym (masks_fine c.args.f (rw e at c.loop-p.invariant.2))

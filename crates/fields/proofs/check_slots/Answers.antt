@@ -38,10 +38,10 @@ pub returns-then-not-clean : goal.returns-then-not-clean
 returns-then-not-clean c =
     let limits : c.limits_hold.result ≡ limits_hold (fields_shape c.args.f) = c.limits_hold.ensures ∙ ap limits_hold c.fields_shape.ensures in
     let within : limits_hold (fields_shape c.args.f) ≡ true = sym limits ∙ not-false _ c.if-not-limits_hold.false in
-    sym (slots_dirty c.args.f within (rw (← c.unused_zero.ensures, ← c.unused_zero-2.ensures) (not-true _ c.if-not-clean.true)))
+    sym (slots_dirty c.args.f within (rw (← c.unused_zero.ensures, ← c.unused_zero-2.ensures) c.if-not-clean.true))
 
 pub returns : goal.returns
 returns c =
     let limits : c.limits_hold.result ≡ limits_hold (fields_shape c.args.f) = c.limits_hold.ensures ∙ ap limits_hold c.fields_shape.ensures in
     let within : limits_hold (fields_shape c.args.f) ≡ true = sym limits ∙ not-false _ c.if-not-limits_hold.false in
-    sym (slots_fine c.args.f within (rw (← c.unused_zero.ensures, ← c.unused_zero-2.ensures) (not-false _ c.if-not-clean.false)))
+    sym (slots_fine c.args.f within (rw (← c.unused_zero.ensures, ← c.unused_zero-2.ensures) c.if-not-clean.false))

@@ -16,12 +16,12 @@ pub loop-j-init : goal.loop-j-init
 loop-j-init c = (search rules, all_zero _)
 
 pub returns-then-not-clean : goal.returns-then-not-clean
-returns-then-not-clean c = sym (unused_dirty c.args.used c.args.slots.now c.loop-j.j c.loop-j-test.true (not-true _ c.if-not-clean.true))
+returns-then-not-clean c = sym (unused_dirty c.args.used c.args.slots.now c.loop-j.j c.loop-j-test.true c.if-not-clean.true)
 
 pub loop-j-preserved : goal.loop-j-preserved
-loop-j-preserved c = (search rules, all_more c.loop-j.j (slot_clean c.args.used c.args.slots.now) ∙ and_intro c.loop-j.invariant.1 (not-false _ c.if-not-clean.false))
+loop-j-preserved c = (search rules, all_more c.loop-j.j (slot_clean c.args.used c.args.slots.now) ∙ and_intro c.loop-j.invariant.1 c.if-not-clean.false)
 
 pub returns : goal.returns
 returns c =
     let e : c.loop-j.j ≡ length c.args.slots.now = omega arith in
-    sym (unused_clean c.args.used c.args.slots.now (rw e c c.loop-j.invariant.1))
+    sym (unused_clean c.args.used c.args.slots.now (rw e at c.loop-j.invariant.1))

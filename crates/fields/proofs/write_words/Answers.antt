@@ -33,4 +33,4 @@ pub returns : goal.returns
 returns c =
     let long : c.table_length-words.result ≡ words_length c.args.f = c.table_length-words.ensures ∙ ap table_length c.fields_shape.ensures in
     let e : c.loop-p.p ≡ c.table_length-words.result = omega arith in
-    written_done c.args.f c.args.out.now c.loop-p.out c.table_length-words.result long (omega arith) (rw e c c.loop-p.invariant.2)
+    written_done c.args.f c.args.out.now c.loop-p.out c.table_length-words.result long (omega arith) (rw e at c.loop-p.invariant.2)

@@ -8,7 +8,7 @@ use Rattle.form.proofs.Steps.{InNumber, in_number_none, in_number_more, gives_st
 use Rattle.form.proofs.number_by_digits.Goals as goal
 
 pub returns-then-not-c : goal.returns-then-not-c
-returns-then-not-c c = gives_stopped _ _ _ _ _ _ (not-true _ c.if-not-c.true) c.requires.0
+returns-then-not-c c = gives_stopped _ _ _ _ _ _ c.if-not-c.true c.requires.0
 
 pub loop-r-init : goal.loop-r-init
 loop-r-init c = in_number_none _ _ _ _ _ _ _ c.requires.3 c.requires.4 c.requires.0
@@ -21,7 +21,7 @@ digit_fits-requires c =
 pub returns-then-not-digit_fits : goal.returns-then-not-digit_fits
 returns-then-not-digit_fits c =
     gives_missed c.args.t.now c.args.base c.args.lo c.args.hi c.args.width c.loop-r.at c.loop-r.v c.loop-r.r c.loop-r.w c.byte_at-b.result c.args.c
-    (not-false _ c.if-not-c.false) c.loop-r.invariant c.loop-r-test.true c.requires.1
+    c.if-not-c.false c.loop-r.invariant c.loop-r-test.true c.requires.1
     c.byte_at-b.ensures (sym c.digit_fits.ensures ∙ not-true _ c.if-not-digit_fits.true)
 
 pub overflow_sub-v : goal.overflow_sub-v
@@ -56,4 +56,4 @@ loop-r-preserved c =
 pub returns : goal.returns
 returns c =
     gives_done c.args.t.now c.args.base c.args.lo c.args.hi c.args.width c.loop-r.at c.loop-r.v c.loop-r.r c.loop-r.w c.args.c
-    (not-false _ c.if-not-c.false) c.loop-r.invariant c.loop-r-test.false
+    c.if-not-c.false c.loop-r.invariant c.loop-r-test.false

@@ -11,10 +11,10 @@ pub overflow_add-at : goal.overflow_add-at
 overflow_add-at c = omega arith
 
 pub returns-then-b-lt48 : goal.returns-then-b-lt48
-returns-then-b-lt48 c = absurd (omega arith)
+returns-then-b-lt48 c = λ l. absurd (omega arith)
 
 pub returns-then-base-b : goal.returns-then-base-b
-returns-then-base-b c = absurd (omega arith)
+returns-then-base-b c = λ l. absurd (omega arith)
 
 pub overflow_mul-v : goal.overflow_mul-v
 overflow_mul-v c =
@@ -30,4 +30,4 @@ pub loop-i-preserved : goal.loop-i-preserved
 loop-i-preserved c = begun_more _ _ _ _ _ _ _ c.loop-i.invariant c.loop-i-test.true (omega (arith, c.if-b-lt48.false)) c.if-base-b.false c.requires.2 c.byte_at-b.ensures
 
 pub returns : goal.returns
-returns c = begun_end _ _ _ _ _ _ c.loop-i.invariant c.loop-i-test.false
+returns c = λ l. begun_end _ _ _ _ _ _ c.loop-i.invariant c.loop-i-test.false

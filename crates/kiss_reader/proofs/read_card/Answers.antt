@@ -13,7 +13,7 @@ use borrow.Author.Rules.{rules}
 use Rattle.kiss_reader.proofs.read_card.Goals as goal
 
 pub returns-then-not-behind : goal.returns-then-not-behind
-returns-then-not-behind c = head_departs _ c.read_head-head.result c.read_head-head.ensures _ (not-true _ c.if-not-behind.true)
+returns-then-not-behind c = head_departs _ c.read_head-head.result c.read_head-head.ensures _ c.if-not-behind.true
 
 pub overflow_sub-head : goal.overflow_sub-head
 overflow_sub-head c =

@@ -37,7 +37,7 @@ shape_of-words-then-not-c c =
 pub returns-then-not-c : goal.returns-then-not-c
 returns-then-not-c c =
     let came : comes (byte_at c.args.t.now c.loop-z.c.at) c.args.z.cells c.args.z.observations c.loop-z.q c.loop-z.from c.loop-z.k ≡ true = sym c.line_comes.ensures ∙ c.loop-z-test.true in
-    in_lines_stop _ _ _ _ _ _ _ c.loop-z.invariant.0 _ c.loop-z.invariant.1 c.read_line-line.result came c.read_line-line.ensures (not-true _ c.if-not-c.true)
+    in_lines_stop _ _ _ _ _ _ _ c.loop-z.invariant.0 _ c.loop-z.invariant.1 c.read_line-line.result came c.read_line-line.ensures c.if-not-c.true
 
 pub store-requires : goal.store-requires
 store-requires c = (c.requires.1, c.read_line-line.ensures.bounded, in_lines_long _ _ _ _ _ _ _ c.loop-z.invariant.0 _ c.loop-z.invariant.1)

@@ -34,18 +34,12 @@ deliver-requires c =
     let width : Width c.args.n c.single-end.result = record { right = sym c.within.ensures ∙ not-false c.within.result c.if-not-within.false; power = c.single-end.ensures } in
     let clean_first : Clean c.single-end.result c.args.first.now = front_none c.args.first.now c.single-end.result c.first_from-i.result c.first_from-i.ensures (omega (arith, c.if-i-first)) in
     let clean_second : Clean c.single-end.result c.args.second.now = front_none c.args.second.now c.single-end.result c.first_from-j.result c.first_from-j.ensures c.if-j-second.false in
-    let second : tie.Else3 = c in
-    let at = second.before.before.before.before in
-    let args = at.before.args in
-    masks args.n at.single.result args.first.now args.second.now (width at) (clean-first second.before.before) (clean-second second)
+    masks c.args.n c.single-end.result c.args.first.now c.args.second.now width clean_first clean_second
 
 pub returns : goal.returns
 returns c =
     let width : Width c.args.n c.single-end.result = record { right = sym c.within.ensures ∙ not-false c.within.result c.if-not-within.false; power = c.single-end.ensures } in
     let clean_first : Clean c.single-end.result c.args.first.now = front_none c.args.first.now c.single-end.result c.first_from-i.result c.first_from-i.ensures (omega (arith, c.if-i-first)) in
     let clean_second : Clean c.single-end.result c.args.second.now = front_none c.args.second.now c.single-end.result c.first_from-j.result c.first_from-j.ensures c.if-j-second.false in
-    let second : tie.Else3 = c in
-    let at = second.before.before.before.before in
-    let args = at.before.args in
     c.deliver.ensures
-    ∙ allowed (combined args.meet args.n) args.n args.first.now args.second.now args.out.now at.single.result (width at) (clean-first second.before.before) (clean-second second)
+    ∙ allowed (combined c.args.meet c.args.n) c.args.n c.args.first.now c.args.second.now c.args.out.now c.single-end.result width clean_first clean_second

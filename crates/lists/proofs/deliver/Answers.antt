@@ -17,31 +17,26 @@ room = replicate max_lanes 0
 pub slice_bounds-find-end : goal.slice_bounds-find-end
 unfolding room
 slice_bounds-find-end c =
-    let enough : c.lane_count-end.result ≤ max_lanes = let start : tie.Start = c in
-    omega (arith, c.lane_count-end.ensures, lanes_few start.args.n start.requires.width) in
+    let enough : c.lane_count-end.result ≤ max_lanes = omega (arith, c.lane_count-end.ensures, lanes_few c.args.n c.requires.width) in
     let part : length (take c.lane_count-end.result room) ≡ c.lane_count-end.result = length-take-le c.lane_count-end.result room enough in
     sym part
 
 pub slice_bounds-b-end : goal.slice_bounds-b-end
 slice_bounds-b-end c =
-    let enough : c.lane_count-end.result ≤ max_lanes = let start : tie.Start = c in
-    omega (arith, c.lane_count-end.ensures, lanes_few start.args.n start.requires.width) in
+    let enough : c.lane_count-end.result ≤ max_lanes = omega (arith, c.lane_count-end.ensures, lanes_few c.args.n c.requires.width) in
     enough
 
 pub slice_bounds-find-end-2 : goal.slice_bounds-find-end-2
 unfolding room
 slice_bounds-find-end-2 c =
-    let enough : c.lane_count-end.result ≤ max_lanes = let start : tie.Start = c in
-    omega (arith, c.lane_count-end.ensures, lanes_few start.args.n start.requires.width) in
+    let enough : c.lane_count-end.result ≤ max_lanes = omega (arith, c.lane_count-end.ensures, lanes_few c.args.n c.requires.width) in
     let part : length (take c.lane_count-end.result room) ≡ c.lane_count-end.result = length-take-le c.lane_count-end.result room enough in
     sym part
 
 pub find-requires : goal.find-requires
 unfolding room
 find-requires c =
-    let enough : c.lane_count-end.result ≤ max_lanes = let start : tie.Start = c in
-    omega (arith, c.lane_count-end.ensures, lanes_few start.args.n start.requires.width) in
+    let enough : c.lane_count-end.result ≤ max_lanes = omega (arith, c.lane_count-end.ensures, lanes_few c.args.n c.requires.width) in
     let part : length (take c.lane_count-end.result room) ≡ c.lane_count-end.result = length-take-le c.lane_count-end.result room enough in
-    let counted : tie.After-lane-count = c in
-    let long = part counted ∙ counted.lane_count.ensures in
-    (counted.before.before.before.before.requires, long, long)
+    let long = part ∙ c.lane_count-end.ensures in
+    (c.requires, long, long)

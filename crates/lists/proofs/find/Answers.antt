@@ -10,26 +10,14 @@ use Rattle.lists.proofs.Merging.{held_closed, held_result}
 use Rattle.lists.proofs.find.Goals as goal
 
 pub maximal_bits-requires : goal.maximal_bits-requires
-maximal_bits-requires c =
-    let held : tie.After-hold = c in
-    let start = held.before in
-    let args = start.args in
-    (held_closed args.n args.meet args.first.now args.second.now held.hold.new.1.1.1.1.0 held.hold.ensures start.requires.0, search rules)
+maximal_bits-requires c = (held_closed c.args.n c.args.meet c.args.first.now c.args.second.now c.hold.new.a c.hold.ensures c.requires.0, search rules)
 
 pub fit-requires : goal.fit-requires
-fit-requires c =
-    let found : tie.After-maximal-bits = c in
-    let held = found.before in
-    let start = held.before in
-    omega (arith, found.maximal-bits.ensures.0, lanes_few start.args.n start.requires.0.width, start.requires.2)
+fit-requires c = omega (arith, c.maximal_bits.ensures.0, lanes_few c.args.n c.requires.0.width, c.requires.2)
 
 pub returns : goal.returns
 returns c =
-    let found : tie.After-maximal-bits = c in
-    let held = found.before in
-    let start = held.before in
-    let args = start.args in
     c.fit.ensures
-    ∙ ap (λ (x : List ℕ). fitted x args.out.now)
-    (found.maximal-bits.ensures.1
-    ∙ held_result args.n args.meet args.first.now args.second.now held.hold.last.1.1.1.1.0 held.hold.ensures start.requires.0)
+    ∙ ap (λ (x : List ℕ). fitted x c.args.out.now)
+    (c.maximal_bits.ensures.1
+    ∙ held_result c.args.n c.args.meet c.args.first.now c.args.second.now c.hold.new.a c.hold.ensures c.requires.0)

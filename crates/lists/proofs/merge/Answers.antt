@@ -13,10 +13,8 @@ loop-i-init c = mapping_none (Merges c.args.meet c.args.a.now c.args.b.now) c.ar
 
 pub loop-i-preserved : goal.loop-i-preserved
 loop-i-preserved c =
-    let at : tie.At-loop invariant-loop decreases-loop = c in
-    let args = at.before.before.before.args in
-    mapping_more (Merges args.meet args.a.now args.b.now) args.a.now at.loop.a at.loop.i c.gather.result at.loop.invariant (omega (arith, at.loop.invariant.long))
-    (c.gather.ensures ∙ ap (λ (x : ℕ). gathered args.meet x (get_or args.b.now at.loop.i 0)) (at.loop.invariant.kept at.loop.i (omega arith)))
+    mapping_more (Merges c.args.meet c.args.a.now c.args.b.now) c.args.a.now c.loop-i.a c.loop-i.i c.gather.result c.loop-i.invariant (omega (arith, c.loop-i.invariant.long))
+    (c.gather.ensures ∙ ap (λ (x : ℕ). gathered c.args.meet x (get_or c.args.b.now c.loop-i.i 0)) (c.loop-i.invariant.kept c.loop-i.i (omega arith)))
 
 pub returns : goal.returns
 returns c = record { size = c.loop-i.invariant.long; words = λ i l. c.loop-i.invariant.done i (omega (arith, c.loop-i.invariant.long)) }

@@ -41,5 +41,5 @@ pub returns : goal.returns
 returns c =
     record {
       size = c.loop-i.invariant.length_is;
-      c = halving_end _ c.args.count c.loop-i.i c.loop-i.size c.loop-i.half c.loop-i.invariant c.loop-i-test.false;
+      at = halving_end _ c.args.count c.loop-i.i c.loop-i.size c.loop-i.half c.loop-i.invariant c.loop-i-test.false;
     }

@@ -43,4 +43,4 @@ shape_of-side c = c.loop-a.invariant.2.size ∙ sym c.requires.1
 pub returns : goal.returns
 returns c =
     let e : c.loop-a.a ≡ (game c.args.table.now).actions = omega (arith, c.actions-actions.ensures) in
-    rw e c c.loop-a.invariant.2
+    rw e at c.loop-a.invariant.2

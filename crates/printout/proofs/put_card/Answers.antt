@@ -20,7 +20,7 @@ put_part-next-requires c =
     (
       c.requires.0,
       omega (arith, c.cells-m.ensures, c.loop-c-test.true),
-      omega (arith, c.requires.1, card_bytes _ c.requires.0, c.put_front-next.ensures.1, rw c.cells-m.ensures c (below_fits _ _ _ _ c.loop-c.invariant c.loop-c-test.true)),
+      omega (arith, c.requires.1, card_bytes _ c.requires.0, c.put_front-next.ensures.1, rw c.cells-m.ensures at (below_fits _ _ _ _ c.loop-c.invariant c.loop-c-test.true)),
     )
 
 pub loop-c-preserved : goal.loop-c-preserved

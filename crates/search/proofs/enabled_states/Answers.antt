@@ -36,4 +36,4 @@ pub returns : goal.returns
 returns c =
     let g = game c.args.table.now in
     let e : c.loop-i.i ≡ g.states = omega arith in
-    rw e c c.loop-i.invariant.2
+    rw e at c.loop-i.invariant.2

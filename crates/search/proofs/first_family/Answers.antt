@@ -42,7 +42,7 @@ below-requires c =
     let e : c.loop-a.a ≡ g.actions = omega arith in
     (
       length-take-le _ _ (omega (arith, c.loop-a.invariant.2)) ∙ c.actions-actions.ensures,
-      subst (λ (n : ℕ). ByAction g g.actions (take n c.loop-a.masks)) (sym c.actions-actions.ensures) (actions_front g c.loop-a.masks (rw e c c.loop-a.invariant.3)),
+      subst (λ (n : ℕ). ByAction g g.actions (take n c.loop-a.masks)) (sym c.actions-actions.ensures) (actions_front g c.loop-a.masks (rw e at c.loop-a.invariant.3)),
     ) in
     let f = front in
     record {
@@ -62,7 +62,7 @@ returns c =
     let e : c.loop-a.a ≡ g.actions = omega arith in
     (
       length-take-le _ _ (omega (arith, c.loop-a.invariant.2)) ∙ c.actions-actions.ensures,
-      subst (λ (n : ℕ). ByAction g g.actions (take n c.loop-a.masks)) (sym c.actions-actions.ensures) (actions_front g c.loop-a.masks (rw e c c.loop-a.invariant.3)),
+      subst (λ (n : ℕ). ByAction g g.actions (take n c.loop-a.masks)) (sym c.actions-actions.ensures) (actions_front g c.loop-a.masks (rw e at c.loop-a.invariant.3)),
     ) in
     let f = front in
     first_bits (game c.args.table.now) _ f.0 f.1 _ (rw c.states.ensures at c.below.ensures)

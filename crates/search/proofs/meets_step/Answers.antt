@@ -30,7 +30,7 @@ loop-a-init c = (search rules, any_zero _)
 pub returns-then-action_meets : goal.returns-then-action_meets
 returns-then-action_meets c =
     let g = game c.args.table.now in
-    step_hit g (has c.args.family.now) c.args.s (rw c.bad.ensures c c.if-s-bad-ne0.false) c.loop-a.a (omega arith) (cc)
+    step_hit g (has c.args.family.now) c.args.s (rw c.bad.ensures at c.if-s-bad-ne0.false) c.loop-a.a (omega arith) (cc)
 
 pub loop-a-preserved : goal.loop-a-preserved
 loop-a-preserved c =
@@ -41,4 +41,4 @@ pub returns : goal.returns
 returns c =
     let g = game c.args.table.now in
     let e : c.loop-a.a ≡ g.actions = omega arith in
-    step_none g (has c.args.family.now) c.args.s (rw e c c.loop-a.invariant.1)
+    step_none g (has c.args.family.now) c.args.s (rw e at c.loop-a.invariant.1)

@@ -31,4 +31,4 @@ shape_of-next c = c.loop-lane.invariant.2.size ∙ sym c.requires.2
 pub returns : goal.returns
 returns c =
     let e : c.loop-lane.lane ≡ 0 = omega arith in
-    passing_end (game c.args.table.now) c.args.family.now c.requires.1 c.loop-lane.next (rw e c c.loop-lane.invariant.2)
+    passing_end (game c.args.table.now) c.args.family.now c.requires.1 c.loop-lane.next (rw e at c.loop-lane.invariant.2)

@@ -20,4 +20,4 @@ loop-i-preserved c = (search rules, first_skip c.loop-i.i (departs_from c.args.w
 pub returns : goal.returns
 returns c =
     let e : c.loop-i.i ≡ c.args.s.states = omega arith in
-    sym (parked_fine c.args.words.now c.args.base c.args.s c.args.parked (rw e c c.loop-i.invariant.1))
+    sym (parked_fine c.args.words.now c.args.base c.args.s c.args.parked (rw e at c.loop-i.invariant.1))

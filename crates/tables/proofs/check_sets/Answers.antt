@@ -31,4 +31,4 @@ pub returns : goal.returns
 unfolding game_of
 returns c =
     let e : c.loop-i.i ≡ c.args.f.states = omega arith in
-    sym (sets_fine (game_of c.args.f) c.if-f-eq0.false (rw e c c.loop-i.invariant.1))
+    sym (sets_fine (game_of c.args.f) c.if-f-eq0.false (rw e at c.loop-i.invariant.1))

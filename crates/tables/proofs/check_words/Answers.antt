@@ -24,4 +24,4 @@ loop-p-preserved c = (search rules, search rules, first_skip c.loop-p.p (faulty 
 pub returns : goal.returns
 returns c =
     let e : c.loop-p.p ≡ length c.args.table.now = omega arith in
-    sym (words_fine c.args.table.now (rw e c c.loop-p.invariant.2))
+    sym (words_fine c.args.table.now (rw e at c.loop-p.invariant.2))

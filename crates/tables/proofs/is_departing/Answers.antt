@@ -73,4 +73,4 @@ pub returns : goal.returns
 returns c =
     let e : c.loop-a.a ≡ c.args.s.actions = omega arith in
     sym
-    (departs_never c.args.words.now c.args.base c.args.s c.args.parked c.args.i.0 (sym c.member.ensures ∙ not-false _ c.if-not-member.false) (rw e c c.loop-a.invariant.1))
+    (departs_never c.args.words.now c.args.base c.args.s c.args.parked c.args.i.0 (sym c.member.ensures ∙ not-false _ c.if-not-member.false) (rw e at c.loop-a.invariant.1))

@@ -26,4 +26,4 @@ pub returns : goal.returns
 unfolding game_of
 returns c =
     let e : c.loop-j.j ≡ c.args.f.observations = omega arith in
-    sym (seen_none (game_of c.args.f) c.args.i.0 (rw e c c.loop-j.invariant.1))
+    sym (seen_none (game_of c.args.f) c.args.i.0 (rw e at c.loop-j.invariant.1))
