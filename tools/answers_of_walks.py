@@ -205,7 +205,8 @@ def convert(crate, fdir, text, js, key, log):
         # record literal fields
         r=re.sub(r"(?<=[{;\s])([a-z][\w']*(?:-[\w']+)+)(?=\s*=\s)",lambda m: ROWS.get(m.group(1),m.group(1)) ,r)
         r=re.sub(r"\.pre\b",".requires",r)
-        r=re.sub(r"\(not-(?:true|false) _ (c\.if-not-[^ )]+)\)",r"\1",r)
+        r=re.sub(r"\(not-(?:true|false) \S+ (c\.if-not-[^ )]+)\)",r"\1",r)
+        r=re.sub(r"not-(?:true|false) \S+ (c\.if-not-[^ )]+)",r"\1",r)
         return r
     def expand_idents(body, roots):
         """replace (entry x) / entry x where entry in ident with x.before  (path root kept)"""
@@ -426,7 +427,7 @@ def convert(crate, fdir, text, js, key, log):
             if not m:
                 log.append('inline? '+b[:80]); continue
             cargs=m.group(1).split(); rhs=m.group(2); unf=[]; com=[]
-        if rhs.strip()=='search rules' : continue
+        if rhs.strip()=='search rules' and not unf: continue
         if mapping[i] is None:
             log.append('unmapped need %s %s'%(o,a)); nn='XXX-'+(o or 'inline')
         else: nn=new[mapping[i]][1]

@@ -26,7 +26,7 @@ pub loop-j-smaller : goal.loop-j-smaller
 loop-j-smaller c = omega (arith, c.loop-j-test.true)
 
 pub loop-j-preserved : goal.loop-j-preserved
-loop-j-preserved c = pass_four _ _ _ c.loop-j.invariant c.loop-j-test.true (sym c.four_named.ensures ∙ not-false _ c.if-not-four_named.false)
+loop-j-preserved c = pass_four _ _ _ c.loop-j.invariant c.loop-j-test.true (sym c.four_named.ensures ∙ c.if-not-four_named.false)
 
 pub returns : goal.returns
 returns c = c.loop-j.invariant

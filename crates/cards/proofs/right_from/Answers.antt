@@ -32,7 +32,7 @@ cell_named-requires c = (c.requires.1, omega (arith, c.low_field-m.ensures), ome
 pub returns-then-not-cell_named : goal.returns-then-not-cell_named
 returns-then-not-cell_named c =
     let told : names c.args.card.now c.args.kind c.args.at c.loop-j.j ≡ c.cell_named.result = ap (λ (m : ℕ). cell_named c.args.kind m c.loop-j.j (get_or c.args.card.now (c.args.at + c.loop-j.j) 0)) (sym c.low_field-m.ensures) ∙ sym c.cell_named.ensures in
-    pass_end _ _ _ c.loop-j.invariant (λ l. told ∙ not-true _ c.if-not-cell_named.true)
+    pass_end _ _ _ c.loop-j.invariant (λ l. told ∙ c.if-not-cell_named.true)
 
 pub overflow_add-j : goal.overflow_add-j
 overflow_add-j c = omega (arith, c.loop-j-test.true)
@@ -43,7 +43,7 @@ loop-j-smaller c = omega (arith, c.loop-j-test.true)
 pub loop-j-preserved : goal.loop-j-preserved
 loop-j-preserved c =
     let told : names c.args.card.now c.args.kind c.args.at c.loop-j.j ≡ c.cell_named.result = ap (λ (m : ℕ). cell_named c.args.kind m c.loop-j.j (get_or c.args.card.now (c.args.at + c.loop-j.j) 0)) (sym c.low_field-m.ensures) ∙ sym c.cell_named.ensures in
-    pass_more _ _ _ c.loop-j.invariant c.loop-j-test.true (told ∙ not-false _ c.if-not-cell_named.false)
+    pass_more _ _ _ c.loop-j.invariant c.loop-j-test.true (told ∙ c.if-not-cell_named.false)
 
 pub returns : goal.returns
 returns c = pass_end _ _ _ c.loop-j.invariant (λ l. absurd (omega (arith, c.loop-j-test.false)))

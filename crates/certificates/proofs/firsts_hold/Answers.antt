@@ -47,7 +47,7 @@ lie-requires c =
 pub returns-then-not-lie : goal.returns-then-not-lie
 returns-then-not-lie c =
     let told : first_holds (game c.args.table.now) (automaton c.args.card.now) c.loop-j.j ≡ c.lie.result = first_told _ _ _ _ _ c.start_set-start.ensures c.first_cell.ensures ∙ sym c.lie.ensures in
-    pass_end _ _ _ c.loop-j.invariant (λ l. told ∙ not-true _ c.if-not-lie.true)
+    pass_end _ _ _ c.loop-j.invariant (λ l. told ∙ c.if-not-lie.true)
 
 pub overflow_add-j : goal.overflow_add-j
 overflow_add-j c = omega (arith, c.loop-j-test.true)
@@ -59,7 +59,7 @@ pub loop-j-preserved : goal.loop-j-preserved
 loop-j-preserved c =
     let there : c.loop-j.j < card_observations c.args.card.now = omega (arith, c.loop-j-test.true, c.observations-o.ensures) in
     let told : first_holds (game c.args.table.now) (automaton c.args.card.now) c.loop-j.j ≡ c.lie.result = first_told _ _ _ _ _ c.start_set-start.ensures c.first_cell.ensures ∙ sym c.lie.ensures in
-    pass_more _ _ _ c.loop-j.invariant there (told ∙ not-false _ c.if-not-lie.false)
+    pass_more _ _ _ c.loop-j.invariant there (told ∙ c.if-not-lie.false)
 
 pub returns : goal.returns
 returns c = pass_end _ _ _ c.loop-j.invariant (λ l. absurd (omega (arith, c.loop-j-test.false, c.observations-o.ensures)))

@@ -48,7 +48,7 @@ returns-then-not-lie c =
     (c.common-after.ensures ∙ ap (common c.args.u) c.shown.ensures)
     c.next_cell.ensures
     ∙ sym c.lie.ensures in
-    pass_end _ _ _ c.loop-j.invariant (λ l. told ∙ not-true _ c.if-not-lie.true)
+    pass_end _ _ _ c.loop-j.invariant (λ l. told ∙ c.if-not-lie.true)
 
 pub overflow_add-j : goal.overflow_add-j
 overflow_add-j c = omega (arith, c.loop-j-test.true)
@@ -63,7 +63,7 @@ loop-j-preserved c =
     (c.common-after.ensures ∙ ap (common c.args.u) c.shown.ensures)
     c.next_cell.ensures
     ∙ sym c.lie.ensures in
-    pass_more _ _ _ c.loop-j.invariant there (told ∙ not-false _ c.if-not-lie.false)
+    pass_more _ _ _ c.loop-j.invariant there (told ∙ c.if-not-lie.false)
 
 pub returns : goal.returns
 returns c = pass_end _ _ _ c.loop-j.invariant (λ l. absurd (omega (arith, c.loop-j-test.false, c.observations-o.ensures)))

@@ -22,7 +22,7 @@ set_fits-requires c =
     sized _ pair.table_fine
 
 pub returns-then-not-set_fits : goal.returns-then-not-set_fits
-returns-then-not-set_fits c = set_wrong _ _ _ _ c.cell_set-s.ensures (sym c.set_fits.ensures ∙ not-true _ c.if-not-set_fits.true)
+returns-then-not-set_fits c = set_wrong _ _ _ _ c.cell_set-s.ensures (sym c.set_fits.ensures ∙ c.if-not-set_fits.true)
 
 pub cell_action-requires : goal.cell_action-requires
 cell_action-requires c =
@@ -32,7 +32,7 @@ cell_action-requires c =
 pub post-posted-requires : goal.post-posted-requires
 post-posted-requires c =
     let pair : Paired c.args.table.now c.args.card.now = paired _ _ c.requires.0.fine in
-    let fit : set_fits (game c.args.table.now) c.cell_set-s.result ≡ true = sym c.set_fits.ensures ∙ not-false _ c.if-not-set_fits.false in
+    let fit : set_fits (game c.args.table.now) c.cell_set-s.result ≡ true = sym c.set_fits.ensures ∙ c.if-not-set_fits.false in
     (
       sized _ pair.table_fine,
       c.requires.0.halves,
@@ -42,7 +42,7 @@ post-posted-requires c =
 
 pub nexts_hold-requires : goal.nexts_hold-requires
 nexts_hold-requires c =
-    let fit : set_fits (game c.args.table.now) c.cell_set-s.result ≡ true = sym c.set_fits.ensures ∙ not-false _ c.if-not-set_fits.false in
+    let fit : set_fits (game c.args.table.now) c.cell_set-s.result ≡ true = sym c.set_fits.ensures ∙ c.if-not-set_fits.false in
     (c.requires.0.fine, c.requires.1, posts _ _ _ _ c.cell_set-s.ensures fit _ c.cell_action.ensures _ (cc))
 
 pub overflow_add-result : goal.overflow_add-result
@@ -50,10 +50,10 @@ overflow_add-result c = omega (arith, c.nexts_hold.ensures.most)
 
 pub returns-in-Blocked : goal.returns-in-Blocked
 returns-in-Blocked c =
-    let fit : set_fits (game c.args.table.now) c.cell_set-s.result ≡ true = sym c.set_fits.ensures ∙ not-false _ c.if-not-set_fits.false in
+    let fit : set_fits (game c.args.table.now) c.cell_set-s.result ≡ true = sym c.set_fits.ensures ∙ c.if-not-set_fits.false in
     blocked_wrong _ _ _ _ c.cell_set-s.ensures fit _ c.cell_action.ensures (cc)
 
 pub returns-in-Post : goal.returns-in-Post
 returns-in-Post c =
-    let fit : set_fits (game c.args.table.now) c.cell_set-s.result ≡ true = sym c.set_fits.ensures ∙ not-false _ c.if-not-set_fits.false in
+    let fit : set_fits (game c.args.table.now) c.cell_set-s.result ≡ true = sym c.set_fits.ensures ∙ c.if-not-set_fits.false in
     own_right _ _ _ _ c.cell_set-s.ensures fit _ c.cell_action.ensures c.in-Post.u (cc) _ c.nexts_hold.ensures

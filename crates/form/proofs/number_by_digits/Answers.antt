@@ -22,11 +22,11 @@ pub returns-then-not-digit_fits : goal.returns-then-not-digit_fits
 returns-then-not-digit_fits c =
     gives_missed c.args.t.now c.args.base c.args.lo c.args.hi c.args.width c.loop-r.at c.loop-r.v c.loop-r.r c.loop-r.w c.byte_at-b.result c.args.c
     c.if-not-c.false c.loop-r.invariant c.loop-r-test.true c.requires.1
-    c.byte_at-b.ensures (sym c.digit_fits.ensures ∙ not-true _ c.if-not-digit_fits.true)
+    c.byte_at-b.ensures (sym c.digit_fits.ensures ∙ c.if-not-digit_fits.true)
 
 pub overflow_sub-v : goal.overflow_sub-v
 overflow_sub-v c =
-    let digit : 48 ≤ c.byte_at-b.result = (digit_of_lem _ _ _ _ _ _ (sym c.digit_fits.ensures ∙ not-false _ c.if-not-digit_fits.false)).from in
+    let digit : 48 ≤ c.byte_at-b.result = (digit_of_lem _ _ _ _ _ _ (sym c.digit_fits.ensures ∙ c.if-not-digit_fits.false)).from in
     omega (arith, digit)
 
 pub overflow_mul-v : goal.overflow_mul-v
@@ -51,7 +51,7 @@ loop-r-preserved c =
     let small : c.args.hi < 100000 = omega (arith, c.requires.4, c.requires.5) in
     in_number_more c.args.t.now c.args.base c.args.lo c.args.hi c.args.width c.args.c.at c.loop-r.at c.loop-r.v c.loop-r.r c.loop-r.w c.byte_at-b.result
     c.loop-r.invariant c.loop-r-test.true c.requires.1 c.requires.2 small
-    c.byte_at-b.ensures (sym c.digit_fits.ensures ∙ not-false _ c.if-not-digit_fits.false)
+    c.byte_at-b.ensures (sym c.digit_fits.ensures ∙ c.if-not-digit_fits.false)
 
 pub returns : goal.returns
 returns c =

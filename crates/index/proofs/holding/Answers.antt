@@ -42,12 +42,12 @@ pub has-requires : goal.has-requires
 has-requires c = subst (λ (n : ℕ). c.args.t / lane_sets < n) (sym c.requires.0.same_lanes) c.requires.2
 
 pub returns-then-not-has : goal.returns-then-not-has
-returns-then-not-has c = (held_nowhere (sets c.args.tops.now) c.args.t (sym (c.requires.0.same c.args.t) ∙ sym c.has.ensures ∙ not-true c.has.result c.if-not-has.true), c.requires.1)
+returns-then-not-has c = (held_nowhere (sets c.args.tops.now) c.args.t (sym (c.requires.0.same c.args.t) ∙ sym c.has.ensures ∙ c.if-not-has.true), c.requires.1)
 
 pub tightest-s-requires : goal.tightest-s-requires
 tightest-s-requires c =
     let held : c.has.result ≡ true → let x = c.args in holds (sets x.tops.now) x.t ≡ true = λ e. sym (c.requires.0.same c.args.t) ∙ sym c.has.ensures ∙ e in
-    (c.requires.0.searched, c.requires.2, held (not-false c.has.result c.if-not-has.false))
+    (c.requires.0.searched, c.requires.2, held c.if-not-has.false)
 
 pub overflow_add-number : goal.overflow_add-number
 overflow_add-number c =
@@ -82,7 +82,7 @@ overflow_sub-result-2 c =
 pub returns : goal.returns
 returns c =
     let held : c.has.result ≡ true → let x = c.args in holds (sets x.tops.now) x.t ≡ true = λ e. sym (c.requires.0.same c.args.t) ∙ sym c.has.ensures ∙ e in
-    let found_held : holds (sets c.args.tops.now) c.args.t ≡ true = held (not-false c.has.result c.if-not-has.false) in
+    let found_held : holds (sets c.args.tops.now) c.args.t ≡ true = held c.if-not-has.false in
     let cell : Tightest (sets c.args.tops.now) c.args.t (count c.tightest-s.result (has c.args.tops.now)) = tightest_cell c.args.tops.now c.args.t c.tightest-s.result c.tightest-s.ensures in
     let number : get_or c.args.work.now (c.args.base + c.tightest-s.result) 0 ≡ 1 + count c.tightest-s.result (has c.args.tops.now) = c.requires.1.cells c.tightest-s.result c.tightest-s.ensures.is_cell in
     let l = sets c.args.tops.now in

@@ -17,13 +17,13 @@ returns-then-not-behind c = head_departs _ c.read_head-head.result c.read_head-h
 
 pub overflow_sub-head : goal.overflow_sub-head
 overflow_sub-head c =
-    let passed : c.read_head-head.result.cursor.ok ≡ true = not-false _ c.if-not-behind.false in
+    let passed : c.read_head-head.result.cursor.ok ≡ true = c.if-not-behind.false in
     let limits : Limited c.read_head-head.result = c.read_head-head.ensures.limited passed in
     omega (arith, limits.some_state)
 
 pub measured-z-requires : goal.measured-z-requires
 measured-z-requires c =
-    let passed : c.read_head-head.result.cursor.ok ≡ true = not-false _ c.if-not-behind.false in
+    let passed : c.read_head-head.result.cursor.ok ≡ true = c.if-not-behind.false in
     let limits : Limited c.read_head-head.result = c.read_head-head.ensures.limited passed in
     let l = limits in
     (l.some_action, l.actions, l.some_observation, l.observations, omega (arith, l.some_state), omega (arith, l.states))
@@ -45,5 +45,5 @@ read_machine-cursor-requires c =
 
 pub returns : goal.returns
 returns c =
-    let passed : c.read_head-head.result.cursor.ok ≡ true = not-false _ c.if-not-behind.false in
+    let passed : c.read_head-head.result.cursor.ok ≡ true = c.if-not-behind.false in
     card_read _ c.read_head-head.result c.read_head-head.ensures c.decreases.result passed c.decreases.ensures.1 c.decreases.ensures.2 c.decreases.ensures.3 _ _ _ _ c.card_length-need.ensures c.read_machine-cursor.ensures

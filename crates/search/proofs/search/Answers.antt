@@ -29,7 +29,7 @@ pub returns-then-not-starts_in : goal.returns-then-not-starts_in
 returns-then-not-starts_in c =
     let played : Game = game c.args.table.now in
     let fine : Accepted played = accepted c.args.table.now c.requires.0.fine in
-    first_lost played fine _ c.first_family.ensures (sym c.starts_in.ensures ∙ not-true c.starts_in.result c.if-not-starts_in.true)
+    first_lost played fine _ c.first_family.ensures (sym c.starts_in.ensures ∙ c.if-not-starts_in.true)
 
 pub has-requires : goal.has-requires
 has-requires c =
@@ -44,7 +44,7 @@ returns-then-has c =
     let fine : Accepted played = accepted c.args.table.now c.requires.0.fine in
     let sets_are : c.single-all.result ≡ 2 ^ played.states = c.single-all.ensures ∙ ap (λ (n : ℕ). 2 ^ n) c.states.ensures in
     first_settled played fine _ c.first_family.ensures
-    (sym c.starts_in.ensures ∙ not-false c.starts_in.result c.if-not-starts_in.false)
+    (sym c.starts_in.ensures ∙ c.if-not-starts_in.false)
     (rw sets_are at (sym c.has.ensures ∙ c.if-has.true))
 
 pub settle-requires : goal.settle-requires
@@ -55,7 +55,7 @@ settle-requires c =
     (
       c.requires.0,
       first_on played fine _ c.first_family.ensures
-          (sym c.starts_in.ensures ∙ not-false c.starts_in.result c.if-not-starts_in.false)
+          (sym c.starts_in.ensures ∙ c.if-not-starts_in.false)
           (rw sets_are at (sym c.has.ensures ∙ c.if-has.false)),
       search rules,
     )

@@ -63,7 +63,7 @@ returns-then-not-starts_in c =
     let fine : Accepted played = accepted c.args.table.now c.requires.0.fine in
     let left : List ℕ = c.pass.new.next in
     let passed : Bits played.states (good played (c.loop-k.k + 1)) left = good_next played fine c.loop-k.k c.loop-k.family c.loop-k.invariant.2.family left c.pass.ensures in
-    turn_lost played fine c.loop-k.k c.loop-k.family c.loop-k.invariant.2 left passed (sym c.starts_in.ensures ∙ not-true c.starts_in.result c.if-not-starts_in.true)
+    turn_lost played fine c.loop-k.k c.loop-k.family c.loop-k.invariant.2 left passed (sym c.starts_in.ensures ∙ c.if-not-starts_in.true)
 
 pub same-requires : goal.same-requires
 same-requires c =
@@ -126,6 +126,6 @@ loop-k-preserved c =
       ap length (sym e),
       subst (Reached played (c.loop-k.k + 1)) (sym e)
           (turn_on played fine c.loop-k.k c.loop-k.family c.loop-k.invariant.2 left passed
-          (sym c.starts_in.ensures ∙ not-false c.starts_in.result c.if-not-starts_in.false)
+          (sym c.starts_in.ensures ∙ c.if-not-starts_in.false)
           (subst (λ (b : Bool). Same b c.loop-k.family left) c.if-same.false c.same.ensures)),
     )

@@ -37,14 +37,14 @@ has-requires-in-loop-j c = rw (c.requires.1.size, c.shown.ensures) (lane_there (
 pub returns-then-not-has : goal.returns-then-not-has
 returns-then-not-has c =
     shown_fails (game c.args.table.now) (has c.args.family.now) c.args.u c.loop-j.j (omega arith)
-    (rw c.shown.ensures at (sym c.has-in-loop-j.ensures ∙ not-true c.has-in-loop-j.result c.if-not-has.true))
+    (rw c.shown.ensures at (sym c.has-in-loop-j.ensures ∙ c.if-not-has.true))
 
 pub loop-j-preserved : goal.loop-j-preserved
 loop-j-preserved c =
     (
       search rules,
       all_more c.loop-j.j (λ i. has c.args.family.now (common c.args.u ((game c.args.table.now).shown i)))
-          ∙ and_intro c.loop-j.invariant.1 (rw c.shown.ensures at (sym c.has-in-loop-j.ensures ∙ not-false c.has-in-loop-j.result c.if-not-has.false)),
+          ∙ and_intro c.loop-j.invariant.1 (rw c.shown.ensures at (sym c.has-in-loop-j.ensures ∙ c.if-not-has.false)),
     )
 
 pub returns : goal.returns

@@ -32,14 +32,14 @@ has-requires c =
 pub returns-then-not-has : goal.returns-then-not-has
 returns-then-not-has c =
     sym (starts_stop (game c.args.table.now) (has c.args.family.now) c.loop-j.j (omega arith)
-    (rw c.start_set.ensures at (sym c.has.ensures ∙ not-true c.has.result c.if-not-has.true)))
+    (rw c.start_set.ensures at (sym c.has.ensures ∙ c.if-not-has.true)))
 
 pub loop-j-preserved : goal.loop-j-preserved
 loop-j-preserved c =
     (
       search rules,
       all_more c.loop-j.j (λ i. has c.args.family.now (start_set (game c.args.table.now) i))
-          ∙ and_intro c.loop-j.invariant.1 (rw c.start_set.ensures at (sym c.has.ensures ∙ not-false c.has.result c.if-not-has.false)),
+          ∙ and_intro c.loop-j.invariant.1 (rw c.start_set.ensures at (sym c.has.ensures ∙ c.if-not-has.false)),
     )
 
 pub returns : goal.returns

@@ -15,19 +15,19 @@ pub returns-then-words-eq0 : goal.returns-then-words-eq0
 returns-then-words-eq0 c = sym (size_none c.args.table.now c.if-words-eq0.true)
 
 pub returns-then-not-head_right : goal.returns-then-not-head_right
-returns-then-not-head_right c = sym (size_head c.args.table.now c.if-words-eq0.false (sym c.head_right.ensures ∙ not-true _ c.if-not-head_right.true))
+returns-then-not-head_right c = sym (size_head c.args.table.now c.if-words-eq0.false (sym c.head_right.ensures ∙ c.if-not-head_right.true))
 
 pub table_length-requires : goal.table_length-requires
 table_length-requires c = rw c.shape_of.ensures (omega arith)
 
 pub returns-then-words-table_length : goal.returns-then-words-table_length
 returns-then-words-table_length c =
-    let right : head_right (get_or c.args.table.now 0 0) ≡ true = sym c.head_right.ensures ∙ not-false _ c.if-not-head_right.false in
+    let right : head_right (get_or c.args.table.now 0 0) ≡ true = sym c.head_right.ensures ∙ c.if-not-head_right.false in
     let long : c.table_length.result ≡ table_length (shape_in c.args.table.now) = c.table_length.ensures ∙ ap table_length c.shape_of.ensures in
     sym (size_long c.args.table.now c.if-words-eq0.false right (λ e. c.if-words-table_length.true (e ∙ sym long)))
 
 pub returns : goal.returns
 returns c =
-    let right : head_right (get_or c.args.table.now 0 0) ≡ true = sym c.head_right.ensures ∙ not-false _ c.if-not-head_right.false in
+    let right : head_right (get_or c.args.table.now 0 0) ≡ true = sym c.head_right.ensures ∙ c.if-not-head_right.false in
     let long : c.table_length.result ≡ table_length (shape_in c.args.table.now) = c.table_length.ensures ∙ ap table_length c.shape_of.ensures in
     sym (size_fine c.args.table.now c.if-words-eq0.false right (c.if-words-table_length.false ∙ long))

@@ -19,7 +19,7 @@ pub member-requires : goal.member-requires
 member-requires c = omega (arith, c.requires.0.most_states, c.requires.2)
 
 pub returns-then-not-member : goal.returns-then-not-member
-returns-then-not-member c = sym (not_parked c.args.words.now c.args.base c.args.s c.args.parked c.args.i.0 (sym c.member.ensures ∙ not-true _ c.if-not-member.true))
+returns-then-not-member c = sym (not_parked c.args.words.now c.args.base c.args.s c.args.parked c.args.i.0 (sym c.member.ensures ∙ c.if-not-member.true))
 
 pub loop-a-init : goal.loop-a-init
 loop-a-init c = (search rules, any_zero _)
@@ -63,7 +63,7 @@ bounds-words-base c =
 pub returns-then-low_field-ne0 : goal.returns-then-low_field-ne0
 returns-then-low_field-ne0 c =
     sym
-    (departs_by c.args.words.now c.args.base c.args.s c.args.parked c.args.i.0 (sym c.member.ensures ∙ not-false _ c.if-not-member.false) c.loop-a.a (search rules)
+    (departs_by c.args.words.now c.args.base c.args.s c.args.parked c.args.i.0 (sym c.member.ensures ∙ c.if-not-member.false) c.loop-a.a (search rules)
     (rw (ne_eqb _ 0 (λ e. c.if-low_field-ne0.true (c.low_field.ensures ∙ e)))))
 
 pub loop-a-preserved : goal.loop-a-preserved
@@ -73,4 +73,4 @@ pub returns : goal.returns
 returns c =
     let e : c.loop-a.a ≡ c.args.s.actions = omega arith in
     sym
-    (departs_never c.args.words.now c.args.base c.args.s c.args.parked c.args.i.0 (sym c.member.ensures ∙ not-false _ c.if-not-member.false) (rw e at c.loop-a.invariant.1))
+    (departs_never c.args.words.now c.args.base c.args.s c.args.parked c.args.i.0 (sym c.member.ensures ∙ c.if-not-member.false) (rw e at c.loop-a.invariant.1))

@@ -9,3 +9,7 @@ overflow_mul-work c = omega (arith, c.slice_known-1.given c.args.i)
 
 pub overflow_add-work : goal.overflow_add-work
 overflow_add-work c = omega (arith, c.slice_known-1.given c.args.i)
+
+pub returns : goal.returns
+unfolding put_lower
+returns c = search rules
