@@ -16,7 +16,6 @@ use Rattle.games.specs.Game.{Game}
 use Rattle.walk.specs.declared.Moved.TheVariants.{Blocked as Stuck, To}
 use Rattle.walk.specs.declared.Walked.TheVariants.{Blocked, Post}
 use Rattle.walk.specs.Walk.{moved, members, along, walked}
-use Rattle.walk.proofs.Rows.{every_row}
 
 -- ---- members, from the lowest
 

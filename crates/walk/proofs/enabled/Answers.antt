@@ -1,6 +1,5 @@
 -- `walk::enabled` meets its contract: what the state comes to says it.
 use mathlib.Core.Path.{sym, ◌∙◌}
-use borrow.Author.Rules.{rules}
 use Rattle.games.specs.Words.{game}
 use Rattle.walk.proofs.Moves.{to_enabled, blocked_disabled}
 use Rattle.walk.proofs.enabled.Goals as goal

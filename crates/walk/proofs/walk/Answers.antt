@@ -1,14 +1,11 @@
 use mathlib.Core.Path.{sym, ◌∙◌}
 use Prim.Native.Nat.{◌<◌, ◌≤◌}
 use native.Mathlib.Omega.{arith}
-use borrow.Author.Rules.{rules}
 use lib.Count.{count_trailing_zeros}
-use lib.ListN.{length}
 use lib.Pow.{pow_pos}
 use Rattle.games.specs.Words.{game}
 use Rattle.tables.proofs.Bounds.{few_states}
-use Rattle.walk.specs.Walk.{members}
-use Rattle.walk.proofs.Walks.{Walking, walking_none, walking_more, walking_end, walking_blocked, next_below, next_less, next_counted}
+use Rattle.walk.proofs.Walks.{walking_none, walking_more, walking_end, walking_blocked, next_below, next_less, next_counted}
 use Rattle.walk.proofs.walk.Goals as goal
 
 pub single-requires : goal.single-requires
