@@ -1,10 +1,10 @@
 -- The words that are written of an automaton are a card, and mean that automaton.
 -- Assumes nothing.
-use Rattle.std.proofs.Common.{◌≡◌, ℕ, suc, ◌+◌, ◌-◌, ◌*◌, ◌<◌, ◌≤◌, true, ◌||◌, eqb, ltb, ◌⊎◌, List, [], ◌∷◌, ◌++◌, length, get_or, sym, refl, ap, ◌∙◌, subst, ap₂, ⊎_elim, arith, length-append, get_or-append-add, ext_get_or, lt-ltb, eq-eqb}
+use Rattle.std.proofs.Common.{◌≡◌, ℕ, suc, ◌+◌, ◌*◌, ◌<◌, ◌≤◌, true, ◌||◌, eqb, ltb, ◌⊎◌, List, [], ◌∷◌, ◌++◌, length, get_or, sym, refl, ap, ◌∙◌, subst, ap₂, ⊎_elim, arith, length-append, get_or-append-add, ext_get_or, lt-ltb, eq-eqb}
 use lib.ListN.{get_or-append}
 use Rattle.sets.specs.Bounded.{gather}
 use Rattle.sets.proofs.Logic.{and_intro, or_left, or_right}
-use Rattle.games.specs.Format.{within, max_actions, max_observations, max_sets, max_cells, low_values, number_values, action_values, kind_card, kind_first, kind_cell, kind_next}
+use Rattle.games.specs.Format.{max_actions, max_observations, max_sets, max_cells, low_values, number_values, action_values, kind_card, kind_first, kind_cell, kind_next}
 use Rattle.games.specs.Automaton.{Automaton, no_cell}
 use Rattle.games.specs.Fields.{low_field, number_field, action_field, word}
 use Rattle.games.specs.Words.{front_length, part_length, card_length, cell_words, card_words, card_head}

@@ -1,5 +1,5 @@
 -- Each answer gives its own cell.
-use Rattle.std.proofs.Common.{sym, ap, rules}
+use Rattle.std.proofs.Common.{sym, ap}
 use Rattle.cards.specs.declared.Move.{Move}
 use Rattle.cards.specs.Run.{cell_or, stands, stands_after}
 use Rattle.cards.proofs.after.Goals as goal

@@ -1,5 +1,5 @@
 -- A wrong card is its own refusal; a right one does what its automaton does.
-use Rattle.std.proofs.Common.{sym, ◌∙◌, rules}
+use Rattle.std.proofs.Common.{sym, ◌∙◌}
 use Rattle.cards.proofs.Running.{opened_fine, opened_wrong}
 use Rattle.cards.proofs.begin.Goals as goal
 

@@ -1,5 +1,5 @@
 -- The action of the cell's own word.
-use Rattle.std.proofs.Common.{sym, ap, ◌∙◌, rules}
+use Rattle.std.proofs.Common.{sym, ap, ◌∙◌}
 use Rattle.games.specs.Fields.{action_field}
 use Rattle.cards.proofs.Running.{action_of_lem}
 use Rattle.cards.proofs.cell_action.Goals as goal

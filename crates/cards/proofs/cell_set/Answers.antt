@@ -1,5 +1,5 @@
 -- The set of the cell's own word.
-use Rattle.std.proofs.Common.{sym, ap, ◌∙◌, rules}
+use Rattle.std.proofs.Common.{sym, ap, ◌∙◌}
 use Rattle.games.specs.Fields.{low_field}
 use Rattle.cards.proofs.Running.{set_of_lem}
 use Rattle.cards.proofs.cell_set.Goals as goal

@@ -1,5 +1,4 @@
 -- The head's number; a checked card has a head.
-use Rattle.std.proofs.Common.{rules}
 use Rattle.cards.proofs.Checked.{some_word}
 use Rattle.cards.proofs.cells.Goals as goal
 

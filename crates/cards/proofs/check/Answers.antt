@@ -1,6 +1,5 @@
 -- The refusals come in the order of the tests: no word, the head, the length, the words.
-use Rattle.std.proofs.Common.{◌≡◌, ℕ, true, get_or, sym, ◌∙◌, ap₂, rules}
-use borrow.Author.Tests.{not-true, not-false}
+use Rattle.std.proofs.Common.{◌≡◌, ℕ, true, get_or, sym, ◌∙◌, ap₂}
 use Rattle.games.specs.Words.{card_length}
 use Rattle.cards.specs.Card.{card_cells, card_observations, head_fits}
 use Rattle.cards.proofs.Checked.{no_word, wrong_head, wrong_length, only_words}

@@ -1,5 +1,4 @@
-use Rattle.std.proofs.Common.{◌≡◌, ℕ, ◌+◌, ◌-◌, ◌<◌, ◌≤◌, List, length, get_or, sym, ap, ◌∙◌, subst, arith, rules}
-use borrow.Author.Tests.{not-true, not-false}
+use Rattle.std.proofs.Common.{◌≡◌, ℕ, ◌+◌, ◌<◌, ◌≤◌, List, length, get_or, sym, ap, ◌∙◌, subst, arith}
 use Rattle.games.specs.Format.{kind_next}
 use Rattle.games.specs.Words.{part_length}
 use Rattle.cards.specs.Card.{card_cells, card_observations, card_actions, cell_place, cell_fits}
@@ -132,8 +131,7 @@ loop-c-preserved c =
     let own : let w = words in
     cell_fits (card_actions w) (get_or w c.cell_place-at.result 0) ≡ c.cell_fits.result = ap (λ (a : ℕ). cell_fits a (get_or words c.cell_place-at.result 0)) (sym c.action_field-a.ensures) ∙ sym c.cell_fits.ensures in
     let found : let w = words in
-    RightNames w kind_next (c.cell_place-at.result + 1) (card_observations w) c.right_nexts-named.result = subst (λ (n : ℕ). RightNames words kind_next (c.cell_place-at.result + 1) n c.right_nexts-named.result) seen c.right_nexts-named.ensures in
-    (
+    RightNames w kind_next (c.cell_place-at.result + 1) (card_observations w) c.right_nexts-named.result = subst (λ (n : ℕ). RightNames words kind_next (c.cell_place-at.result + 1) n c.right_nexts-named.result) seen c.right_nexts-named.ensures in (
       nexts_fit _ c.requires.0 _ _ there place c.loop-c.invariant.0 (own ∙ c.if-not-cell_fits.false) _ found
           (omega (arith, c.if-named-o.false, seen)),
       omega (arith, there),

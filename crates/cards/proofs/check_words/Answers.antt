@@ -1,5 +1,5 @@
 -- The first words, then the cells' parts.
-use Rattle.std.proofs.Common.{ℕ, sym, subst, arith, rules}
+use Rattle.std.proofs.Common.{ℕ, sym, subst, arith}
 use Rattle.games.specs.Format.{kind_first}
 use Rattle.cards.specs.Card.{card_observations}
 use Rattle.cards.specs.Checking.{RightNames}

@@ -1,5 +1,5 @@
 -- No cell is 14; else the cell is one of the card's, and has an action.
-use Rattle.std.proofs.Common.{sym, rules}
+use Rattle.std.proofs.Common.{sym}
 use Rattle.cards.proofs.Running.{cannot_occur, cell_below, enter_told}
 use Rattle.cards.proofs.enter.Goals as goal
 

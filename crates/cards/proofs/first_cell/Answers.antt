@@ -1,5 +1,5 @@
 -- The first word of the observation lies in the card and names the cell.
-use Rattle.std.proofs.Common.{sym, ◌∙◌, rules}
+use Rattle.std.proofs.Common.{sym, ◌∙◌}
 use Rattle.cards.proofs.Checked.{first_in}
 use Rattle.cards.proofs.Running.{begins_of}
 use Rattle.cards.proofs.first_cell.Goals as goal

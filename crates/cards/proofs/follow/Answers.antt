@@ -1,5 +1,5 @@
 -- A late cell or observation is 12; else the next word names a cell, or none.
-use Rattle.std.proofs.Common.{◌∙◌, arith, rules}
+use Rattle.std.proofs.Common.{◌∙◌, arith}
 use Rattle.cards.proofs.Running.{outside_told, late_told, next_named_at, followed_told}
 use Rattle.cards.proofs.follow.Goals as goal
 

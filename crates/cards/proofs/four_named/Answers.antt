@@ -1,5 +1,4 @@
 -- The four words lie in the card, and the tests are those of the definition.
-use Rattle.std.proofs.Common.{rules}
 use Rattle.cards.proofs.Checked.{four_told}
 use Rattle.cards.proofs.four_named.Goals as goal
 

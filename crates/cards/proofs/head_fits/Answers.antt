@@ -1,5 +1,4 @@
 -- The tests are those of the definition, on the fields that the code has read.
-use Rattle.std.proofs.Common.{rules}
 use Rattle.cards.proofs.Checked.{head_told}
 use Rattle.cards.proofs.head_fits.Goals as goal
 

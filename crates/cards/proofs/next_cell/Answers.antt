@@ -1,5 +1,5 @@
 -- The next word of the cell and the observation lies in the card and names the cell.
-use Rattle.std.proofs.Common.{ℕ, ◌+◌, ◌<◌, length, get_or, sym, ap, ◌∙◌, arith, rules}
+use Rattle.std.proofs.Common.{ℕ, ◌+◌, ◌<◌, length, get_or, sym, ap, ◌∙◌, arith}
 use Rattle.games.specs.Fields.{low_field}
 use Rattle.cards.proofs.Running.{later_in, next_of}
 use Rattle.cards.proofs.next_cell.Goals as goal

@@ -1,5 +1,5 @@
 -- The opening's answer, and the cell that it leads to.
-use Rattle.std.proofs.Common.{ap, ◌∙◌, rules}
+use Rattle.std.proofs.Common.{ap, ◌∙◌}
 use Rattle.games.specs.Automaton.{no_cell}
 use Rattle.cards.specs.declared.Move.{Move}
 use Rattle.cards.specs.Run.{as_cell, stands_after}

@@ -1,5 +1,5 @@
 -- The place for the head's number of observations.
-use Rattle.std.proofs.Common.{ℕ, ap, ◌∙◌, rules}
+use Rattle.std.proofs.Common.{ℕ, ap, ◌∙◌}
 use Rattle.cards.specs.Card.{cell_place}
 use Rattle.cards.proofs.own_place.Goals as goal
 

@@ -1,5 +1,5 @@
 -- The cell's own word lies in the card.
-use Rattle.std.proofs.Common.{ℕ, ◌<◌, length, get_or, ap, arith, rules}
+use Rattle.std.proofs.Common.{ℕ, ◌<◌, length, get_or, ap, arith}
 use Rattle.cards.proofs.Running.{own_in}
 use Rattle.cards.proofs.own_word.Goals as goal
 

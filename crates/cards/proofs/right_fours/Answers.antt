@@ -1,6 +1,4 @@
-use Rattle.std.proofs.Common.{◌-◌, sym, ◌∙◌, arith, rules}
-use borrow.Author.Tests.{not-false}
-use Rattle.cards.specs.Checking.{names, Pass}
+use Rattle.std.proofs.Common.{sym, ◌∙◌, arith}
 use Rattle.cards.proofs.Passing.{pass_none, pass_four}
 use Rattle.cards.proofs.right_fours.Goals as goal
 

@@ -1,8 +1,6 @@
 -- Invariant: the words below j are right.
-use Rattle.std.proofs.Common.{◌-◌, sym, ◌∙◌, arith, rules}
-use borrow.Author.Tests.{not-false}
+use Rattle.std.proofs.Common.{◌-◌}
 use Rattle.cards.specs.Checking.{names, Pass}
-use Rattle.cards.proofs.Passing.{pass_none, pass_four}
 use Rattle.cards.proofs.right_fours.Given as goal
 
 abbrev pub invariant-loop-j : goal.invariant-loop-j

@@ -1,7 +1,6 @@
-use Rattle.std.proofs.Common.{◌≡◌, ℕ, ◌+◌, ◌-◌, ◌<◌, length, get_or, sym, ap, ◌∙◌, arith, rules}
-use borrow.Author.Tests.{not-true, not-false}
+use Rattle.std.proofs.Common.{◌≡◌, ℕ, ◌+◌, ◌<◌, length, get_or, sym, ap, ◌∙◌, arith}
 use Rattle.cards.specs.Card.{cell_named}
-use Rattle.cards.specs.Checking.{names, Pass}
+use Rattle.cards.specs.Checking.{names}
 use Rattle.cards.proofs.Passing.{pass_more, pass_end}
 use Rattle.cards.proofs.right_from.Goals as goal
 

@@ -1,9 +1,6 @@
 -- Invariant: the words for the observations below j are right; those below the number given are at the start.
-use Rattle.std.proofs.Common.{◌≡◌, ℕ, ◌+◌, ◌-◌, ◌<◌, length, get_or, sym, ap, ◌∙◌, arith, rules}
-use borrow.Author.Tests.{not-true, not-false}
-use Rattle.cards.specs.Card.{cell_named}
+use Rattle.std.proofs.Common.{◌-◌}
 use Rattle.cards.specs.Checking.{names, Pass}
-use Rattle.cards.proofs.Passing.{pass_more, pass_end}
 use Rattle.cards.proofs.right_from.Given as goal
 
 abbrev pub invariant-loop-j : goal.invariant-loop-j

@@ -1,5 +1,5 @@
 -- A late observation is 12; else the first word names a cell, or none.
-use Rattle.std.proofs.Common.{sym, ◌∙◌, arith, rules}
+use Rattle.std.proofs.Common.{sym, ◌∙◌, arith}
 use Rattle.cards.proofs.Running.{begun_late, begins_named_at, begun_told}
 use Rattle.cards.proofs.start.Goals as goal
 

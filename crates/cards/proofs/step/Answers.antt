@@ -1,5 +1,5 @@
 -- A wrong card is its own refusal; a right one does what its automaton does.
-use Rattle.std.proofs.Common.{sym, ◌∙◌, rules}
+use Rattle.std.proofs.Common.{sym, ◌∙◌}
 use Rattle.cards.proofs.Running.{stepped_fine, stepped_wrong}
 use Rattle.cards.proofs.step.Goals as goal
 
