@@ -1,7 +1,5 @@
-use borrow.Author.Rules.{rules}
 use mathlib.Core.Path.{refl}
-use Prim.Native.Nat.{◌-◌}
-use Rattle.moves.proofs.Halving.{Doubling, doubling_none, doubling_more, doubling_end}
+use Rattle.moves.proofs.Halving.{doubling_none, doubling_more, doubling_end}
 use Rattle.moves.proofs.double.Goals as goal
 
 pub loop-x-init : goal.loop-x-init

@@ -1,8 +1,6 @@
 -- `moves::double` meets its contract. The loop's invariant: the first x entries stand again behind the first `size`, united with w.
-use borrow.Author.Rules.{rules}
-use mathlib.Core.Path.{refl}
 use Prim.Native.Nat.{◌-◌}
-use Rattle.moves.proofs.Halving.{Doubling, doubling_none, doubling_more, doubling_end}
+use Rattle.moves.proofs.Halving.{Doubling}
 use Rattle.moves.proofs.double.Given as goal
 
 abbrev pub invariant-loop-x : goal.invariant-loop-x

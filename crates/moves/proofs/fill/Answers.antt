@@ -1,5 +1,4 @@
 -- `moves::fill` meets its contract: the two sides are those of the states below the split and of the states from it on.
-use borrow.Author.Rules.{rules}
 use mathlib.Core.Path.{ap, ◌∙◌, subst}
 use Prim.Native.Nat.{ℕ, ◌-◌, min}
 use native.Mathlib.Omega.{arith}

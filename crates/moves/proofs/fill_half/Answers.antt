@@ -1,11 +1,7 @@
-use borrow.Author.Rules.{rules}
 use mathlib.Core.Path.{sym, ◌∙◌}
-use Prim.Native.Nat.{◌+◌, ◌-◌}
 use native.Mathlib.Omega.{arith}
-use Rattle.games.specs.Words.{game}
-use Rattle.moves.specs.Halves.{mark}
 use Rattle.tables.proofs.Bounds.{few_states}
-use Rattle.moves.proofs.Halving.{Halving, halving_none, halving_more, halving_end, halving_room}
+use Rattle.moves.proofs.Halving.{halving_none, halving_more, halving_end, halving_room}
 use Rattle.tables.proofs.Checks.{sized}
 use Rattle.moves.proofs.fill_half.Goals as goal
 

@@ -1,13 +1,8 @@
 -- `moves::fill_half` meets its contract. The loop's invariant: the entries of the sets of the first i states are what these lead to.
-use borrow.Author.Rules.{rules}
-use mathlib.Core.Path.{sym, ◌∙◌}
 use Prim.Native.Nat.{◌+◌, ◌-◌}
-use native.Mathlib.Omega.{arith}
 use Rattle.games.specs.Words.{game}
 use Rattle.moves.specs.Halves.{mark}
-use Rattle.tables.proofs.Bounds.{few_states}
-use Rattle.moves.proofs.Halving.{Halving, halving_none, halving_more, halving_end, halving_room}
-use Rattle.tables.proofs.Checks.{sized}
+use Rattle.moves.proofs.Halving.{Halving}
 use Rattle.moves.proofs.fill_half.Given as goal
 
 abbrev pub invariant-loop-i : goal.invariant-loop-i

@@ -1,14 +1,8 @@
 -- `moves::fill_side` meets its contract. The loop's invariant: the halves of the actions below a are filled.
-use borrow.Author.Rules.{rules}
-use mathlib.Core.Path.{◌≡◌, sym, ◌∙◌}
 use Prim.Native.Nat.{◌≤◌, ◌-◌}
-use native.Mathlib.Omega.{arith}
 use Rattle.games.specs.Format.{max_actions}
 use Rattle.games.specs.Words.{game}
-use Rattle.tables.proofs.Checks.{sized}
 use Rattle.moves.specs.Halves.{Sided}
-use Rattle.tables.proofs.Bounds.{few_actions}
-use Rattle.moves.proofs.Halving.{sided_none, sided_more, side_length}
 use Rattle.moves.proofs.fill_side.Given as goal
 
 abbrev pub invariant-loop-a : goal.invariant-loop-a

@@ -1,5 +1,4 @@
 -- `moves::mark` meets its contract: what the state comes to in the walk, as a word.
-use borrow.Author.Rules.{rules}
 use mathlib.Core.Path.{sym, ap, ◌∙◌}
 use Rattle.moves.specs.Halves.{mark_of, mark}
 use Rattle.moves.proofs.mark.Goals as goal

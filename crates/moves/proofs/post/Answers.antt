@@ -4,7 +4,6 @@ use Rattle.games.specs.Words.{game}
 use Rattle.tables.proofs.Checks.{sized, accepted}
 use Rattle.tables.proofs.Bounds.{few_actions, few_states}
 use Rattle.moves.proofs.Halving.{high_small, posted_open, posted_shut}
-use borrow.Author.Rules.{rules}
 use Rattle.moves.proofs.post.Goals as goal
 
 pub overflow_mul-at : goal.overflow_mul-at
