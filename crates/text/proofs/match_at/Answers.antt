@@ -1,8 +1,5 @@
-use mathlib.Core.Path.{◌≡◌, refl, sym, ◌∙◌}
-use Prim.Native.Nat.{◌≤◌, ◌-◌}
+use mathlib.Core.Path.{refl, sym, ◌∙◌}
 use borrow.Author.Rules.{rules}
-use lib.ListN.{length, drop}
-use Rattle.text.specs.Read.{matched}
 use Rattle.text.proofs.Readers.{matched_end, matched_short, matched_other, matched_more}
 use Rattle.text.proofs.match_at.Goals as goal
 

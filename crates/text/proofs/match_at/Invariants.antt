@@ -1,10 +1,8 @@
 -- `text::match_at` meets its contract: before each turn the first i bytes of s stand before `next`, and the rest of s is still to be matched there.
-use mathlib.Core.Path.{◌≡◌, refl, sym, ◌∙◌}
+use mathlib.Core.Path.{◌≡◌}
 use Prim.Native.Nat.{◌≤◌, ◌-◌}
-use borrow.Author.Rules.{rules}
 use lib.ListN.{length, drop}
 use Rattle.text.specs.Read.{matched}
-use Rattle.text.proofs.Readers.{matched_end, matched_short, matched_other, matched_more}
 use Rattle.text.proofs.match_at.Given as goal
 
 abbrev pub invariant-loop-i : goal.invariant-loop-i

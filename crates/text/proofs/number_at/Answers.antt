@@ -1,9 +1,8 @@
-use mathlib.Core.Path.{◌≡◌, sym, ◌∙◌}
-use Prim.Native.Nat.{◌+◌, ◌-◌, ◌*◌, ◌≤◌, ◌<◌}
+use mathlib.Core.Path.{sym, ◌∙◌}
+use Prim.Native.Nat.{◌+◌, ◌*◌, ◌≤◌, ◌<◌}
 use native.Mathlib.Omega.{arith}
 use borrow.Author.Rules.{rules}
-use lib.ListN.{length, drop}
-use Rattle.text.specs.Read.{further_digits, number_of}
+use lib.ListN.{length}
 use Rattle.text.proofs.Decimals.{digit_within}
 use Rattle.text.proofs.Readers.{number_none, number_large, number_first, further_none, further_misplaced, further_more, well_placed}
 use Rattle.text.proofs.number_at.Goals as goal

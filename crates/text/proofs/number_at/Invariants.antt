@@ -1,12 +1,8 @@
 -- `text::number_at` meets its contract: before each turn v was read up to place i, and may go on there.
-use mathlib.Core.Path.{◌≡◌, sym, ◌∙◌}
-use Prim.Native.Nat.{◌+◌, ◌-◌, ◌*◌, ◌≤◌, ◌<◌}
-use native.Mathlib.Omega.{arith}
-use borrow.Author.Rules.{rules}
+use mathlib.Core.Path.{◌≡◌}
+use Prim.Native.Nat.{◌-◌, ◌≤◌}
 use lib.ListN.{length, drop}
 use Rattle.text.specs.Read.{further_digits, number_of}
-use Rattle.text.proofs.Decimals.{digit_within}
-use Rattle.text.proofs.Readers.{number_none, number_large, number_first, further_none, further_misplaced, further_more, well_placed}
 use Rattle.text.proofs.number_at.Given as goal
 
 abbrev pub invariant-loop-at : goal.invariant-loop-at

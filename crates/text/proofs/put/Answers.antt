@@ -1,6 +1,5 @@
 -- `text::put` meets its contract: past the end nothing is stored, and `set` changes nothing there.
 use mathlib.Core.Path.{refl, sym}
-use borrow.Author.Rules.{rules}
 use lib.Seq.{set_out}
 use Rattle.text.proofs.put.Goals as goal
 

@@ -1,6 +1,5 @@
 -- `text::skip` meets its contract: both cases of its definition.
 use mathlib.Core.Path.{sym, ◌∙◌}
-use borrow.Author.Rules.{rules}
 use Rattle.text.proofs.Readers.{skipped_at, skipped_wrong}
 use Rattle.text.proofs.skip.Goals as goal
 
