@@ -14,7 +14,7 @@ use Rattle.sets.specs.Bounded.{any}
 use Rattle.sets.proofs.Logic.{decided, same_truth, and_left, and_right, and_intro, or_cases, or_left, or_right, false_not}
 use Rattle.sets.proofs.Bounded.{any_found, any_intro, any_ext}
 use Rattle.sets.proofs.Mask.{member_or, add_lt, subset_member, subset_refl, subset_trans, subset_add, add_subset}
-use Rattle.families.specs.Bits.{lane_sets, has, word_with, low_has, lane_states}
+use Rattle.families.specs.Bits.{lane_sets, word_with, low_has, lane_states}
 
 -- the word has a set that holds t and differs from it below i alone
 abbrev pub reached : ℕ → ℕ → ℕ → Bool

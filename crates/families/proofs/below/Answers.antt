@@ -1,6 +1,5 @@
 -- `families::below` meets its contract: cleared, filled with the list's sets, and closed under subsets.
 use mathlib.Core.Path.{◌≡◌, ◌∙◌}
-use borrow.Author.Rules.{rules}
 use native.Mathlib.Omega.{arith}
 use lib.ListN.{length}
 use Rattle.families.proofs.Lanes.{few_lanes}

@@ -1,12 +1,8 @@
 -- `families::clear` meets its contract: before each turn the first i words are 0 and the rest is as it was.
-use mathlib.Core.Path.{◌≡◌, refl, ap, ◌∙◌}
-use mathlib.Core.List.{List, ◌++◌, append-nil}
-use Prim.Native.Nat.{ℕ, ◌≤◌, ◌-◌}
-use borrow.Author.Rules.{rules}
-use borrow.Author.Fill.{fill_more}
-use native.Mathlib.Omega.{arith}
+use mathlib.Core.Path.{◌≡◌}
+use mathlib.Core.List.{◌++◌}
+use Prim.Native.Nat.{◌≤◌, ◌-◌}
 use lib.ListN.{length, drop, replicate}
-use lib.Seq.{drop-length}
 use Rattle.families.proofs.clear.Given as goal
 
 abbrev pub invariant-loop-i : goal.invariant-loop-i

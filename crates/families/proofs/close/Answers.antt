@@ -1,6 +1,5 @@
 -- `families::close` meets its contract: what the lanes above have of the subsets within their words.
 use mathlib.Core.Path.{◌∙◌}
-use borrow.Author.Rules.{rules}
 use Rattle.families.proofs.Closing.{up_low}
 use Rattle.families.proofs.close.Goals as goal
 

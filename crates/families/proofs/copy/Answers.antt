@@ -1,10 +1,7 @@
-use borrow.Author.Rules.{rules}
-use mathlib.Core.Path.{◌≡◌, refl, sym, ◌∙◌}
-use Prim.Native.Nat.{◌-◌}
+use mathlib.Core.Path.{refl, sym, ◌∙◌}
 use native.Mathlib.Omega.{arith}
-use lib.ListN.{length, get_or}
 use lib.Seq.{ext_get_or}
-use Rattle.families.proofs.Mapping.{Mapping, mapping_none, mapping_more}
+use Rattle.families.proofs.Mapping.{mapping_none, mapping_more}
 use Rattle.families.proofs.copy.Goals as goal
 
 pub loop-i-init : goal.loop-i-init

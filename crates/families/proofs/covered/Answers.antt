@@ -1,10 +1,7 @@
 use mathlib.Core.Path.{◌≡◌}
-use Prim.Native.Nat.{ℕ, ◌-◌, ◌≤◌, ◌<◌}
 use borrow.Author.Rules.{rules}
 use native.Mathlib.Omega.{arith}
-use Rattle.sets.specs.Mask.{member}
-use Rattle.sets.specs.Bounded.{any}
-use Rattle.families.specs.Bits.{lane_states, lane_sets, word_with}
+use Rattle.families.specs.Bits.{lane_states, word_with}
 use Rattle.families.proofs.Lanes.{unite_none, unite_more}
 use Rattle.families.proofs.covered.Goals as goal
 

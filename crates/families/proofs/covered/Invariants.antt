@@ -1,16 +1,13 @@
 -- `families::covered` meets its contract: before each turn the states below i are done.
 use mathlib.Core.Path.{◌≡◌}
 use Prim.Native.Nat.{ℕ, ◌-◌, ◌≤◌, ◌<◌}
-use borrow.Author.Rules.{rules}
-use native.Mathlib.Omega.{arith}
 use Rattle.sets.specs.Mask.{member}
 use Rattle.sets.specs.Bounded.{any}
 use Rattle.families.specs.Bits.{lane_states, lane_sets, word_with}
-use Rattle.families.proofs.Lanes.{unite_none, unite_more}
 use Rattle.families.proofs.covered.Given as goal
 
 abbrev pub invariant-loop-i : goal.invariant-loop-i
-invariant-loop-i l = (l.i ≤ lane_states) × ((t : ℕ) → t < lane_sets → member l.all t ≡ any l.i (λ l.i. word_with l.word l.i t))
+invariant-loop-i l = (l.i ≤ lane_states) × ((t : ℕ) → t < lane_sets → member l.all t ≡ any l.i (λ j. word_with l.word j t))
 
 abbrev pub decreases-loop-i : goal.decreases-loop-i
 decreases-loop-i l = lane_states - l.i

@@ -1,11 +1,10 @@
 use mathlib.Core.Path.{◌≡◌, refl}
-use Prim.Native.Nat.{ℕ, ◌-◌, ◌*◌, ◌/◌, ◌%◌, ◌^◌, ◌≤◌, ◌<◌}
+use Prim.Native.Nat.{ℕ, ◌*◌, ◌/◌, ◌%◌, ◌^◌, ◌<◌}
 use borrow.Author.Rules.{rules}
 use native.Mathlib.Omega.{arith}
-use lib.ListN.{length, get_or, take}
+use lib.ListN.{length, get_or}
 use lib.Seq.{take_all}
-use Rattle.sets.specs.Family.{listed}
-use Rattle.families.specs.Bits.{lane_sets, has}
+use Rattle.families.specs.Bits.{lane_sets}
 use Rattle.families.proofs.Lanes.{shift_one}
 use Rattle.families.proofs.Inserting.{none_inserted, mask_lane, insert_more}
 use Rattle.families.proofs.insert.Goals as goal
@@ -26,7 +25,7 @@ bounds-bits-lane c =
     there
 
 pub offset_bounds-bits-lane-in-loop-i : goal.offset_bounds-bits-lane-in-loop-i
-offset_bounds-bits-lane-in-loop-i c = mul-bits c
+offset_bounds-bits-lane-in-loop-i c = omega (arith, c.shared_slice_known-1.given c.loop-i.i)
 
 pub bounds-bits-lane-in-loop-i : goal.bounds-bits-lane-in-loop-i
 bounds-bits-lane-in-loop-i c =

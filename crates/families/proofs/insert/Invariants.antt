@@ -1,14 +1,9 @@
 -- `families::insert` meets its contract: before each turn the first i masks are in.
-use mathlib.Core.Path.{◌≡◌, refl}
-use Prim.Native.Nat.{ℕ, ◌-◌, ◌*◌, ◌/◌, ◌%◌, ◌^◌, ◌≤◌, ◌<◌}
-use borrow.Author.Rules.{rules}
-use native.Mathlib.Omega.{arith}
-use lib.ListN.{length, get_or, take}
-use lib.Seq.{take_all}
+use mathlib.Core.Path.{◌≡◌}
+use Prim.Native.Nat.{ℕ, ◌-◌, ◌≤◌}
+use lib.ListN.{length, take}
 use Rattle.sets.specs.Family.{listed}
-use Rattle.families.specs.Bits.{lane_sets, has}
-use Rattle.families.proofs.Lanes.{shift_one}
-use Rattle.families.proofs.Inserting.{none_inserted, mask_lane, insert_more}
+use Rattle.families.specs.Bits.{has}
 use Rattle.families.proofs.insert.Given as goal
 
 abbrev pub invariant-loop-i : goal.invariant-loop-i

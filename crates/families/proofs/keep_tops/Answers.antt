@@ -1,11 +1,7 @@
 -- `families::keep_tops` meets its contract: a lane without a set stays; another is emptied, and then has what neither word has.
 use mathlib.Core.Path.{◌∙◌}
-use Prim.Native.Nat.{◌-◌, ◌^◌}
 use native.Mathlib.Omega.{arith}
-use borrow.Author.Rules.{rules}
-use lib.ListN.{get_or, set, length-set}
-use Rattle.sets.specs.Mask.{common, union}
-use Rattle.families.specs.Bits.{Topped}
+use lib.ListN.{set, length-set}
 use Rattle.families.proofs.Maximal.{topped_none, topped_some}
 use Rattle.families.proofs.keep_tops.Goals as goal
 
@@ -22,3 +18,8 @@ shape_of-bits c = length-set (set c.args.bits.now c.args.lane 0) c.args.lane _ �
 
 pub returns-else-word-ne0 : goal.returns-else-word-ne0
 returns-else-word-ne0 c = topped_none c.args.bits.now c.args.lane c.if-word-ne0.false
+
+pub returns-then-word-ne0 : goal.returns-then-word-ne0
+returns-then-word-ne0 c =
+    topped_some c.args.bits.now c.args.lane c.larger.result c.covered.result c.requires.here (omega (arith, c.larger)) (omega (arith, c.covered))
+    c.larger.ensures c.covered.ensures

@@ -1,7 +1,6 @@
 -- `families::lane_count` meets its contract: up to 6 states take 2 ^ 0 lanes, and 1 shifted by fewer than 64 places does not wrap.
 use mathlib.Core.Path.{◌≡◌, ap}
 use Prim.Native.Nat.{ℕ, ◌-◌, ◌^◌}
-use borrow.Author.Rules.{rules}
 use native.Mathlib.Omega.{arith}
 use Rattle.families.specs.Bits.{lane_states, lanes}
 use Rattle.families.proofs.Lanes.{shift_one}

@@ -1,7 +1,6 @@
 -- `families::lane_with` meets its contract: past the last lane there is no set.
 use mathlib.Core.Path.{◌≡◌, ap, ◌∙◌, sym}
 use Prim.Native.Nat.{ℕ, ◌*◌, ◌%◌, ◌^◌}
-use borrow.Author.Rules.{rules}
 use native.Mathlib.Omega.{arith}
 use lib.ListN.{get_or, get_or-eq_default}
 use Rattle.sets.specs.Mask.{union}

@@ -1,11 +1,9 @@
 -- `families::larger` meets its contract: before each turn the lanes with one of the states below i more are united, and with `own` this one.
-use mathlib.Core.Path.{◌≡◌, sym, subst}
-use Prim.Native.Nat.{ℕ, ◌+◌, ◌-◌, ◌≤◌}
-use borrow.Author.Rules.{rules}
-use native.Mathlib.Omega.{arith}
-use Rattle.sets.specs.Mask.{member, union}
+use mathlib.Core.Path.{◌≡◌}
+use Prim.Native.Nat.{ℕ, ◌-◌, ◌≤◌}
+use Rattle.sets.specs.Mask.{member}
 use Rattle.families.specs.Bits.{high_states}
-use Rattle.families.proofs.Lanes.{united_below, united_none, united_more}
+use Rattle.families.proofs.Lanes.{united_below}
 use Rattle.families.proofs.larger.Given as goal
 
 abbrev pub invariant-loop-i : goal.invariant-loop-i

@@ -1,9 +1,8 @@
 use mathlib.Core.Path.{◌≡◌, ap, ◌∙◌}
-use Prim.Native.Nat.{ℕ, ◌-◌, ◌≤◌, ◌<◌}
+use Prim.Native.Nat.{ℕ}
 use borrow.Author.Rules.{rules}
 use native.Mathlib.Omega.{arith}
-use Rattle.sets.specs.Mask.{member}
-use Rattle.families.specs.Bits.{lane_states, lane_sets}
+use Rattle.families.specs.Bits.{lane_states}
 use Rattle.families.proofs.Lowering.{reached, reached_none, reached_more, reached_end}
 use Rattle.families.proofs.lower.Goals as goal
 

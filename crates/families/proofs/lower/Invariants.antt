@@ -1,11 +1,9 @@
 -- `families::lower` meets its contract: before each turn the subsets that differ below i alone are in.
-use mathlib.Core.Path.{◌≡◌, ap, ◌∙◌}
+use mathlib.Core.Path.{◌≡◌}
 use Prim.Native.Nat.{ℕ, ◌-◌, ◌≤◌, ◌<◌}
-use borrow.Author.Rules.{rules}
-use native.Mathlib.Omega.{arith}
 use Rattle.sets.specs.Mask.{member}
 use Rattle.families.specs.Bits.{lane_states, lane_sets}
-use Rattle.families.proofs.Lowering.{reached, reached_none, reached_more, reached_end}
+use Rattle.families.proofs.Lowering.{reached}
 use Rattle.families.proofs.lower.Given as goal
 
 abbrev pub invariant-loop-i : goal.invariant-loop-i

@@ -1,11 +1,9 @@
 use mathlib.Core.Path.{ap, ◌∙◌}
 use mathlib.Core.List.{List}
-use Prim.Native.Nat.{ℕ, ◌-◌}
-use borrow.Author.Rules.{rules}
+use Prim.Native.Nat.{ℕ}
 use native.Mathlib.Omega.{arith}
-use lib.ListN.{length}
 use Rattle.families.specs.Bits.{low_has}
-use Rattle.families.proofs.Mapping.{Mapping, mapping_none, mapping_more}
+use Rattle.families.proofs.Mapping.{mapping_none, mapping_more}
 use Rattle.families.proofs.Closing.{Low, low_end}
 use Rattle.families.proofs.lower_all.Goals as goal
 

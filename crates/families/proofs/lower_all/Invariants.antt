@@ -1,13 +1,8 @@
 -- `families::lower_all` meets its contract: before each turn the lanes below `lane` are done.
-use mathlib.Core.Path.{ap, ◌∙◌}
-use mathlib.Core.List.{List}
-use Prim.Native.Nat.{ℕ, ◌-◌}
-use borrow.Author.Rules.{rules}
-use native.Mathlib.Omega.{arith}
+use Prim.Native.Nat.{◌-◌}
 use lib.ListN.{length}
-use Rattle.families.specs.Bits.{low_has}
-use Rattle.families.proofs.Mapping.{Mapping, mapping_none, mapping_more}
-use Rattle.families.proofs.Closing.{Low, low_end}
+use Rattle.families.proofs.Mapping.{Mapping}
+use Rattle.families.proofs.Closing.{Low}
 use Rattle.families.proofs.lower_all.Given as goal
 
 abbrev pub invariant-loop-lane : goal.invariant-loop-lane

@@ -1,13 +1,8 @@
 -- `families::maximal_bits` meets its contract: before each turn the lanes below `lane` have their maximal sets, and the others all.
-use mathlib.Core.Path.{sym, subst, ◌∙◌}
-use mathlib.Core.List.{List}
-use Prim.Native.Nat.{ℕ, ◌-◌, ◌<◌}
-use native.Mathlib.Omega.{arith}
+use Prim.Native.Nat.{◌-◌}
 use lib.ListN.{length}
-use Rattle.families.specs.Bits.{Lane}
-use Rattle.families.proofs.Lanes.{few_lanes}
-use Rattle.families.proofs.Mapping.{Mapping, mapping_none, mapping_by}
-use Rattle.families.proofs.Maximal.{Tops, tops_of, found_maximal}
+use Rattle.families.proofs.Mapping.{Mapping}
+use Rattle.families.proofs.Maximal.{Tops}
 use Rattle.families.proofs.maximal_bits.Given as goal
 
 abbrev pub invariant-loop-lane : goal.invariant-loop-lane

@@ -1,5 +1,4 @@
 -- `families::own_word` meets its contract, case by case.
-use borrow.Author.Rules.{rules}
 use Rattle.families.proofs.own_word.Goals as goal
 
 pub returns-then-own : goal.returns-then-own

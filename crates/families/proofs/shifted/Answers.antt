@@ -1,7 +1,6 @@
 -- `families::shifted` meets its contract: the set t stands where t with the state i stood.
 use mathlib.Core.Path.{◌≡◌}
 use Prim.Native.Nat.{◌*◌, ◌%◌, ◌^◌}
-use borrow.Author.Rules.{rules}
 use native.Mathlib.Omega.{arith}
 use lib.Pow.{pow-lt}
 use Rattle.families.proofs.Lanes.{shift_one, shifted_word}

@@ -1,11 +1,10 @@
 use mathlib.Core.Path.{◌≡◌}
 use Prim.Native.Nat.{ℕ, ◌*◌, ◌%◌, ◌^◌, ◌<◌}
-use borrow.Author.Rules.{rules}
 use native.Mathlib.Omega.{arith}
 use lib.Count.{count_trailing_zeros}
 use Rattle.families.specs.Bits.{lane_sets}
 use Rattle.families.proofs.Lanes.{shift_one}
-use Rattle.families.proofs.Words.{Writing, writing_none, writing_room, writing_more, writing_end, taken_lt, taken_le, taken_less}
+use Rattle.families.proofs.Words.{writing_none, writing_room, writing_more, writing_end, taken_lt, taken_le, taken_less}
 use Rattle.families.proofs.unpack.Goals as goal
 
 pub loop-rest-init : goal.loop-rest-init

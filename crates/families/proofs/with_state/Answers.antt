@@ -2,7 +2,6 @@
 use mathlib.Core.Path.{sym, ap, ◌∙◌}
 use mathlib.Core.Bool.{Bool, cond}
 use Prim.Native.Nat.{◌^◌}
-use borrow.Author.Rules.{rules}
 use lib.ListN.{get_or}
 use Rattle.sets.specs.Mask.{union}
 use Rattle.families.proofs.with_state.Goals as goal

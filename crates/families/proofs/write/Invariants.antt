@@ -1,13 +1,10 @@
 -- `families::write` meets its contract: before each turn the sets of the lanes below `lane` stand in front.
-use mathlib.Core.Path.{◌≡◌, refl, ◌∙◌}
-use mathlib.Core.List.{List, ◌++◌}
-use Prim.Native.Nat.{ℕ, ◌+◌, ◌-◌, ◌*◌, ◌≤◌}
-use borrow.Author.Rules.{rules}
-use native.Mathlib.Omega.{arith}
-use lib.ListN.{length, get_or, drop}
+use mathlib.Core.Path.{◌≡◌}
+use mathlib.Core.List.{◌++◌}
+use Prim.Native.Nat.{◌-◌, ◌*◌, ◌≤◌}
+use lib.ListN.{length, drop}
 use Rattle.sets.specs.Bounded.{count, select}
 use Rattle.families.specs.Bits.{lane_sets, has}
-use Rattle.families.proofs.Words.{size, lane_count, lane_room, lane_written, front_length, sets_written}
 use Rattle.families.proofs.write.Given as goal
 
 abbrev pub invariant-loop-lane : goal.invariant-loop-lane
