@@ -3,7 +3,7 @@
 -- Assumes nothing.
 use mathlib.Core.Path.{◌≡◌, refl, sym, ap, ◌∙◌}
 use mathlib.Core.Bool.{Bool, true, false, not, ◌&&◌, ◌||◌}
-use Prim.Native.Nat.{ℕ, zero, suc, ◌+◌, ◌^◌, ◌≤◌, ◌<◌}
+use Prim.Native.Nat.{ℕ, zero, suc, ◌^◌, ◌≤◌, ◌<◌}
 use native.Mathlib.Decide.{le_ind}
 use native.Mathlib.Omega.{arith}
 use borrow.Author.Tests.{eq-eqb, eqb-true, eqb-false}
@@ -15,7 +15,6 @@ use Rattle.sets.proofs.Bounded.{all_at, all_intro, all_fails, all_ext, any_found
 use Rattle.sets.proofs.Mask.{member_and, member_zero, common_lt, subset_member, subset_of, subset_refl, subset_le, subset_common_mono, common_zero, common_witness, union_over_found, union_over_intro, union_over_mono}
 use Rattle.games.specs.Game.{Game, Accepted, enabled}
 -- this one for the order alone
-use Rattle.games.proofs.Stations.{every_station}
 use Rattle.games.specs.Step.{safe, enabled_at, post, after, meets, step, good}
 
 module _ (g : Game) where

@@ -3,7 +3,7 @@
 -- Assumes nothing.
 use Rattle.std.specs.Prelude.{◌≡◌, Bool, true, false, ◌&&◌, List, [], ◌∷◌, ℕ, eqb}
 use Rattle.std.specs.Bool.{beq}
-use Rattle.sets.specs.Family.{maximal, join, meet}
+use Rattle.sets.specs.Family.{join, meet}
 use Rattle.games.specs.Step.{good, antichain}
 use Rattle.games.specs.Verdict.{Verdict, Yes, No, verdict}
 use Rattle.games.specs.Automaton.{card}

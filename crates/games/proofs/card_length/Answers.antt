@@ -1,6 +1,5 @@
 -- `games::card_length` meets its contract: the two numbers are small, so product and sum fit.
 use native.Mathlib.Omega.{arith}
-use borrow.Author.Rules.{rules}
 use Rattle.games.proofs.Limits.{parts_below, length_told}
 use Rattle.games.proofs.card_length.Goals as goal
 

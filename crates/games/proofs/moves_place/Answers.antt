@@ -1,6 +1,5 @@
 -- `games::moves_place` meets its contract: the sum fits, since the parked set has one word at most.
 use native.Mathlib.Omega.{arith}
-use borrow.Author.Rules.{rules}
 use Rattle.games.proofs.Places.{parked_words_lem}
 use Rattle.games.proofs.moves_place.Goals as goal
 

@@ -1,7 +1,6 @@
 -- `games::place_at` meets its contract: one law for each kind of place.
 use mathlib.Core.Path.{sym}
 use native.Mathlib.Omega.{arith}
-use borrow.Author.Rules.{rules}
 use Rattle.games.proofs.Places.{at_start, at_bad, at_parked, at_shown, at_move}
 use Rattle.games.proofs.place_at.Goals as goal
 

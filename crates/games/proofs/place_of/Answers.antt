@@ -1,7 +1,6 @@
 -- `games::place_of` meets its contract: by the kind of place; the sums fit because a head's number of states is small and the parked set
 -- has one word at most.
 use native.Mathlib.Omega.{arith}
-use borrow.Author.Rules.{rules}
 use Rattle.games.proofs.Limits.{product_below}
 use Rattle.games.proofs.Places.{parked_words_lem, shown_told, move_told}
 use Rattle.games.proofs.place_of.Goals as goal

@@ -1,7 +1,6 @@
 -- `games::table_length` meets its contract: the product fits because a head's number of states is small, the sum because the parked set
 -- has one word at most.
 use native.Mathlib.Omega.{arith}
-use borrow.Author.Rules.{rules}
 use Rattle.games.proofs.Limits.{product_below}
 use Rattle.games.proofs.Places.{parked_words_lem}
 use Rattle.games.proofs.table_length.Goals as goal

@@ -1,10 +1,7 @@
 use mathlib.Core.Path.{◌≡◌}
-use Prim.Native.Nat.{◌≤◌, ◌-◌}
 use borrow.Author.Rules.{rules}
 use borrow.Author.Fill.{fill_more}
 use native.Mathlib.Omega.{arith}
-use lib.ListN.{length}
-use Rattle.sets.specs.Bounded.{fill}
 use Rattle.sets.proofs.fill.Goals as goal
 
 pub loop-i-preserved : goal.loop-i-preserved

@@ -1,9 +1,6 @@
 -- `sets::fill` meets its contract: before each turn the first i places are v and the rest is as it was.
 use mathlib.Core.Path.{◌≡◌}
 use Prim.Native.Nat.{◌≤◌, ◌-◌}
-use borrow.Author.Rules.{rules}
-use borrow.Author.Fill.{fill_more}
-use native.Mathlib.Omega.{arith}
 use lib.ListN.{length}
 use Rattle.sets.specs.Bounded.{fill}
 use Rattle.sets.proofs.fill.Given as goal

@@ -1,10 +1,5 @@
-use mathlib.Core.Path.{◌≡◌}
-use Prim.Native.Nat.{◌≤◌, ◌-◌}
-use borrow.Author.Rules.{rules}
 use native.Mathlib.Nat.{le_refl}
 use native.Mathlib.Omega.{arith}
-use lib.ListN.{length}
-use Rattle.sets.specs.Bounded.{nothing, first, reaches_from}
 use Rattle.sets.proofs.Reaching.{from_start, from_skip, from_stop, from_end}
 use Rattle.sets.proofs.first_from.Goals as goal
 

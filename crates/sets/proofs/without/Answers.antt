@@ -1,5 +1,4 @@
 -- `sets::without` meets its contract: a set that has i is at least the set of i alone.
-use borrow.Author.Rules.{rules}
 use mathlib.Core.Path.{sym}
 use Rattle.sets.proofs.Mask.{single_le, without_member, without_other}
 use Rattle.sets.proofs.without.Goals as goal

@@ -1,6 +1,5 @@
 -- `tables::actions` meets its contract: the head's number.
 use mathlib.Core.Path.{ap}
-use borrow.Author.Rules.{rules}
 use Rattle.games.specs.Words.{game}
 use Rattle.games.specs.declared.Shape.{Shape}
 use Rattle.tables.proofs.actions.Goals as goal

@@ -1,5 +1,4 @@
 -- `tables::bad` meets its contract: the mask at its place.
-use borrow.Author.Rules.{rules}
 use Rattle.games.specs.Words.{game}
 use Rattle.tables.proofs.bad.Goals as goal
 

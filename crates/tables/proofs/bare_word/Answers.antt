@@ -1,7 +1,6 @@
 -- `tables::bare_word` meets its contract: the word of what stands there; its numbers fit, because the table has it.
 use mathlib.Core.Path.{sym, ap, ◌∙◌}
 use native.Mathlib.Omega.{arith}
-use borrow.Author.Rules.{rules}
 use Rattle.games.specs.Places.{Within}
 use Rattle.games.proofs.Places.{place_within}
 use Rattle.tables.specs.Layout.{bare_word}

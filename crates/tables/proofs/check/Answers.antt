@@ -1,6 +1,5 @@
 -- `tables::check` meets its contract: one check after the other.
 use mathlib.Core.Path.{◌≡◌, sym, ◌∙◌}
-use borrow.Author.Rules.{rules}
 use Rattle.games.specs.Words.{game}
 use Rattle.games.specs.declared.Checked.TheVariants.{Fine}
 use Rattle.tables.specs.Check.{size_checked, words_checked, sets_checked}

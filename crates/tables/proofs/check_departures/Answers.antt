@@ -1,7 +1,6 @@
 -- `tables::check_departures` meets its contract: the moves lie in the table, and its move words are the moves.
 use mathlib.Core.Path.{◌∙◌}
 use native.Mathlib.Omega.{arith}
-use borrow.Author.Rules.{rules}
 use Rattle.games.proofs.Places.{moves_row}
 use Rattle.tables.specs.Layout.{shape_in}
 use Rattle.tables.proofs.Same.{table_parked}

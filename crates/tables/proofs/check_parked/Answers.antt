@@ -1,9 +1,7 @@
 use mathlib.Core.Path.{◌≡◌, sym, ◌∙◌}
-use Prim.Native.Nat.{◌≤◌, ◌-◌}
 use native.Mathlib.Omega.{arith}
 use borrow.Author.Rules.{rules}
 use Rattle.sets.proofs.Bounded.{first_zero, first_skip}
-use Rattle.sets.specs.Bounded.{first, nothing}
 use Rattle.tables.specs.Check.{departs_from}
 use Rattle.tables.proofs.Checks.{parked_departs, parked_fine}
 use Rattle.tables.proofs.check_parked.Goals as goal

@@ -1,12 +1,8 @@
 -- `tables::check_parked` meets its contract: before each turn no state so far departs.
-use mathlib.Core.Path.{◌≡◌, sym, ◌∙◌}
+use mathlib.Core.Path.{◌≡◌}
 use Prim.Native.Nat.{◌≤◌, ◌-◌}
-use native.Mathlib.Omega.{arith}
-use borrow.Author.Rules.{rules}
-use Rattle.sets.proofs.Bounded.{first_zero, first_skip}
 use Rattle.sets.specs.Bounded.{first, nothing}
 use Rattle.tables.specs.Check.{departs_from}
-use Rattle.tables.proofs.Checks.{parked_departs, parked_fine}
 use Rattle.tables.proofs.check_parked.Given as goal
 
 abbrev pub invariant-loop-i : goal.invariant-loop-i

@@ -1,9 +1,8 @@
 use mathlib.Core.Path.{◌≡◌, sym, ap, ◌∙◌}
-use Prim.Native.Nat.{ℕ, ◌≤◌, ◌-◌}
+use Prim.Native.Nat.{ℕ}
 use native.Mathlib.Omega.{arith}
 use borrow.Author.Rules.{rules}
 use Rattle.sets.proofs.Bounded.{first_zero, first_skip}
-use Rattle.sets.specs.Bounded.{first, nothing}
 use Rattle.games.specs.declared.Checked.TheVariants.{Refused}
 use Rattle.tables.specs.Check.{unseen}
 use Rattle.tables.specs.Fields.{game_of}

@@ -1,14 +1,9 @@
 -- `tables::check_sets` meets its contract: before each turn each state so far shows an observation.
-use mathlib.Core.Path.{◌≡◌, sym, ap, ◌∙◌}
-use Prim.Native.Nat.{ℕ, ◌≤◌, ◌-◌}
-use native.Mathlib.Omega.{arith}
-use borrow.Author.Rules.{rules}
-use Rattle.sets.proofs.Bounded.{first_zero, first_skip}
+use mathlib.Core.Path.{◌≡◌}
+use Prim.Native.Nat.{◌≤◌, ◌-◌}
 use Rattle.sets.specs.Bounded.{first, nothing}
-use Rattle.games.specs.declared.Checked.TheVariants.{Refused}
 use Rattle.tables.specs.Check.{unseen}
 use Rattle.tables.specs.Fields.{game_of}
-use Rattle.tables.proofs.Checks.{sets_empty, sets_unseen, sets_fine}
 use Rattle.tables.proofs.check_sets.Given as goal
 
 abbrev pub invariant-loop-i : goal.invariant-loop-i

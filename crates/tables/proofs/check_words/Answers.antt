@@ -1,10 +1,8 @@
 use mathlib.Core.Path.{◌≡◌, sym}
-use Prim.Native.Nat.{◌≤◌, ◌-◌}
 use native.Mathlib.Omega.{arith}
 use borrow.Author.Rules.{rules}
 use lib.ListN.{length}
 use Rattle.sets.proofs.Bounded.{first_skip}
-use Rattle.sets.specs.Bounded.{first, nothing}
 use Rattle.tables.specs.Check.{faulty}
 use Rattle.tables.proofs.Checks.{words_none, words_misplaced, words_wide, words_fine}
 use Rattle.tables.proofs.check_words.Goals as goal

@@ -1,13 +1,8 @@
 -- `tables::check_words` meets its contract: before each turn no word so far is faulty.
-use mathlib.Core.Path.{◌≡◌, sym}
+use mathlib.Core.Path.{◌≡◌}
 use Prim.Native.Nat.{◌≤◌, ◌-◌}
-use native.Mathlib.Omega.{arith}
-use borrow.Author.Rules.{rules}
-use lib.ListN.{length}
-use Rattle.sets.proofs.Bounded.{first_skip}
 use Rattle.sets.specs.Bounded.{first, nothing}
 use Rattle.tables.specs.Check.{faulty}
-use Rattle.tables.proofs.Checks.{words_none, words_misplaced, words_wide, words_fine}
 use Rattle.tables.proofs.check_words.Given as goal
 
 abbrev pub invariant-loop-p : goal.invariant-loop-p

@@ -1,9 +1,6 @@
 use mathlib.Core.Path.{◌≡◌}
-use Prim.Native.Nat.{◌≤◌, ◌-◌}
 use native.Mathlib.Omega.{arith}
 use borrow.Author.Rules.{rules}
-use lib.ListN.{length}
-use Rattle.sets.specs.Bounded.{filled_by}
 use Rattle.sets.proofs.Fills.{filled_none, filled_more}
 use Rattle.tables.specs.Fields.{masks_from}
 use Rattle.tables.proofs.copy_masks.Goals as goal

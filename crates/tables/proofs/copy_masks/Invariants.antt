@@ -1,11 +1,8 @@
 -- `tables::copy_masks` meets its contract: before each turn the first i places hold masks, the rest is as it was.
 use mathlib.Core.Path.{◌≡◌}
 use Prim.Native.Nat.{◌≤◌, ◌-◌}
-use native.Mathlib.Omega.{arith}
-use borrow.Author.Rules.{rules}
 use lib.ListN.{length}
 use Rattle.sets.specs.Bounded.{filled_by}
-use Rattle.sets.proofs.Fills.{filled_none, filled_more}
 use Rattle.tables.specs.Fields.{masks_from}
 use Rattle.tables.proofs.copy_masks.Given as goal
 

@@ -2,7 +2,6 @@
 use mathlib.Core.Path.{refl}
 use Prim.Native.Nat.{◌*◌, ◌≤◌}
 use native.Mathlib.Omega.{arith}
-use borrow.Author.Rules.{rules}
 use Rattle.games.specs.Format.{max_moves}
 use Rattle.games.specs.Words.{game}
 use Rattle.games.proofs.Limits.{moves_below}

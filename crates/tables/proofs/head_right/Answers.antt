@@ -1,5 +1,4 @@
 -- `tables::head_right` meets its contract: the two tests joined.
-use borrow.Author.Rules.{rules}
 use Rattle.tables.specs.Check.{head_right}
 use Rattle.tables.proofs.head_right.Goals as goal
 

@@ -1,6 +1,5 @@
 -- `tables::head_word` meets its contract: products and sums fit, since the numbers are within the limits and the bit is one bit.
 use native.Mathlib.Omega.{arith}
-use borrow.Author.Rules.{rules}
 use Rattle.games.proofs.Places.{parked_words_lem}
 use Rattle.tables.proofs.head_word.Goals as goal
 

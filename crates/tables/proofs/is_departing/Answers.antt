@@ -1,15 +1,11 @@
-use mathlib.Core.Bool.{false, not}
 use mathlib.Core.Path.{◌≡◌, sym, ◌∙◌}
-use Prim.Native.Nat.{◌+◌, ◌*◌, ◌≤◌, ◌<◌, ◌-◌}
+use Prim.Native.Nat.{◌+◌, ◌*◌, ◌<◌}
 use native.Mathlib.Omega.{arith}
 use borrow.Author.Rules.{rules}
-use borrow.Author.Tests.{eq-eqb, ne_eqb, not-true, not-false}
-use lib.Dec.{eqb}
-use lib.ListN.{length, get_or}
+use borrow.Author.Tests.{eq-eqb, ne_eqb}
+use lib.ListN.{length}
 use Rattle.sets.proofs.Logic.{or_false_intro}
 use Rattle.sets.proofs.Bounded.{any_zero, any_more}
-use Rattle.sets.specs.Bounded.{any}
-use Rattle.games.specs.Fields.{low_field}
 use Rattle.games.specs.Format.{max_moves}
 use Rattle.games.proofs.Limits.{slot_below, moves_below}
 use Rattle.tables.proofs.Checks.{not_parked, departs_by, departs_never}

@@ -1,6 +1,5 @@
 -- `tables::is_faulty` meets its contract: the two tests joined.
 use native.Mathlib.Omega.{arith}
-use borrow.Author.Rules.{rules}
 use Rattle.tables.proofs.Checks.{faulty_is}
 use Rattle.tables.proofs.is_faulty.Goals as goal
 

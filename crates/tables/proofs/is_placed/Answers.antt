@@ -1,7 +1,6 @@
 -- `tables::is_placed` meets its contract: the word compared with that of its place.
 use mathlib.Core.Path.{◌≡◌, ap, ◌∙◌}
 use native.Mathlib.Omega.{arith}
-use borrow.Author.Rules.{rules}
 use Rattle.games.specs.Places.{place_at}
 use Rattle.games.specs.declared.Shape.{Shape}
 use Rattle.games.proofs.Places.{place_within}

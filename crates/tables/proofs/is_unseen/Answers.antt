@@ -1,12 +1,9 @@
-use mathlib.Core.Bool.{false}
 use mathlib.Core.Path.{◌≡◌, sym, ◌∙◌}
-use Prim.Native.Nat.{◌≤◌, ◌-◌}
 use native.Mathlib.Omega.{arith}
 use borrow.Author.Rules.{rules}
 use lib.ListN.{get_or}
 use Rattle.sets.proofs.Logic.{or_false_intro}
 use Rattle.sets.proofs.Bounded.{any_zero, any_more}
-use Rattle.sets.specs.Bounded.{any}
 use Rattle.sets.specs.Mask.{member}
 use Rattle.tables.specs.Fields.{game_of}
 use Rattle.tables.proofs.Checks.{seen_at, seen_none}

@@ -1,16 +1,10 @@
 -- `tables::is_unseen` meets its contract: before each turn no observation so far is shown.
 use mathlib.Core.Bool.{false}
-use mathlib.Core.Path.{◌≡◌, sym, ◌∙◌}
+use mathlib.Core.Path.{◌≡◌}
 use Prim.Native.Nat.{◌≤◌, ◌-◌}
-use native.Mathlib.Omega.{arith}
-use borrow.Author.Rules.{rules}
 use lib.ListN.{get_or}
-use Rattle.sets.proofs.Logic.{or_false_intro}
-use Rattle.sets.proofs.Bounded.{any_zero, any_more}
 use Rattle.sets.specs.Bounded.{any}
 use Rattle.sets.specs.Mask.{member}
-use Rattle.tables.specs.Fields.{game_of}
-use Rattle.tables.proofs.Checks.{seen_at, seen_none}
 use Rattle.tables.proofs.is_unseen.Given as goal
 
 abbrev pub invariant-loop-j : goal.invariant-loop-j

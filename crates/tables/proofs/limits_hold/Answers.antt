@@ -1,5 +1,4 @@
 -- `tables::limits_hold` meets its contract: the three tests joined.
-use borrow.Author.Rules.{rules}
 use Rattle.tables.specs.Check.{limits_hold}
 use Rattle.tables.proofs.limits_hold.Goals as goal
 

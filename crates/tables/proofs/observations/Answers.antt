@@ -1,6 +1,5 @@
 -- `tables::observations` meets its contract: the head's number.
 use mathlib.Core.Path.{ap}
-use borrow.Author.Rules.{rules}
 use Rattle.games.specs.Words.{game}
 use Rattle.games.specs.declared.Shape.{Shape}
 use Rattle.tables.proofs.observations.Goals as goal

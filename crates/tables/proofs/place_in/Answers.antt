@@ -1,7 +1,6 @@
 -- `tables::place_in` meets its contract: the place for the head's numbers, which are small.
 use mathlib.Core.Path.{ap, ◌∙◌}
 use native.Mathlib.Omega.{arith}
-use borrow.Author.Rules.{rules}
 use Rattle.games.specs.Places.{place_of}
 use Rattle.games.specs.declared.Shape.{Shape}
 use Rattle.tables.proofs.place_in.Goals as goal

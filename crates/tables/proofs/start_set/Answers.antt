@@ -1,5 +1,4 @@
 -- `tables::start_set` meets its contract: the start states that show the observation.
-use borrow.Author.Rules.{rules}
 use Rattle.games.specs.Verdict.{start_sets, start_set}
 use Rattle.games.specs.Words.{game}
 use Rattle.tables.proofs.start_set.Goals as goal

@@ -1,5 +1,4 @@
 -- `tables::start_sets` meets its contract: one set for each observation.
-use borrow.Author.Rules.{rules}
 use Rattle.games.specs.Verdict.{start_sets}
 use Rattle.tables.proofs.start_sets.Goals as goal
 
