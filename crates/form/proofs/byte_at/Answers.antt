@@ -2,7 +2,6 @@ use mathlib.Core.Path.{◌≡◌, sym, refl}
 use mathlib.Core.List.{List, [], ◌∷◌}
 use Prim.Native.Nat.{ℕ, zero, suc, ◌<◌}
 use lib.ListN.{length, get_or, get_or-eq_default}
-use borrow.Author.Rules.{rules}
 use native.Mathlib.Omega.{arith}
 use Rattle.form.specs.Form.{byte_at}
 use Rattle.form.proofs.byte_at.Goals as goal
@@ -17,7 +16,7 @@ overflow_cast-result c = omega (arith, c.shared_slice_known-1.given c.args.at)
 
 pub returns-then-at-t : goal.returns-then-at-t
 unfolding byte_at
-returns-then-at-t c = other _ 0 256 c.if-at-t.true
+returns-then-at-t c = other c.args.t.now c.args.at 0 256 c.if-at-t.true
 
 pub returns-else-at-t : goal.returns-else-at-t
 unfolding byte_at

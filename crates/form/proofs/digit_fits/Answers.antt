@@ -1,7 +1,6 @@
 -- `form::digit_fits` meets its contract.
 use mathlib.Core.Path.{sym}
 use Prim.Native.Nat.{◌-◌, ◌*◌, ◌≤◌}
-use borrow.Author.Rules.{rules}
 use native.Mathlib.Omega.{arith}
 use Rattle.form.proofs.Steps.{no_digit, past_digit, digit_range, scaled}
 use Rattle.form.proofs.digit_fits.Goals as goal

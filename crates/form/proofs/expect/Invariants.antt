@@ -1,11 +1,7 @@
 -- `form::expect` meets its contract.
 use Prim.Native.Nat.{◌-◌}
-use mathlib.Core.Path.{sym, ◌∙◌}
-use borrow.Author.Rules.{rules}
-use borrow.Author.Tests.{not-true, not-false}
-use native.Mathlib.Omega.{arith}
 use lib.ListN.{length}
-use Rattle.form.proofs.Steps.{InWord, in_word_none, in_word_more, passes_stopped, passes_missed, passes_done}
+use Rattle.form.proofs.Steps.{InWord}
 use Rattle.form.proofs.expect.Given as goal
 
 abbrev pub invariant-loop-j : goal.invariant-loop-j

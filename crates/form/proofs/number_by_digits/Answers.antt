@@ -1,14 +1,13 @@
 use Prim.Native.Nat.{◌≤◌, ◌<◌}
 use native.Mathlib.Nat.{div-le_self}
 use mathlib.Core.Path.{sym, ◌∙◌}
-use borrow.Author.Rules.{rules}
 use borrow.Author.Tests.{not-true, not-false}
 use native.Mathlib.Omega.{arith}
-use Rattle.form.proofs.Steps.{InNumber, in_number_none, in_number_more, gives_stopped, gives_missed, gives_done, digit_of_lem}
+use Rattle.form.proofs.Steps.{in_number_none, in_number_more, gives_stopped, gives_missed, gives_done, digit_of_lem}
 use Rattle.form.proofs.number_by_digits.Goals as goal
 
 pub returns-then-not-c : goal.returns-then-not-c
-returns-then-not-c c = gives_stopped _ _ _ _ _ _ c.if-not-c.true c.requires.0
+returns-then-not-c c = gives_stopped _ _ _ _ _ _ (not-true _ c.if-not-c.true) c.requires.0
 
 pub loop-r-init : goal.loop-r-init
 loop-r-init c = in_number_none _ _ _ _ _ _ _ c.requires.3 c.requires.4 c.requires.0
@@ -21,7 +20,7 @@ digit_fits-requires c =
 pub returns-then-not-digit_fits : goal.returns-then-not-digit_fits
 returns-then-not-digit_fits c =
     gives_missed c.args.t.now c.args.base c.args.lo c.args.hi c.args.width c.loop-r.at c.loop-r.v c.loop-r.r c.loop-r.w c.byte_at-b.result c.args.c
-    c.if-not-c.false c.loop-r.invariant c.loop-r-test.true c.requires.1
+    (not-false _ c.if-not-c.false) c.loop-r.invariant c.loop-r-test.true c.requires.1
     c.byte_at-b.ensures (sym c.digit_fits.ensures ∙ c.if-not-digit_fits.true)
 
 pub overflow_sub-v : goal.overflow_sub-v
@@ -32,18 +31,25 @@ overflow_sub-v c =
 pub overflow_mul-v : goal.overflow_mul-v
 overflow_mul-v c =
     let tiny : c.args.hi < 100000 = omega (arith, c.requires.4, c.requires.5) in
-    let i = loop-again c in
+    let i = in_number_more c.args.t.now c.args.base c.args.lo c.args.hi c.args.width c.args.c.at c.loop-r.at c.loop-r.v c.loop-r.r c.loop-r.w c.byte_at-b.result
+    c.loop-r.invariant c.loop-r-test.true c.requires.1 c.requires.2 tiny
+    c.byte_at-b.ensures (sym c.digit_fits.ensures ∙ c.if-not-digit_fits.false) in
     omega (arith, i.small, tiny)
 
 pub overflow_add-v : goal.overflow_add-v
 overflow_add-v c =
     let tiny : c.args.hi < 100000 = omega (arith, c.requires.4, c.requires.5) in
-    let i = loop-again c in
+    let i = in_number_more c.args.t.now c.args.base c.args.lo c.args.hi c.args.width c.args.c.at c.loop-r.at c.loop-r.v c.loop-r.r c.loop-r.w c.byte_at-b.result
+    c.loop-r.invariant c.loop-r-test.true c.requires.1 c.requires.2 tiny
+    c.byte_at-b.ensures (sym c.digit_fits.ensures ∙ c.if-not-digit_fits.false) in
     omega (arith, i.small, tiny)
 
 pub overflow_add-at : goal.overflow_add-at
 overflow_add-at c =
-    let i = loop-again c in
+    let tiny : c.args.hi < 100000 = omega (arith, c.requires.4, c.requires.5) in
+    let i = in_number_more c.args.t.now c.args.base c.args.lo c.args.hi c.args.width c.args.c.at c.loop-r.at c.loop-r.v c.loop-r.r c.loop-r.w c.byte_at-b.result
+    c.loop-r.invariant c.loop-r-test.true c.requires.1 c.requires.2 tiny
+    c.byte_at-b.ensures (sym c.digit_fits.ensures ∙ c.if-not-digit_fits.false) in
     omega (arith, i.within)
 
 pub loop-r-preserved : goal.loop-r-preserved
@@ -56,4 +62,4 @@ loop-r-preserved c =
 pub returns : goal.returns
 returns c =
     gives_done c.args.t.now c.args.base c.args.lo c.args.hi c.args.width c.loop-r.at c.loop-r.v c.loop-r.r c.loop-r.w c.args.c
-    c.if-not-c.false c.loop-r.invariant c.loop-r-test.false
+    (not-false _ c.if-not-c.false) c.loop-r.invariant c.loop-r-test.false

@@ -1,7 +1,6 @@
-use Prim.Native.Nat.{◌*◌, ◌-◌, ◌≤◌}
+use Prim.Native.Nat.{◌*◌, ◌≤◌}
 use native.Mathlib.Omega.{arith}
-use borrow.Author.Rules.{rules}
-use Rattle.form.proofs.Values.{Begun, begun_none, begun_scaled, begun_more, begun_end}
+use Rattle.form.proofs.Values.{begun_none, begun_scaled, begun_more, begun_end}
 use Rattle.form.proofs.value_at.Goals as goal
 
 pub loop-i-init : goal.loop-i-init

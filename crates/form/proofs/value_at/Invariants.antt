@@ -1,8 +1,6 @@
 -- `form::value_at` meets its contract. The loop's invariant: i digits are read, the number v.
-use Prim.Native.Nat.{◌*◌, ◌-◌, ◌≤◌}
-use native.Mathlib.Omega.{arith}
-use borrow.Author.Rules.{rules}
-use Rattle.form.proofs.Values.{Begun, begun_none, begun_scaled, begun_more, begun_end}
+use Prim.Native.Nat.{◌-◌}
+use Rattle.form.proofs.Values.{Begun}
 use Rattle.form.proofs.value_at.Given as goal
 
 abbrev pub invariant-loop-i : goal.invariant-loop-i
