@@ -1,7 +1,7 @@
 //! Builds and links the proved archive.
 //!
-//! `KIRDANZUG_ARCHIVE` may name a folder that already holds libabi.a; otherwise `rt staticlib abi`
-//! is run in the repository's root and writes target/staticlib/libabi.a.
+//! `KIRDANZUG_ARCHIVE` may name a folder that already holds libabi.a; otherwise `rt lib abi`
+//! is run in the repository's root and writes crates/abi/out/libabi.a.
 
 use std::env;
 use std::path::{Path, PathBuf};
@@ -24,16 +24,21 @@ fn main() {
     println!("cargo:rustc-env=KIRDANZUG_ARCHIVE_FOLDER={}", folder.display());
 }
 
-/// Runs `rt staticlib abi` in the repository's root; answers the folder of the archive.
+/// Runs `rt lib abi` in the repository's root; answers the folder of the archive.
 fn build_archive() -> PathBuf {
     let manifest = env::var("CARGO_MANIFEST_DIR").expect("cargo sets CARGO_MANIFEST_DIR");
     let root = Path::new(&manifest).parent().expect("rust/ has a parent");
-    println!("cargo:rerun-if-changed={}", root.join("crates").display());
+    // Not all of crates/: what `rt` makes there, in each crate's out/, changes by this very run.
+    for crate_folder in std::fs::read_dir(root.join("crates")).expect("crates/ is there") {
+        for part in ["src", "specs", "proofs"] {
+            println!("cargo:rerun-if-changed={}", crate_folder.as_ref().expect("a folder").path().join(part).display());
+        }
+    }
     println!("cargo:rerun-if-changed={}", root.join("crates.txt").display());
-    let run = Command::new("rt").args(["staticlib", "abi"]).current_dir(root).output();
+    let run = Command::new("rt").args(["lib", "abi"]).current_dir(root).output();
     let output = run.expect("rt cannot be started");
     let text = String::from_utf8_lossy(&output.stdout).into_owned()
         + &String::from_utf8_lossy(&output.stderr);
-    assert!(output.status.success(), "rt staticlib abi failed:\n{text}");
-    root.join("target").join("staticlib")
+    assert!(output.status.success(), "rt lib abi failed:\n{text}");
+    root.join("crates").join("abi").join("out")
 }

@@ -87,8 +87,8 @@ fn folder(name: &str) -> PathBuf {
     if folder.exists() {
         std::fs::remove_dir_all(&folder).expect("the folder of the last run goes");
     }
-    std::fs::create_dir_all(folder.join("target")).expect("the folder can be made");
-    for (from, to) in [("include", root().join("include")), ("rust", root().join("rust")), ("target/staticlib", ARCHIVE.into())] {
+    std::fs::create_dir_all(folder.join("crates/abi")).expect("the folder can be made");
+    for (from, to) in [("include", root().join("include")), ("rust", root().join("rust")), ("crates/abi/out", ARCHIVE.into())] {
         symlink(to, folder.join(from)).expect("a link can be made");
     }
     folder
@@ -122,7 +122,7 @@ fn build_and_run(section: &str) {
         std::fs::write(&path, &block.text).expect("the file can be written");
     }
     let commands: Vec<&str> = the(&blocks, section, "sh").text.lines().collect();
-    assert_eq!(commands[0], "rt staticlib abi", "the archive comes first");
+    assert_eq!(commands[0], "rt lib abi", "the archive comes first");
     let printed: String = commands[1..].iter().map(|line| run_line(&folder, line)).collect();
     assert_eq!(printed, the(&blocks, section, "text").text, "{section}");
 }
@@ -363,7 +363,7 @@ void begin(void)
 fn what_runs_a_card_needs_nothing() {
     let folder = folder("bare");
     let link = "cc -std=c11 -Wall -Wextra -Iinclude -nostdlib -static -Wl,--gc-sections -Wl,-e,begin -o bare bare.c \
-                target/staticlib/libabi.a";
+                crates/abi/out/libabi.a";
     std::fs::write(folder.join("bare.c"), BARE).expect("the file can be written");
     run_line(&folder, link);
     let more = BARE.replace("kirdanzug_show(table, 10, card, 6, 0,", "kirdanzug_rewrite(table, 10, actions, 1,");

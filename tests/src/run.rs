@@ -31,7 +31,7 @@ pub fn report(line: &str) {
     std::io::stderr().write_all(line.as_bytes()).expect("standard error is open");
 }
 
-/// A proved program: the one that the variable names, or `name` of ../target/bin; nothing, and a line, where that
+/// A proved program: the one that the variable names, or ../crates/NAME/out/NAME; nothing, and a line, where that
 /// has not been built.
 pub fn program(variable: &str, name: &str) -> Option<PathBuf> {
     let path = match std::env::var_os(variable).map(PathBuf::from) {
@@ -39,7 +39,7 @@ pub fn program(variable: &str, name: &str) -> Option<PathBuf> {
             assert!(path.exists(), "{variable} names {}, which is missing", path.display());
             path
         }
-        None => Path::new(env!("CARGO_MANIFEST_DIR")).join("../target/bin").join(name),
+        None => Path::new(env!("CARGO_MANIFEST_DIR")).join("../crates").join(name).join("out").join(name),
     };
     if !path.exists() {
         report(&format!("skipped: {} does not exist", path.display()));

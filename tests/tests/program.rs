@@ -1,5 +1,5 @@
 //! The solving program against the oracle's text: bytes on standard input, text on standard output.
-//! KIRDANZUG_SOLVE names the program; otherwise it is ../target/bin/solve.
+//! KIRDANZUG_SOLVE names the program; otherwise it is ../crates/solve/out/solve.
 
 use kirdanzug_tests::gen::{self, Rng, SHAPES};
 use kirdanzug_tests::oracle;

@@ -43,7 +43,7 @@ fn shell(folder: &Path, lines: &str) -> String {
 
 /// The solving program; none where it wasn't built and nobody asked for it.
 fn program() -> Option<PathBuf> {
-    let program = std::env::var_os("KIRDANZUG_SOLVE").map(PathBuf::from).unwrap_or(root().join("target/bin/solve"));
+    let program = std::env::var_os("KIRDANZUG_SOLVE").map(PathBuf::from).unwrap_or(root().join("crates/solve/out/solve"));
     if !program.exists() {
         assert!(std::env::var_os("KIRDANZUG_SOLVE").is_none(), "KIRDANZUG_SOLVE names {}, which is missing", program.display());
         eprintln!("skipped: {} does not exist", program.display());
@@ -56,8 +56,8 @@ fn program() -> Option<PathBuf> {
 fn folder() -> Option<PathBuf> {
     let program = program()?;
     let folder = std::env::temp_dir().join(format!("kirdanzug-readme-{}", std::process::id()));
-    fs::create_dir_all(folder.join("target/bin")).expect("a folder for the test");
-    fs::copy(program, folder.join("target/bin/solve")).expect("the program is copied");
+    fs::create_dir_all(folder.join("crates/solve/out")).expect("a folder for the test");
+    fs::copy(program, folder.join("crates/solve/out/solve")).expect("the program is copied");
     fs::create_dir_all(folder.join("tables")).expect("a folder for the tables");
     fs::copy(root().join("tables/A"), folder.join("tables/A")).expect("tables/A is copied");
     Some(folder)
@@ -69,7 +69,7 @@ fn readme_first_hour_works() {
     let page = fs::read_to_string(root().join("README.md")).expect("README.md is there");
     let blocks = blocks(&page);
 
-    let first = block(&blocks, "sh", "rt check solve");
+    let first = block(&blocks, "sh", "rt run solve");
     let solve = first.split("&& ").nth(1).expect("the first command solves a station");
     let answers: Vec<_> = blocks.iter().filter(|(_, text)| text.starts_with("yes ")).map(|(_, text)| text).collect();
     assert_eq!(answers.len(), 2, "the page has two answers");

@@ -1,6 +1,6 @@
 //! The walk over a set's members (document 02, change 4), by the program `walk_vectors`, which prints it for every
 //! set and action of the tables on its standard input. KIRDANZUG_WALKS names the program; otherwise it is
-//! ../target/bin/walk_vectors.
+//! ../crates/walk_vectors/out/walk_vectors.
 
 use kirdanzug_tests::game::{Game, Walk};
 use kirdanzug_tests::gen::{self, Rng, SHAPES};
