@@ -1,6 +1,5 @@
 -- `fields::check_fields` meets its contract: one check after the other.
 use mathlib.Core.Path.{◌≡◌, sym, ◌∙◌}
-use borrow.Author.Rules.{rules}
 use Rattle.games.specs.declared.Checked.TheVariants.{Fine}
 use Rattle.tables.specs.Check.{sets_checked}
 use Rattle.tables.specs.Fields.{game_of}

@@ -1,9 +1,7 @@
 use mathlib.Core.Path.{◌≡◌, sym, ap, ◌∙◌}
-use Prim.Native.Nat.{◌≤◌, ◌-◌}
 use native.Mathlib.Omega.{arith}
 use borrow.Author.Rules.{rules}
 use Rattle.sets.proofs.Bounded.{first_skip}
-use Rattle.sets.specs.Bounded.{first, nothing}
 use Rattle.games.specs.Places.{table_length}
 use Rattle.fields.specs.Write.{words_length, wide_at}
 use Rattle.fields.proofs.Laws.{masks_none, wide_at_lem, narrow_at, masks_wide, masks_fine}

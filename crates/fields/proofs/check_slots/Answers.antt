@@ -3,8 +3,6 @@ use mathlib.Core.Bool.{true}
 use mathlib.Core.Path.{◌≡◌, sym, ap, ◌∙◌}
 use Prim.Native.Nat.{◌*◌, ◌≤◌}
 use native.Mathlib.Omega.{arith}
-use borrow.Author.Rules.{rules}
-use borrow.Author.Tests.{not-true, not-false}
 use Rattle.games.specs.Format.{max_moves}
 use Rattle.games.proofs.Limits.{moves_below}
 use Rattle.tables.specs.Check.{limits_hold}

@@ -2,7 +2,6 @@
 use mathlib.Core.Path.{◌≡◌, sym, ap, ◌∙◌}
 use Prim.Native.Nat.{◌+◌, ◌*◌, ◌<◌}
 use native.Mathlib.Omega.{arith}
-use borrow.Author.Rules.{rules}
 use Rattle.games.specs.Format.{max_moves}
 use Rattle.games.specs.Places.{place_at, Within}
 use Rattle.games.specs.declared.Shape.{Shape}

@@ -1,11 +1,7 @@
 use mathlib.Core.Path.{◌≡◌, sym, ◌∙◌}
-use mathlib.Core.Bool.{true}
-use Prim.Native.Nat.{◌≤◌, ◌-◌}
 use native.Mathlib.Omega.{arith}
 use borrow.Author.Rules.{rules}
-use borrow.Author.Tests.{not-true, not-false}
 use lib.ListN.{length}
-use Rattle.sets.specs.Bounded.{all}
 use Rattle.sets.proofs.Bounded.{all_zero, all_more}
 use Rattle.sets.proofs.Logic.{and_intro}
 use Rattle.fields.specs.Write.{slot_clean}

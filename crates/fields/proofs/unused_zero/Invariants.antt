@@ -1,16 +1,10 @@
 -- `fields::unused_zero` meets its contract: before each turn each slot so far is used or 0.
-use mathlib.Core.Path.{◌≡◌, sym, ◌∙◌}
+use mathlib.Core.Path.{◌≡◌}
 use mathlib.Core.Bool.{true}
 use Prim.Native.Nat.{◌≤◌, ◌-◌}
-use native.Mathlib.Omega.{arith}
-use borrow.Author.Rules.{rules}
-use borrow.Author.Tests.{not-true, not-false}
 use lib.ListN.{length}
 use Rattle.sets.specs.Bounded.{all}
-use Rattle.sets.proofs.Bounded.{all_zero, all_more}
-use Rattle.sets.proofs.Logic.{and_intro}
 use Rattle.fields.specs.Write.{slot_clean}
-use Rattle.fields.proofs.Laws.{unused_dirty, unused_clean}
 use Rattle.fields.proofs.unused_zero.Given as goal
 
 abbrev pub invariant-loop-j : goal.invariant-loop-j

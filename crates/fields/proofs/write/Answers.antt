@@ -1,12 +1,6 @@
 -- `fields::write` meets its contract: a refusal, or the words; what was written is read back.
-use mathlib.Core.Path.{◌≡◌, sym, ◌∙◌}
-use mathlib.Core.List.{List}
-use Prim.Native.Nat.{ℕ}
+use mathlib.Core.Path.{sym, ◌∙◌}
 use borrow.Author.Rules.{rules}
-use Rattle.games.specs.Answers.{leaves}
-use Rattle.games.specs.declared.Written.{Written}
-use Rattle.fields.specs.RoundTrip.{ReadsBack}
-use Rattle.fields.specs.Write.{write_of}
 use Rattle.fields.proofs.Laws.{slots_limited, fields_passed, write_refused, write_fine}
 use Rattle.fields.proofs.RoundTrip.{reads_back}
 use Rattle.fields.proofs.write.Goals as goal
@@ -18,10 +12,10 @@ write_words-requires c =
 
 pub returns-in-Refused : goal.returns-in-Refused
 returns-in-Refused c =
-    let both : {r : Written} {out : List ℕ} → leaves r out ≡ write_of c.args.f c.args.out.now → (leaves r out ≡ write_of c.args.f c.args.out.now) × ReadsBack c.args.f r out = λ e. (e, reads_back c.args.f c.args.out.now (search rules) (search rules) e) in
-    both (write_refused c.args.f _ _ c.args.out.now (sym c.check_fields.ensures ∙ c.in-Refused.is))
+    let told = write_refused c.args.f _ _ c.args.out.now (sym c.check_fields.ensures ∙ c.in-Refused.is) in
+    record { answers = told; read_back = reads_back c.args.f c.args.out.now (search rules) (search rules) told }
 
 pub returns-in-Fine : goal.returns-in-Fine
 returns-in-Fine c =
-    let both : {r : Written} {out : List ℕ} → leaves r out ≡ write_of c.args.f c.args.out.now → (leaves r out ≡ write_of c.args.f c.args.out.now) × ReadsBack c.args.f r out = λ e. (e, reads_back c.args.f c.args.out.now (search rules) (search rules) e) in
-    both (c.write_words.ensures ∙ sym (write_fine c.args.f c.args.out.now (sym c.check_fields.ensures ∙ c.in-Fine.is)))
+    let told = c.write_words.ensures ∙ sym (write_fine c.args.f c.args.out.now (sym c.check_fields.ensures ∙ c.in-Fine.is)) in
+    record { answers = told; read_back = reads_back c.args.f c.args.out.now (search rules) (search rules) told }

@@ -1,9 +1,6 @@
 use mathlib.Core.Path.{◌≡◌, ap, ◌∙◌}
-use Prim.Native.Nat.{◌≤◌, ◌-◌}
 use native.Mathlib.Omega.{arith}
 use borrow.Author.Rules.{rules}
-use lib.ListN.{length}
-use Rattle.sets.specs.Bounded.{filled_by}
 use Rattle.sets.proofs.Fills.{filled_none, filled_more}
 use Rattle.games.specs.Places.{table_length}
 use Rattle.fields.specs.Write.{word_at, words_length}

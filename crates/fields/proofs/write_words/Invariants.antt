@@ -1,14 +1,9 @@
 -- `fields::write_words` meets its contract: before each turn the first p places hold words, the rest is as it was.
-use mathlib.Core.Path.{◌≡◌, ap, ◌∙◌}
+use mathlib.Core.Path.{◌≡◌}
 use Prim.Native.Nat.{◌≤◌, ◌-◌}
-use native.Mathlib.Omega.{arith}
-use borrow.Author.Rules.{rules}
 use lib.ListN.{length}
 use Rattle.sets.specs.Bounded.{filled_by}
-use Rattle.sets.proofs.Fills.{filled_none, filled_more}
-use Rattle.games.specs.Places.{table_length}
-use Rattle.fields.specs.Write.{word_at, words_length}
-use Rattle.fields.proofs.Laws.{written_none, written_done}
+use Rattle.fields.specs.Write.{word_at}
 use Rattle.fields.proofs.write_words.Given as goal
 
 abbrev pub invariant-loop-p : goal.invariant-loop-p
