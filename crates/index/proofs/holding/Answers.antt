@@ -1,9 +1,8 @@
 -- `index::holding` meets its contract: the empty set, a set that is noted, a set that is in no cell, and the number of the tightest cell.
 use borrow.Author.Rules.{rules}
-use borrow.Author.Tests.{not-true, not-false}
 use mathlib.Core.Bool.{true}
 use mathlib.Core.Path.{◌≡◌, sym, ap, ◌∙◌, subst}
-use Prim.Native.Nat.{ℕ, ◌+◌, ◌-◌, ◌/◌, ◌<◌}
+use Prim.Native.Nat.{ℕ, ◌+◌, ◌/◌, ◌<◌}
 use native.Mathlib.Omega.{arith}
 use lib.ListN.{length, get_or}
 use Rattle.sets.specs.Bounded.{count}
@@ -87,8 +86,7 @@ returns c =
     let number : get_or c.args.work.now (c.args.base + c.tightest-s.result) 0 ≡ 1 + count c.tightest-s.result (has c.args.tops.now) = c.requires.1.cells c.tightest-s.result c.tightest-s.ensures.is_cell in
     let l = sets c.args.tops.now in
     let k = number in
-    let only = holding_only l c.args.t c.if-t-eq0.false _ cell in
-    (
+    let only = holding_only l c.args.t c.if-t-eq0.false _ cell in (
       held_cell l c.args.t _ found_held (omega (arith, k, only)),
       noted_more c.args.tops.now c.args.base c.args.work.now c.requires.1 c.args.t c.requires.3 c.if-note-ne0.false _ found_held (omega (arith, k, only)),
     )

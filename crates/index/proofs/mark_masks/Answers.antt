@@ -1,9 +1,6 @@
-use borrow.Author.Rules.{rules}
 use mathlib.Core.Path.{sym, ◌∙◌}
-use Prim.Native.Nat.{◌-◌, ◌≤◌}
 use native.Mathlib.Omega.{arith}
-use Rattle.index.specs.Index.{mask_count}
-use Rattle.index.proofs.Marking.{Masking, masking_none, masking_more, masking_end}
+use Rattle.index.proofs.Marking.{masking_none, masking_more, masking_end}
 use Rattle.index.proofs.mark_masks.Goals as goal
 
 pub loop-i-init : goal.loop-i-init

@@ -1,10 +1,7 @@
 -- `index::mark_masks` meets its contract. The loop's invariant: the masks below place i are written.
-use borrow.Author.Rules.{rules}
-use mathlib.Core.Path.{sym, ◌∙◌}
 use Prim.Native.Nat.{◌-◌, ◌≤◌}
-use native.Mathlib.Omega.{arith}
 use Rattle.index.specs.Index.{mask_count}
-use Rattle.index.proofs.Marking.{Masking, masking_none, masking_more, masking_end}
+use Rattle.index.proofs.Marking.{Masking}
 use Rattle.index.proofs.mark_masks.Given as goal
 
 abbrev pub invariant-loop-i : goal.invariant-loop-i

@@ -1,5 +1,4 @@
 -- `index::mask_at` meets its contract: by the two kinds of masks.
-use borrow.Author.Rules.{rules}
 use mathlib.Core.Path.{sym, ◌∙◌}
 use native.Mathlib.Omega.{arith}
 use Rattle.index.proofs.Marking.{mask_set, mask_size}

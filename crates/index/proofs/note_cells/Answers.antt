@@ -1,7 +1,7 @@
 use borrow.Author.Rules.{rules}
 use mathlib.Core.List.{List}
 use mathlib.Core.Path.{◌≡◌, refl, sym, ◌∙◌, subst}
-use Prim.Native.Nat.{ℕ, ◌+◌, ◌-◌, ◌≤◌, ◌<◌}
+use Prim.Native.Nat.{ℕ, ◌+◌, ◌-◌, ◌<◌}
 use native.Mathlib.Omega.{arith}
 use lib.ListN.{length, get_or, take, drop, set, length-set}
 use borrow.Rule.Slice.PartMut.{put_mid, same_len_mid, mid_len}
@@ -36,9 +36,7 @@ loop-c-init c =
     let mid : List ℕ = put_mid c.args.base (end - c.args.base) c.args.work.now c.fill.new.d in
     let mid_long : length mid ≡ length c.args.work.now = same_len_mid c.args.base (end - c.args.base) c.args.work.now c.fill.new.d c.fill.auto.d in
     let out_long : length c.write-count.new.out ≡ length c.args.work.now = c.write-count.auto.out ∙ mid_long in
-    let =.before c in
-    let x = start.args in
-    (search rules, refl, noting_none x.tops.now x.base x.work.now c.fill.new.d start.requires end refl c.fill.ensures c.write-count.result c.write-count.ensures.0 c.write-count.new.out out_long c.write-count.ensures.1)
+    (search rules, refl, noting_none c.args.tops.now c.args.base c.args.work.now c.fill.new.d c.requires end refl c.fill.ensures c.write-count.result c.write-count.ensures.0 c.write-count.new.out out_long c.write-count.ensures.1)
 
 pub bounds-work-c : goal.bounds-work-c
 bounds-work-c c =

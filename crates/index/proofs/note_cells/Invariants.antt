@@ -1,13 +1,8 @@
 -- `index::note_cells` meets its contract. The loop's invariant: the first c cells are noted.
-use borrow.Author.Rules.{rules}
-use mathlib.Core.List.{List}
-use mathlib.Core.Path.{◌≡◌, refl, sym, ◌∙◌, subst}
-use Prim.Native.Nat.{ℕ, ◌+◌, ◌-◌, ◌≤◌, ◌<◌}
-use native.Mathlib.Omega.{arith}
-use lib.ListN.{length, get_or, take, drop, set, length-set}
-use borrow.Rule.Slice.PartMut.{put_mid, same_len_mid, mid_len}
-use Rattle.families.specs.Bits.{sets}
-use Rattle.index.proofs.Noting.{Noting, noting_none, noting_read, noting_below, noting_more, noting_end}
+use mathlib.Core.Path.{◌≡◌}
+use Prim.Native.Nat.{◌-◌, ◌≤◌}
+use lib.ListN.{length}
+use Rattle.index.proofs.Noting.{Noting}
 use Rattle.index.proofs.note_cells.Given as goal
 
 abbrev pub invariant-loop-c : goal.invariant-loop-c

@@ -1,12 +1,10 @@
-use borrow.Author.Rules.{rules}
 use mathlib.Core.Path.{sym, ◌∙◌}
-use Prim.Native.Nat.{◌+◌, ◌-◌, ◌/◌, ◌<◌}
+use Prim.Native.Nat.{◌/◌, ◌<◌}
 use native.Mathlib.Omega.{arith}
 use Rattle.families.specs.Bits.{lane_sets, max_lanes}
-use Rattle.games.specs.Format.{max_states}
 use Rattle.games.proofs.Holding.{count_few}
 use Rattle.index.proofs.Sizes.{by_ones}
-use Rattle.index.proofs.Climbing.{told_set, told_nothing, Climbed, own_tightest, climbed_first, fits, found_tightest, climbed_more, climbed_end}
+use Rattle.index.proofs.Climbing.{told_set, told_nothing, own_tightest, climbed_first, fits, found_tightest, climbed_more, climbed_end}
 use Rattle.index.proofs.tightest.Goals as goal
 
 pub has-requires : goal.has-requires

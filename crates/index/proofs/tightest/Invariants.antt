@@ -1,13 +1,7 @@
 -- `index::tightest` meets its contract. The loop's invariant: no cell of fewer than k states holds t.
-use borrow.Author.Rules.{rules}
-use mathlib.Core.Path.{sym, ◌∙◌}
-use Prim.Native.Nat.{◌+◌, ◌-◌, ◌/◌, ◌<◌}
-use native.Mathlib.Omega.{arith}
-use Rattle.families.specs.Bits.{lane_sets, max_lanes}
+use Prim.Native.Nat.{◌+◌, ◌-◌}
 use Rattle.games.specs.Format.{max_states}
-use Rattle.games.proofs.Holding.{count_few}
-use Rattle.index.proofs.Sizes.{by_ones}
-use Rattle.index.proofs.Climbing.{told_set, told_nothing, Climbed, own_tightest, climbed_first, fits, found_tightest, climbed_more, climbed_end}
+use Rattle.index.proofs.Climbing.{Climbed}
 use Rattle.index.proofs.tightest.Given as goal
 
 abbrev pub invariant-loop-k : goal.invariant-loop-k
