@@ -1,6 +1,5 @@
 -- `pairs::check` meets its contract: the table checks, then 13, then 16.
 use mathlib.Core.Path.{◌≡◌, sym, ◌∙◌}
-use borrow.Author.Rules.{rules}
 use Rattle.games.specs.declared.Checked.TheVariants.{Fine}
 use Rattle.tables.specs.Check.{checked as table_checked}
 use Rattle.cards.specs.Card.{checked as card_checked}

@@ -1,5 +1,4 @@
 -- `pairs::numbers_agree` meets its contract: the two tests joined.
-use borrow.Author.Rules.{rules}
 use Rattle.tables.proofs.Checks.{sized}
 use Rattle.pairs.specs.Pair.{agree}
 use Rattle.pairs.proofs.numbers_agree.Goals as goal
