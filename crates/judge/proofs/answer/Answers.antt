@@ -1,6 +1,5 @@
 -- `judge::answer` meets its contract: 17, then 5, then the action's turn.
 use native.Mathlib.Omega.{arith}
-use borrow.Author.Rules.{rules}
 use Rattle.tables.proofs.Checks.{sized}
 use Rattle.tables.proofs.Bounds.{few_states}
 use Rattle.judge.proofs.Answers.{too_many_rounds, names_no_state, is_good, not_good}

@@ -1,6 +1,5 @@
 -- `judge::judge` meets its contract: the table checks first, then the answer.
 use mathlib.Core.Path.{sym, ◌∙◌}
-use borrow.Author.Rules.{rules}
 use Rattle.judge.proofs.Answers.{table_refused, table_fine}
 use Rattle.judge.proofs.judge.Goals as goal
 
