@@ -70,10 +70,11 @@ fn readme_first_hour_works() {
     let blocks = blocks(&page);
 
     let first = block(&blocks, "sh", "rt run solve");
-    let solve = first.split("&& ").nth(1).expect("the first command solves a station");
+    // The program that the page's line proves, builds and runs has been built before the tests.
+    let solve = first.replacen("rt run solve", "crates/solve/out/solve", 1);
     let answers: Vec<_> = blocks.iter().filter(|(_, text)| text.starts_with("yes ")).map(|(_, text)| text).collect();
     assert_eq!(answers.len(), 2, "the page has two answers");
-    assert_eq!(&shell(&folder, solve), answers[0]);
+    assert_eq!(&shell(&folder, &solve), answers[0]);
 
     let words = block(&blocks, "", "10020203");
     fs::write(folder.join("tank.txt"), words).expect("tank.txt is written");
