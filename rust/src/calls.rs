@@ -70,7 +70,18 @@ fn done(call: impl FnOnce(&mut Answer)) -> Result<(u64, u64), Refusal> {
     }
 }
 
-/// The same where the first value is the length of what was written.
+/// The same of a call that writes or reads KISS2, which has refusals of its own.
+#[inline]
+fn done_with_text(call: impl FnOnce(&mut Answer)) -> Result<(u64, u64), Refusal> {
+    let mut answer = [0; 3];
+    call(&mut answer);
+    match answer {
+        [0, x, y] => Ok((x, y)),
+        [_, number, place] => Err(Refusal::new_of_text(number, place)),
+    }
+}
+
+/// The length of what a call that is done has written.
 #[inline]
 fn written(call: impl FnOnce(&mut Answer)) -> Result<usize, Refusal> {
     done(call).map(|(length, _)| length as usize)
@@ -180,7 +191,7 @@ pub fn trim<'a>(card: &[u32], work: &mut [u32], out: &'a mut [u32]) -> Result<Tr
 /// cell, a line for each observation that can occur; the cells' sets have no place in it. [`kiss_bytes`](crate::kiss_bytes)
 /// bytes are enough. [`trim`] takes off idle cells. Refused: 13, 20, 9.
 pub fn write_kiss<'a>(card: &[u32], text: &'a mut [u8]) -> Result<&'a [u8], Refusal> {
-    let length = written(|answer| raw::write_kiss(card, text, answer))?;
+    let length = done_with_text(|answer| raw::write_kiss(card, text, answer))?.0 as usize;
     Ok(&text[..length])
 }
 
@@ -188,7 +199,7 @@ pub fn write_kiss<'a>(card: &[u32], text: &'a mut [u8]) -> Result<&'a [u8], Refu
 /// that was written for every list of observations, and written again it is the same text.
 /// [`KISS_CARD_WORDS_MAX`](crate::KISS_CARD_WORDS_MAX) words are always room enough. Refused: 21, 20, 9.
 pub fn read_kiss<'a>(text: &[u8], out: &'a mut [u32]) -> Result<ReadBack<'a>, Refusal> {
-    let (length, cells) = done(|answer| raw::read_kiss(text, out, answer))?;
+    let (length, cells) = done_with_text(|answer| raw::read_kiss(text, out, answer))?;
     Ok(ReadBack { cells: cells as u32, card: &out[..length as usize] })
 }
 

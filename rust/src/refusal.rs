@@ -91,8 +91,14 @@ impl Refusal {
     /// 21: the text is not the KISS2 text of any card.
     pub const TEXT: u32 = 21;
 
-    /// The archive's refusal. It has no number but 1 to 21.
+    /// The refusal of a call that writes and reads no KISS2. It has no number but 1 to 19.
     pub(crate) fn new(number: u64, place: u64) -> Refusal {
+        assert!((1..=u64::from(Refusal::PARKED_MOVES)).contains(&number), "the archive has no refusal {number}");
+        Refusal { number: number as u32, place }
+    }
+
+    /// The refusal of a call that does. It has no number but 1 to 21.
+    pub(crate) fn new_of_text(number: u64, place: u64) -> Refusal {
         assert!((1..=TEXTS.len() as u64).contains(&number), "the archive has no refusal {number}");
         Refusal { number: number as u32, place }
     }
@@ -130,8 +136,9 @@ mod tests {
 
     #[test]
     fn every_number_has_a_text_of_its_own() {
-        for number in 1..=21 {
+        for number in 1..=19 {
             let text = Refusal::new(number, 0).text();
+            assert_eq!(text, Refusal::new_of_text(number, 0).text());
             assert!(text.contains(": "), "{text} does not say what to do");
             assert_eq!(TEXTS.iter().filter(|&&other| other == text).count(), 1, "{text}");
         }
@@ -144,8 +151,23 @@ mod tests {
     }
 
     #[test]
-    #[should_panic(expected = "no refusal 22")]
+    #[should_panic(expected = "no refusal 20")]
     fn no_other_number() {
-        Refusal::new(22, 0);
+        Refusal::new(20, 0);
+    }
+
+    #[test]
+    fn numbers_of_kiss2_have_a_text_of_their_own() {
+        for number in 20..=21 {
+            let text = Refusal::new_of_text(number, 0).text();
+            assert!(text.contains(": "), "{text} does not say what to do");
+            assert_eq!(TEXTS.iter().filter(|&&other| other == text).count(), 1, "{text}");
+        }
+    }
+
+    #[test]
+    #[should_panic(expected = "no refusal 22")]
+    fn no_other_number_of_kiss2() {
+        Refusal::new_of_text(22, 0);
     }
 }

@@ -325,7 +325,9 @@ fn named(source: &str, prefix: &str) -> BTreeSet<String> {
 fn header_and_crate_have_the_same_functions() {
     let declared = named(&read("include/kirdanzug.h"), "void kirdanzug_");
     assert_eq!(declared, named(&read("rust/src/raw.rs"), "pub fn kirdanzug_"));
-    assert_eq!(declared.len(), 16, "{declared:?}");
+    let (texts, declared): (BTreeSet<String>, BTreeSet<String>) = declared.into_iter().partition(|name| name.ends_with("_kiss"));
+    assert_eq!(declared.len(), 14, "{declared:?}");
+    assert_eq!(texts.len(), 2, "{texts:?}");
 }
 
 /// The archive needs memcpy and memset, and keeps nothing: it has no data of its own but constants.

@@ -83,7 +83,7 @@ fn oracle_gives_the_departures() {
 fn every_number_has_a_row() {
     let answers = stations::rows().map(|row| row.outcome.answer);
     let numbers: Vec<u64> = answers.filter(|answer| answer[0] == 2).map(|answer| answer[1]).collect();
-    for number in 1..=21 {
+    for number in (1..=19).chain(20..=21) {
         assert!(numbers.contains(&number), "{number} has no row");
     }
 }
