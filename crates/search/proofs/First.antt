@@ -11,7 +11,7 @@ use lib.Seq.{get_or-set_same, get_or-set_other, get_or-take}
 use lib.Pow.{pow_pos, pow_mono, pow-lt}
 use borrow.Author.Count.{below_none, below_more}
 use borrow.Author.Tests.{eq-eqb, not-true}
-use Rattle.sets.specs.Mask.{member, union, common, subset}
+use Rattle.sets.specs.Mask.{member, union, common}
 use Rattle.sets.specs.Family.{holds}
 use Rattle.sets.proofs.Logic.{or_right, and_left, and_right, and_intro, false_not, same_truth}
 use Rattle.sets.proofs.Mask.{member_beyond, member_or, member_single, member_single_other, union_lt, subset_member, subset_intro, common_zero_intro}

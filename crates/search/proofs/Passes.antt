@@ -18,7 +18,7 @@ use Rattle.sets.specs.Mask.{member, common, union, subset}
 use Rattle.sets.proofs.Logic.{decided, clash, refuted, affirmed, same_truth, and_left, and_right, and_intro, or_cases, or_false_left, or_false_right, false_not}
 use Rattle.sets.proofs.Bounded.{any_found}
 use Rattle.sets.proofs.Mask.{member_zero, member_and, member_or, member_below, member_rest, ext, subset_parts, subset_refl, subset_le, subset_add, common_lt, member_sub_other, sub_less}
-use Rattle.families.specs.Bits.{lane_sets, high_states, lanes, has, has_with, larger_has, Bits}
+use Rattle.families.specs.Bits.{lane_sets, high_states, has, has_with, larger_has, Bits}
 use Rattle.families.proofs.Lanes.{has_at, by_lane, lane_there}
 use Rattle.games.specs.Game.{Game}
 use Rattle.games.specs.Step.{step}

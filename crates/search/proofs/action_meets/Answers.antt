@@ -4,7 +4,6 @@ use Rattle.families.specs.Bits.{has}
 use Rattle.games.specs.Words.{game}
 use Rattle.tables.proofs.Checks.{accepted}
 use Rattle.moves.proofs.Posting.{posted_below, meets_blocked, meets_shown}
-use borrow.Author.Rules.{rules}
 use Rattle.search.proofs.action_meets.Goals as goal
 
 pub post-posted-requires : goal.post-posted-requires

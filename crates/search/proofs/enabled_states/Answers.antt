@@ -1,15 +1,14 @@
 use borrow.Author.Rules.{rules}
-use mathlib.Core.Logic.{⊎_elim}
 use mathlib.Core.Path.{◌≡◌, sym, subst}
-use Prim.Native.Nat.{ℕ, ◌-◌, ◌≤◌}
+use Prim.Native.Nat.{ℕ, ◌≤◌}
 use native.Mathlib.Omega.{arith}
 use Rattle.games.specs.Format.{max_states}
 use Rattle.games.specs.Words.{game}
 use Rattle.tables.proofs.Checks.{sized}
-use Rattle.search.specs.Stages.{EnabledStates}
 use Rattle.tables.proofs.Bounds.{few_states}
 use Rattle.search.proofs.First.{states_none, states_hit, states_skip}
 use Rattle.search.proofs.enabled_states.Goals as goal
+use Rattle.search.proofs.enabled_states.Goals.{then-safely_enabled, else-safely_enabled}
 
 pub states-n-requires : goal.states-n-requires
 states-n-requires c = sized c.args.table.now c.requires.0
@@ -22,14 +21,13 @@ safely_enabled-requires c = (c.requires.0, c.requires.1, omega arith)
 
 pub loop-i-preserved : goal.loop-i-preserved
 loop-i-preserved c =
-    let g = game c.args.table.now in
-    (
+    let g = game c.args.table.now in (
       c.loop-i.invariant.0,
       search rules,
-      ⊎_elim
-          (λ w. rw (w.2, w.1.ensures) (states_hit g c.args.a.0 c.loop-i.i c.loop-i.mask c.loop-i.invariant.2 (cc)))
-          (λ w. rw w.1 (states_skip g c.args.a.0 c.loop-i.i c.loop-i.mask c.loop-i.invariant.2 (cc)))
-          c.if-safely_enabled.branch,
+      elim c.if-safely_enabled.branch [
+        | then-safely_enabled w ↦ rw (w.mask-is, w.single-mask.ensures) (states_hit g c.args.a.0 c.loop-i.i c.loop-i.mask c.loop-i.invariant.2 (cc))
+        | else-safely_enabled w ↦ rw w.mask-is (states_skip g c.args.a.0 c.loop-i.i c.loop-i.mask c.loop-i.invariant.2 (cc))
+      ],
     )
 
 pub returns : goal.returns

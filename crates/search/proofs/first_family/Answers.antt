@@ -1,7 +1,7 @@
 use borrow.Author.Rules.{rules}
 use mathlib.Core.Path.{◌≡◌, sym, ◌∙◌, subst}
 use mathlib.Core.List.{List}
-use Prim.Native.Nat.{ℕ, ◌-◌, ◌≤◌}
+use Prim.Native.Nat.{ℕ, ◌≤◌}
 use native.Mathlib.Omega.{arith}
 use lib.ListN.{length, take, length-set, replicate}
 use lib.Seq.{length-take-le}
@@ -39,8 +39,7 @@ below-requires c =
     let played : Game = game c.args.table.now in
     let masks_of : List ℕ = take c.actions-actions.result c.loop-a.masks in
     let front : (length masks_of ≡ played.actions) × ByAction played played.actions masks_of = let g = played in
-    let e : c.loop-a.a ≡ g.actions = omega arith in
-    (
+    let e : c.loop-a.a ≡ g.actions = omega arith in (
       length-take-le _ _ (omega (arith, c.loop-a.invariant.2)) ∙ c.actions-actions.ensures,
       subst (λ (n : ℕ). ByAction g g.actions (take n c.loop-a.masks)) (sym c.actions-actions.ensures) (actions_front g c.loop-a.masks (rw e at c.loop-a.invariant.3)),
     ) in
@@ -59,8 +58,7 @@ returns c =
     let played : Game = game c.args.table.now in
     let masks_of : List ℕ = take c.actions-actions.result c.loop-a.masks in
     let front : (length masks_of ≡ played.actions) × ByAction played played.actions masks_of = let g = played in
-    let e : c.loop-a.a ≡ g.actions = omega arith in
-    (
+    let e : c.loop-a.a ≡ g.actions = omega arith in (
       length-take-le _ _ (omega (arith, c.loop-a.invariant.2)) ∙ c.actions-actions.ensures,
       subst (λ (n : ℕ). ByAction g g.actions (take n c.loop-a.masks)) (sym c.actions-actions.ensures) (actions_front g c.loop-a.masks (rw e at c.loop-a.invariant.3)),
     ) in

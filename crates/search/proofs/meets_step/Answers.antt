@@ -1,9 +1,6 @@
 use borrow.Author.Rules.{rules}
-use mathlib.Core.Bool.{false}
 use mathlib.Core.Path.{◌≡◌, ◌∙◌}
-use Prim.Native.Nat.{◌≤◌, ◌-◌}
 use native.Mathlib.Omega.{arith}
-use Rattle.sets.specs.Bounded.{any}
 use Rattle.sets.proofs.Bounded.{any_zero, any_more}
 use Rattle.sets.proofs.Logic.{or_false_intro}
 use Rattle.families.specs.Bits.{has}

@@ -1,17 +1,11 @@
 -- `search::meets_step` meets its contract. The loop's invariant: no action below a meets the step.
-use borrow.Author.Rules.{rules}
 use mathlib.Core.Bool.{false}
-use mathlib.Core.Path.{◌≡◌, ◌∙◌}
+use mathlib.Core.Path.{◌≡◌}
 use Prim.Native.Nat.{◌≤◌, ◌-◌}
-use native.Mathlib.Omega.{arith}
 use Rattle.sets.specs.Bounded.{any}
-use Rattle.sets.proofs.Bounded.{any_zero, any_more}
-use Rattle.sets.proofs.Logic.{or_false_intro}
 use Rattle.families.specs.Bits.{has}
 use Rattle.games.specs.Words.{game}
 use Rattle.games.specs.Step.{meets}
-use Rattle.tables.proofs.Checks.{sized}
-use Rattle.search.proofs.Turns.{step_bad, step_none, step_hit}
 use Rattle.search.proofs.meets_step.Given as goal
 
 abbrev pub invariant-loop-a : goal.invariant-loop-a

@@ -1,13 +1,11 @@
 use borrow.Author.Rules.{rules}
 use mathlib.Core.Path.{◌≡◌, sym, ◌∙◌}
-use Prim.Native.Nat.{◌-◌, ◌≤◌}
+use Prim.Native.Nat.{◌-◌}
 use native.Mathlib.Omega.{arith}
-use lib.ListN.{length}
-use Rattle.families.specs.Bits.{max_lanes}
 use Rattle.games.specs.Words.{game}
 use Rattle.tables.proofs.Checks.{sized}
 use Rattle.search.proofs.Turns.{table_lanes}
-use Rattle.search.proofs.Passes.{Passing, passing_none, covered_sound, passing_more, passing_end}
+use Rattle.search.proofs.Passes.{passing_none, covered_sound, passing_more, passing_end}
 use Rattle.search.proofs.pass.Goals as goal
 
 pub loop-lane-init : goal.loop-lane-init

@@ -1,14 +1,9 @@
 -- `search::pass` meets its contract. The loop's invariant: the lanes from `lane` on have just their sets that meet the step.
-use borrow.Author.Rules.{rules}
-use mathlib.Core.Path.{◌≡◌, sym, ◌∙◌}
-use Prim.Native.Nat.{◌-◌, ◌≤◌}
-use native.Mathlib.Omega.{arith}
+use Prim.Native.Nat.{◌≤◌}
 use lib.ListN.{length}
 use Rattle.families.specs.Bits.{max_lanes}
 use Rattle.games.specs.Words.{game}
-use Rattle.tables.proofs.Checks.{sized}
-use Rattle.search.proofs.Turns.{table_lanes}
-use Rattle.search.proofs.Passes.{Passing, passing_none, covered_sound, passing_more, passing_end}
+use Rattle.search.proofs.Passes.{Passing}
 use Rattle.search.proofs.pass.Given as goal
 
 abbrev pub invariant-loop-lane : goal.invariant-loop-lane

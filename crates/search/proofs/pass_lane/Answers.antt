@@ -1,4 +1,3 @@
-use borrow.Author.Rules.{rules}
 use Prim.Native.Nat.{◌-◌, ◌<◌}
 use native.Mathlib.Omega.{arith}
 use lib.Count.{count_leading_zeros}
@@ -7,7 +6,7 @@ use Rattle.families.proofs.Lanes.{shift_one}
 use Rattle.games.specs.Words.{game}
 use Rattle.tables.proofs.Checks.{sized}
 use Rattle.search.proofs.Turns.{table_lanes}
-use Rattle.search.proofs.Passes.{Trying, Highest, highest, few_zeros, trying_none, top_below, hit_less, trying_hit, miss_less, trying_miss, trying_end}
+use Rattle.search.proofs.Passes.{Highest, highest, few_zeros, trying_none, top_below, hit_less, trying_hit, miss_less, trying_miss, trying_end}
 use Rattle.search.proofs.pass_lane.Goals as goal
 
 pub offset_bounds-family-lane : goal.offset_bounds-family-lane
@@ -19,7 +18,7 @@ pub loop-left-init : goal.loop-left-init
 loop-left-init c = trying_none (game c.args.table.now) c.args.family.now c.requires.1 c.args.lane c.args.covered (omega arith) c.requires.3
 
 pub overflow_sub-h : goal.overflow_sub-h
-overflow_sub-h c = few_zeros c.loop-left.false c.loop-left.invariant.narrow c.loop-left-test.true
+overflow_sub-h c = few_zeros c.loop-left.left c.loop-left.invariant.narrow c.loop-left-test.true
 
 pub overflow_mul-lane : goal.overflow_mul-lane
 overflow_mul-lane c =
@@ -33,41 +32,41 @@ overflow_add-lane c =
 
 pub meets_step-requires : goal.meets_step-requires
 meets_step-requires c =
-    let top : Highest c.loop-left.false (63 - count_leading_zeros 64 c.loop-left.false) = highest c.loop-left.false c.loop-left.invariant.narrow c.loop-left-test.true in
-    (c.requires.0, c.requires.1, top_below (game c.args.table.now) c.args.family.now c.requires.1 c.args.lane c.loop-left.found c.loop-left.false c.loop-left.invariant _ top)
+    let top : Highest c.loop-left.left (63 - count_leading_zeros 64 c.loop-left.left) = highest c.loop-left.left c.loop-left.invariant.narrow c.loop-left-test.true in
+    (c.requires.0, c.requires.1, top_below (game c.args.table.now) c.args.family.now c.requires.1 c.args.lane c.loop-left.found c.loop-left.left c.loop-left.invariant _ top)
 
 pub subsets-below-requires : goal.subsets-below-requires
 subsets-below-requires c =
-    let top : Highest c.loop-left.false (63 - count_leading_zeros 64 c.loop-left.false) = highest c.loop-left.false c.loop-left.invariant.narrow c.loop-left-test.true in
+    let top : Highest c.loop-left.left (63 - count_leading_zeros 64 c.loop-left.left) = highest c.loop-left.left c.loop-left.invariant.narrow c.loop-left-test.true in
     top.small
 
 pub loop-left-smaller-then-meets_step : goal.loop-left-smaller-then-meets_step
 loop-left-smaller-then-meets_step c =
-    let top : Highest c.loop-left.false (63 - count_leading_zeros 64 c.loop-left.false) = highest c.loop-left.false c.loop-left.invariant.narrow c.loop-left-test.true in
-    hit_less (game c.args.table.now) c.args.family.now c.requires.1 c.args.lane c.loop-left.found c.loop-left.false c.loop-left.invariant _ top c.subsets-below.result (omega arith) c.subsets-below.ensures
+    let top : Highest c.loop-left.left (63 - count_leading_zeros 64 c.loop-left.left) = highest c.loop-left.left c.loop-left.invariant.narrow c.loop-left-test.true in
+    hit_less (game c.args.table.now) c.args.family.now c.requires.1 c.args.lane c.loop-left.found c.loop-left.left c.loop-left.invariant _ top c.subsets-below.result (omega arith) c.subsets-below.ensures
 
 pub loop-left-preserved-then-meets_step : goal.loop-left-preserved-then-meets_step
 loop-left-preserved-then-meets_step c =
-    let top : Highest c.loop-left.false (63 - count_leading_zeros 64 c.loop-left.false) = highest c.loop-left.false c.loop-left.invariant.narrow c.loop-left-test.true in
-    trying_hit (game c.args.table.now) c.args.family.now c.requires.1 c.args.lane c.loop-left.found c.loop-left.false c.loop-left.invariant _ top c.subsets-below.result (omega arith) c.subsets-below.ensures (cc)
+    let top : Highest c.loop-left.left (63 - count_leading_zeros 64 c.loop-left.left) = highest c.loop-left.left c.loop-left.invariant.narrow c.loop-left-test.true in
+    trying_hit (game c.args.table.now) c.args.family.now c.requires.1 c.args.lane c.loop-left.found c.loop-left.left c.loop-left.invariant _ top c.subsets-below.result (omega arith) c.subsets-below.ensures (cc)
 
 pub overflow_sub-left : goal.overflow_sub-left
 overflow_sub-left c =
-    let top : Highest c.loop-left.false (63 - count_leading_zeros 64 c.loop-left.false) = highest c.loop-left.false c.loop-left.invariant.narrow c.loop-left-test.true in
-    let h = 63 - count_leading_zeros 64 c.loop-left.false in
-    rw (shift_one 64 h top.small) (single_le c.loop-left.false h top.here)
+    let top : Highest c.loop-left.left (63 - count_leading_zeros 64 c.loop-left.left) = highest c.loop-left.left c.loop-left.invariant.narrow c.loop-left-test.true in
+    let h = 63 - count_leading_zeros 64 c.loop-left.left in
+    rw (shift_one 64 h top.small) (single_le c.loop-left.left h top.here)
 
 pub loop-left-smaller : goal.loop-left-smaller
 loop-left-smaller c =
-    let top : Highest c.loop-left.false (63 - count_leading_zeros 64 c.loop-left.false) = highest c.loop-left.false c.loop-left.invariant.narrow c.loop-left-test.true in
-    let h = 63 - count_leading_zeros 64 c.loop-left.false in
-    rw (shift_one 64 h top.small) (miss_less (game c.args.table.now) c.args.family.now c.requires.1 c.args.lane c.loop-left.found c.loop-left.false c.loop-left.invariant h top)
+    let top : Highest c.loop-left.left (63 - count_leading_zeros 64 c.loop-left.left) = highest c.loop-left.left c.loop-left.invariant.narrow c.loop-left-test.true in
+    let h = 63 - count_leading_zeros 64 c.loop-left.left in
+    rw (shift_one 64 h top.small) (miss_less (game c.args.table.now) c.args.family.now c.requires.1 c.args.lane c.loop-left.found c.loop-left.left c.loop-left.invariant h top)
 
 pub loop-left-preserved : goal.loop-left-preserved
 loop-left-preserved c =
-    let top : Highest c.loop-left.false (63 - count_leading_zeros 64 c.loop-left.false) = highest c.loop-left.false c.loop-left.invariant.narrow c.loop-left-test.true in
-    let h = 63 - count_leading_zeros 64 c.loop-left.false in
-    rw (shift_one 64 h top.small) (trying_miss (game c.args.table.now) c.args.family.now c.requires.1 c.args.lane c.loop-left.found c.loop-left.false c.loop-left.invariant h top (cc))
+    let top : Highest c.loop-left.left (63 - count_leading_zeros 64 c.loop-left.left) = highest c.loop-left.left c.loop-left.invariant.narrow c.loop-left-test.true in
+    let h = 63 - count_leading_zeros 64 c.loop-left.left in
+    rw (shift_one 64 h top.small) (trying_miss (game c.args.table.now) c.args.family.now c.requires.1 c.args.lane c.loop-left.found c.loop-left.left c.loop-left.invariant h top (cc))
 
 pub returns : goal.returns
-returns c = trying_end (game c.args.table.now) c.args.family.now c.requires.1 c.args.lane c.loop-left.found c.loop-left.false c.loop-left.invariant c.loop-left-test.false
+returns c = trying_end (game c.args.table.now) c.args.family.now c.requires.1 c.args.lane c.loop-left.found c.loop-left.left c.loop-left.invariant c.loop-left-test.false

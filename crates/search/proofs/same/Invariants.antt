@@ -1,12 +1,7 @@
 -- `search::same` meets its contract. The loop's invariant: the words before i are the same.
-use borrow.Author.Rules.{rules}
-use borrow.Author.Count.{below_none, below_more}
 use mathlib.Core.Path.{◌≡◌}
 use Prim.Native.Nat.{ℕ, ◌-◌, ◌≤◌, ◌<◌}
-use native.Mathlib.Omega.{arith}
 use lib.ListN.{length, get_or}
-use lib.Seq.{ext_get_or}
-use Rattle.search.proofs.Passes.{words_same}
 use Rattle.search.proofs.same.Given as goal
 
 abbrev pub invariant-loop-i : goal.invariant-loop-i

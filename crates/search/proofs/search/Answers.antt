@@ -1,6 +1,5 @@
 -- `search::search` meets its contract: what the first family says, then what `settle` ensures.
 use borrow.Author.Rules.{rules}
-use borrow.Author.Tests.{not-true, not-false}
 use mathlib.Core.Path.{◌≡◌, sym, ap, ◌∙◌, subst}
 use Prim.Native.Nat.{ℕ, ◌-◌, ◌≤◌, ◌^◌}
 use native.Mathlib.Omega.{arith}
@@ -51,8 +50,7 @@ pub settle-requires : goal.settle-requires
 settle-requires c =
     let played : Game = game c.args.table.now in
     let fine : Accepted played = accepted c.args.table.now c.requires.0.fine in
-    let sets_are : c.single-all.result ≡ 2 ^ played.states = c.single-all.ensures ∙ ap (λ (n : ℕ). 2 ^ n) c.states.ensures in
-    (
+    let sets_are : c.single-all.result ≡ 2 ^ played.states = c.single-all.ensures ∙ ap (λ (n : ℕ). 2 ^ n) c.states.ensures in (
       c.requires.0,
       first_on played fine _ c.first_family.ensures
           (sym c.starts_in.ensures ∙ c.if-not-starts_in.false)

@@ -1,12 +1,10 @@
-use borrow.Author.Tests.{not-true, not-false}
 use mathlib.Core.Bool.{Bool}
 use mathlib.Core.Path.{◌≡◌, sym, ap, ◌∙◌, subst}
 use mathlib.Core.List.{List}
-use Prim.Native.Nat.{ℕ, ◌+◌, ◌-◌, ◌≤◌, ◌<◌, ◌^◌}
+use Prim.Native.Nat.{ℕ, ◌+◌, ◌<◌, ◌^◌}
 use native.Mathlib.Omega.{arith}
 use lib.ListN.{length}
 use Rattle.families.specs.Bits.{Bits}
-use Rattle.games.specs.Format.{max_sets}
 use Rattle.games.specs.Game.{Game, Accepted}
 use Rattle.games.specs.Words.{game}
 use Rattle.games.specs.Step.{good}
@@ -120,8 +118,7 @@ loop-k-preserved c =
     let fine : Accepted played = accepted c.args.table.now c.requires.0.fine in
     let left : List ℕ = c.pass.new.next in
     let passed : Bits played.states (good played (c.loop-k.k + 1)) left = good_next played fine c.loop-k.k c.loop-k.family c.loop-k.invariant.2.family left c.pass.ensures in
-    let e : c.copy.new.out ≡ left = c.copy.ensures in
-    (
+    let e : c.copy.new.out ≡ left = c.copy.ensures in (
       c.loop-k.invariant.0,
       ap length (sym e),
       subst (Reached played (c.loop-k.k + 1)) (sym e)

@@ -1,10 +1,6 @@
 use borrow.Author.Rules.{rules}
-use borrow.Author.Tests.{not-true, not-false}
-use mathlib.Core.Bool.{true}
 use mathlib.Core.Path.{◌≡◌, sym, ◌∙◌}
-use Prim.Native.Nat.{◌≤◌, ◌-◌}
 use native.Mathlib.Omega.{arith}
-use Rattle.sets.specs.Bounded.{all}
 use Rattle.sets.proofs.Bounded.{all_zero, all_more}
 use Rattle.sets.proofs.Logic.{and_intro}
 use Rattle.families.specs.Bits.{has}
@@ -35,12 +31,11 @@ returns-then-not-has c =
     (rw c.start_set.ensures at (sym c.has.ensures ∙ c.if-not-has.true)))
 
 pub loop-j-preserved : goal.loop-j-preserved
-loop-j-preserved c =
-    (
-      search rules,
-      all_more c.loop-j.j (λ i. has c.args.family.now (start_set (game c.args.table.now) i))
-          ∙ and_intro c.loop-j.invariant.1 (rw c.start_set.ensures at (sym c.has.ensures ∙ c.if-not-has.false)),
-    )
+loop-j-preserved c = (
+  search rules,
+  all_more c.loop-j.j (λ i. has c.args.family.now (start_set (game c.args.table.now) i))
+      ∙ and_intro c.loop-j.invariant.1 (rw c.start_set.ensures at (sym c.has.ensures ∙ c.if-not-has.false)),
+)
 
 pub returns : goal.returns
 returns c =
