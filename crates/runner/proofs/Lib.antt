@@ -1,5 +1,4 @@
 pub mod Laws
 pub mod Plays
 pub mod Rows
-pub mod Values
 pub mod Control

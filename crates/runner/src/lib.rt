@@ -1,6 +1,5 @@
-// The runner (document 01, "Entries": Run): a card's words, held and not copied, and the cell it is in. A function that takes, makes
-// or has a local of a runner is proved by a walk of its MIR, by hand, so there are three: two over the covered steps of `cards`, and
-// `drive`, which has plain parameters and needs no walk in its callers. `run` needs no runner.
+// The runner (document 01, "Entries": Run): a card's words, held and not copied, and the cell it is in. Three functions take, make or
+// have a local of a runner: two over the steps of `cards`, and `drive`, which has plain parameters. `run` needs no runner.
 #![tactic(auto)]
 
 ghost use Rattle.std.specs.Prelude.{◌≡◌, [], ◌∷◌, length};
@@ -57,7 +56,7 @@ pub struct Driven {
 }
 
 // Opens a runner with the first observation and moves it by two more. A refused runner stays in its cell, and goes on from there.
-// It is a harness and no entry: the rows and the walk show by it that a runner lives in a local and is lent twice.
+// It is a harness and no entry: the rows and its proof show that a runner lives in a local and is lent twice.
 pub fn drive(card: &[u32], first: Observation, second: Observation, third: Observation) -> Driven
     ensures { (result.begun ≡ standing card.now (first.0 ∷ []))
         × (result.moved ≡ standing card.now (first.0 ∷ second.0 ∷ []))

@@ -1,6 +1,5 @@
 -- A wrong card is told; else the run of a checked card.
 use mathlib.Core.Path.{sym, ◌∙◌}
-use borrow.Author.Rules.{rules}
 use Rattle.runner.proofs.Laws.{into_wrong, into_fine}
 use Rattle.runner.proofs.run.Goals as goal
 

@@ -1,6 +1,5 @@
 -- A refusal on the way stands; else 15 where the buffer is short; else the second pass writes what the first has seen.
 use mathlib.Core.Path.{◌≡◌, sym, ◌∙◌}
-use borrow.Author.Rules.{rules}
 use lib.ListN.{length}
 use Rattle.runner.specs.declared.Ran.TheVariants.{Done}
 use Rattle.runner.specs.Runs.{ran_up_to}

@@ -1,9 +1,6 @@
 use mathlib.Core.Path.{sym, ◌∙◌}
-use Prim.Native.Nat.{◌-◌}
 use native.Mathlib.Omega.{arith}
-use borrow.Author.Rules.{rules}
-use lib.ListN.{length}
-use Rattle.runner.proofs.Laws.{At, at_none, at_more, run_stops, run_ends}
+use Rattle.runner.proofs.Laws.{at_none, at_more, run_stops, run_ends}
 use Rattle.runner.proofs.try_run.Goals as goal
 
 pub loop-i-init : goal.loop-i-init

@@ -1,9 +1,7 @@
 use mathlib.Core.Path.{◌≡◌}
-use Prim.Native.Nat.{◌-◌}
 use native.Mathlib.Omega.{arith}
-use borrow.Author.Rules.{rules}
 use lib.ListN.{length}
-use Rattle.runner.proofs.Laws.{Wrote, wrote_none, wrote_more, wrote_all, same_length, no_stop}
+use Rattle.runner.proofs.Laws.{wrote_none, wrote_more, wrote_all, same_length, no_stop}
 use Rattle.runner.proofs.write_actions.Goals as goal
 
 pub loop-i-init : goal.loop-i-init

@@ -1,10 +1,7 @@
 -- Invariant: the first i observations were taken, the card is in the cell after them, and their actions stand in front of the buffer.
-use mathlib.Core.Path.{◌≡◌}
 use Prim.Native.Nat.{◌-◌}
-use native.Mathlib.Omega.{arith}
-use borrow.Author.Rules.{rules}
 use lib.ListN.{length}
-use Rattle.runner.proofs.Laws.{Wrote, wrote_none, wrote_more, wrote_all, same_length, no_stop}
+use Rattle.runner.proofs.Laws.{Wrote}
 use Rattle.runner.proofs.write_actions.Given as goal
 
 abbrev pub invariant-loop-i : goal.invariant-loop-i
