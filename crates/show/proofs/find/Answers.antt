@@ -1,6 +1,5 @@
 -- `show::find` meets its contract: the check of both first, then the part.
 use mathlib.Core.Path.{sym, ◌∙◌}
-use borrow.Author.Rules.{rules}
 use Rattle.show.proofs.Laws.{pair_refused, pair_fine}
 use Rattle.show.proofs.find.Goals as goal
 

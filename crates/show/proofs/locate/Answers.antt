@@ -1,6 +1,5 @@
 -- `show::locate` meets its contract: 12, else the part of the cell's action.
 use native.Mathlib.Omega.{arith}
-use borrow.Author.Rules.{rules}
 use Rattle.tables.proofs.Checks.{sized}
 use Rattle.pairs.proofs.Pairing.{paired}
 use Rattle.show.proofs.Laws.{no_such_cell, part_told}
