@@ -1,9 +1,6 @@
 -- `lists::combine` meets its contract: each way out is one case of the outcome.
 use mathlib.Core.Path.{sym, ◌∙◌}
-use borrow.Author.Rules.{rules}
-use borrow.Author.Tests.{not-true, not-false}
 use native.Mathlib.Omega.{arith}
-use Rattle.sets.specs.Family.{meet}
 use Rattle.games.specs.Format.{max_states}
 use Rattle.games.proofs.Limits.{within_high}
 use Rattle.sets.proofs.Reaching.{front_none}

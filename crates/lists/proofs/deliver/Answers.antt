@@ -2,7 +2,6 @@
 use mathlib.Core.Path.{◌≡◌, sym, ◌∙◌}
 use mathlib.Core.List.{List}
 use Prim.Native.Nat.{ℕ, ◌≤◌}
-use borrow.Author.Rules.{rules}
 use native.Mathlib.Omega.{arith}
 use lib.ListN.{length, take, replicate}
 use lib.Seq.{length-take-le}
@@ -21,10 +20,11 @@ slice_bounds-find-end c =
     let part : length (take c.lane_count-end.result room) ≡ c.lane_count-end.result = length-take-le c.lane_count-end.result room enough in
     sym part
 
+pub slice_bounds-a-end : goal.slice_bounds-a-end
+slice_bounds-a-end c = omega (arith, c.lane_count-end.ensures, lanes_few c.args.n c.requires.width)
+
 pub slice_bounds-b-end : goal.slice_bounds-b-end
-slice_bounds-b-end c =
-    let enough : c.lane_count-end.result ≤ max_lanes = omega (arith, c.lane_count-end.ensures, lanes_few c.args.n c.requires.width) in
-    enough
+slice_bounds-b-end c = omega (arith, c.lane_count-end.ensures, lanes_few c.args.n c.requires.width)
 
 pub slice_bounds-find-end-2 : goal.slice_bounds-find-end-2
 unfolding room

@@ -1,5 +1,4 @@
 -- `lists::fit` meets its contract: it refuses what is longer than the buffer, or writes.
-use borrow.Author.Rules.{rules}
 use native.Mathlib.Omega.{arith}
 use Rattle.families.specs.Bits.{sets}
 use Rattle.lists.proofs.Outcomes.{fitted_long, fitted_fits}

@@ -1,5 +1,4 @@
 -- `lists::hold` meets its contract: what each list holds, and the two merged.
-use borrow.Author.Rules.{rules}
 use Rattle.lists.proofs.Merging.{merged_bits}
 use Rattle.lists.proofs.hold.Goals as goal
 

@@ -1,5 +1,4 @@
 -- `lists::meet` meets its contract: what `combine` leaves, and that in plain words.
-use borrow.Author.Rules.{rules}
 use Rattle.sets.specs.Family.{meet}
 use Rattle.lists.specs.Plain.{OfBoth}
 use Rattle.lists.proofs.Plain.{left_plain, meet_plain}
@@ -7,8 +6,8 @@ use Rattle.lists.proofs.meet.Goals as goal
 
 pub returns : goal.returns
 returns c =
-    (
-      c.combine.ensures,
-      left_plain (meet c.args.n) OfBoth c.args.n c.args.first.now c.args.second.now c.args.out.now (meet_plain c.args.n c.args.first.now c.args.second.now)
-          c.combine.result c.combine.new.out c.combine.ensures,
-    )
+    record {
+      out_after = c.combine.ensures;
+      plain = left_plain (meet c.args.n) OfBoth c.args.n c.args.first.now c.args.second.now c.args.out.now (meet_plain c.args.n c.args.first.now c.args.second.now)
+          c.combine.result c.combine.new.out c.combine.ensures;
+    }

@@ -1,9 +1,8 @@
 use mathlib.Core.Path.{ap, ◌∙◌}
-use Prim.Native.Nat.{ℕ, ◌-◌}
-use borrow.Author.Rules.{rules}
+use Prim.Native.Nat.{ℕ}
 use native.Mathlib.Omega.{arith}
-use lib.ListN.{length, get_or}
-use Rattle.families.proofs.Mapping.{Mapping, mapping_none, mapping_more}
+use lib.ListN.{get_or}
+use Rattle.families.proofs.Mapping.{mapping_none, mapping_more}
 use Rattle.lists.specs.Merging.{gathered}
 use Rattle.lists.proofs.Merging.{Merges}
 use Rattle.lists.proofs.merge.Goals as goal

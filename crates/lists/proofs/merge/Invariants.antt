@@ -1,11 +1,7 @@
 -- `lists::merge` meets its contract: before each turn the first i words are done.
-use mathlib.Core.Path.{ap, ◌∙◌}
-use Prim.Native.Nat.{ℕ, ◌-◌}
-use borrow.Author.Rules.{rules}
-use native.Mathlib.Omega.{arith}
-use lib.ListN.{length, get_or}
-use Rattle.families.proofs.Mapping.{Mapping, mapping_none, mapping_more}
-use Rattle.lists.specs.Merging.{gathered}
+use Prim.Native.Nat.{◌-◌}
+use lib.ListN.{length}
+use Rattle.families.proofs.Mapping.{Mapping}
 use Rattle.lists.proofs.Merging.{Merges}
 use Rattle.lists.proofs.merge.Given as goal
 
