@@ -2,6 +2,7 @@
 use rows::print;
 use rows::print::say;
 use rows::stations::GUARD;
+use std::io;
 
 // What each byte of a lent room holds before a call: `~`.
 pub const FREE: u8 = 126;
@@ -12,106 +13,110 @@ pub const MOST_WORDS: usize = 8195;
 pub const MOST_BYTES: usize = 73790;
 
 // A newline is shown as `|`, as in the input.
-fn show(b: u8) {
+fn show(rt: &impl Print, b: u8) -> io::Result<()> {
     let shown = [b];
     if b == 10 {
-        say(b"|");
+        say(rt, b"|")
     } else {
-        say(&shown);
+        say(rt, &shown)
     }
 }
 
-fn show_all(bytes: &[u8]) {
+fn show_all(rt: &impl Print, bytes: &[u8]) -> io::Result<()> {
     let mut i = 0;
     while i < bytes.len() {
-        show(bytes[i]);
+        show(rt, bytes[i])?;
         i += 1;
     }
+    Ok(())
 }
 
-fn bracketed(bytes: &[u8]) {
-    say(b" [");
-    show_all(bytes);
-    say(b"]");
+fn bracketed(rt: &impl Print, bytes: &[u8]) -> io::Result<()> {
+    say(rt, b" [")?;
+    show_all(rt, bytes)?;
+    say(rt, b"]")
 }
 
 // All bytes of a room; of a long one the first and the last.
-fn print_bytes(out: &[u8]) {
+fn print_bytes(rt: &impl Print, out: &[u8]) -> io::Result<()> {
     if out.len() < 500 {
-        bracketed(out);
+        bracketed(rt, out)?;
     } else {
         let end = out.len() - 40;
-        bracketed(&out[0..92]);
-        bracketed(&out[end..]);
+        bracketed(rt, &out[0..92])?;
+        bracketed(rt, &out[end..])?;
     }
-    say(b"\n");
+    say(rt, b"\n")
 }
 
 // All words of a room; of a long one the last.
-fn print_words(out: &[u32]) {
+fn print_words(rt: &impl Print, out: &[u32]) -> io::Result<()> {
     if out.len() < 100 {
-        print::room(out);
+        print::room(rt, out)
     } else {
         let end = out.len() - 3;
-        print::room(&out[end..]);
+        print::room(rt, &out[end..])
     }
 }
 
-fn into(room: usize) {
-    say(b" into ");
-    print::decimal(room as u64);
+fn into(rt: &impl Print, room: usize) -> io::Result<()> {
+    say(rt, b" into ")?;
+    print::decimal(rt, room as u64)
 }
 
-fn print_written(answer: kiss_writer::Answer) {
+fn print_written(rt: &impl Print, answer: kiss_writer::Answer) -> io::Result<()> {
     match answer {
-        kiss_writer::Answer::Written(bytes) => print::wrote(bytes),
-        kiss_writer::Answer::Refused(number, place) => print::refusal(number, place),
+        kiss_writer::Answer::Written(bytes) => print::wrote(rt, bytes),
+        kiss_writer::Answer::Refused(number, place) => print::refusal(rt, number, place),
     }
 }
 
-fn print_read(answer: kiss_reader::Answer) {
+fn print_read(rt: &impl Print, answer: kiss_reader::Answer) -> io::Result<()> {
     match answer {
         kiss_reader::Answer::Read(words, cells) => {
-            say(b": read ");
-            print::decimal(words as u64);
-            say(b" ");
-            print::decimal(cells as u64);
+            say(rt, b": read ")?;
+            print::decimal(rt, words as u64)?;
+            say(rt, b" ")?;
+            print::decimal(rt, cells as u64)
         }
-        kiss_reader::Answer::Refused(number, place) => print::refusal(number, place),
+        kiss_reader::Answer::Refused(number, place) => print::refusal(rt, number, place),
     }
 }
 
-fn write_into(card: &[u32], out: &mut [u8]) {
-    into(out.len());
-    print_written(kiss_writer::write(card, out));
-    print_bytes(out);
+fn write_into(rt: &impl Print, card: &[u32], out: &mut [u8]) -> io::Result<()> {
+    into(rt, out.len())?;
+    print_written(rt, kiss_writer::write(card, out))?;
+    print_bytes(rt, out)
 }
 
 // With room for so many bytes.
-pub fn write_within(card: &[u32], room: usize) {
+pub fn write_within(rt: &impl Print, card: &[u32], room: usize) -> io::Result<()> {
     let mut out = [FREE; MOST_BYTES];
     if room <= 73790 {
-        write_into(card, &mut out[0..room]);
+        write_into(rt, card, &mut out[0..room])?;
     }
+    Ok(())
 }
 
-fn read_into(text: &[u8], out: &mut [u32]) {
-    into(out.len());
-    print_read(kiss_reader::read(text, out));
-    print_words(out);
+fn read_into(rt: &impl Print, text: &[u8], out: &mut [u32]) -> io::Result<()> {
+    into(rt, out.len())?;
+    print_read(rt, kiss_reader::read(text, out))?;
+    print_words(rt, out)
 }
 
 // With room for so many words.
-fn read_within(text: &[u8], room: usize) {
+fn read_within(rt: &impl Print, text: &[u8], room: usize) -> io::Result<()> {
     let mut out = [GUARD; MOST_WORDS];
     if room <= 8195 {
-        read_into(text, &mut out[0..room]);
+        read_into(rt, text, &mut out[0..room])?;
     }
+    Ok(())
 }
 
 // The same for the bytes in front.
-pub fn read_front(text: &[u8], bytes: usize, room: usize) {
+pub fn read_front(rt: &impl Print, text: &[u8], bytes: usize, room: usize) -> io::Result<()> {
     if bytes <= text.len() {
-        read_within(&text[0..bytes], room);
+        read_within(rt, &text[0..bytes], room)?;
     }
+    Ok(())
 }

@@ -4,29 +4,30 @@ use crate::load::{TEXT_BYTES, append};
 use crate::rooms::{FREE, read_front};
 use rows::print;
 use rows::print::say;
+use std::io;
 
-fn begin(name: &[u8]) {
-    say(b"read ");
-    say(rest(name, 2));
+fn begin(rt: &impl Print, name: &[u8]) -> io::Result<()> {
+    say(rt, b"read ")?;
+    say(rt, rest(name, 2))
 }
 
 // How many bytes of the text are read: all of them, or as many as the row says.
-fn bytes_kept(text: &[u8], row: &[u8]) -> usize {
+fn bytes_kept(rt: &impl Print, text: &[u8], row: &[u8]) -> io::Result<usize> {
     if row.len() < 9 {
-        return text.len();
+        return Ok(text.len());
     }
     let bytes = number_at(row, 8);
-    say(b" cut at ");
-    print::decimal(bytes as u64);
-    bytes
+    say(rt, b" cut at ")?;
+    print::decimal(rt, bytes as u64)?;
+    Ok(bytes)
 }
 
-pub fn front_row(name: &[u8], data: &[u8], row: &[u8]) {
+pub fn front_row(rt: &impl Print, name: &[u8], data: &[u8], row: &[u8]) -> io::Result<()> {
     let mut text = [FREE; TEXT_BYTES];
     append(&mut text, 0, rest(data, 2));
-    begin(name);
-    let bytes = bytes_kept(rest(data, 2), row);
-    read_front(&text, bytes, number_at(row, 2));
+    begin(rt, name)?;
+    let bytes = bytes_kept(rt, rest(data, 2), row)?;
+    read_front(rt, &text, bytes, number_at(row, 2))
 }
 
 // The text with a piece instead of the bytes between two places. Answers the length.
@@ -42,41 +43,55 @@ fn edit(text: &[u8], from: usize, to: usize, piece: &[u8], out: &mut [u8]) -> us
     append(out, end, &text[to..])
 }
 
-fn quote(bytes: &[u8]) {
-    say(b"\"");
-    say(bytes);
-    say(b"\"");
+fn quote(rt: &impl Print, bytes: &[u8]) -> io::Result<()> {
+    say(rt, b"\"")?;
+    say(rt, bytes)?;
+    say(rt, b"\"")
 }
 
-fn quote_part(text: &[u8], from: usize, to: usize) {
+fn quote_part(rt: &impl Print, text: &[u8], from: usize, to: usize) -> io::Result<()> {
     if to <= text.len() {
         if from <= to {
-            quote(&text[from..to]);
+            quote(rt, &text[from..to])?;
         }
     }
+    Ok(())
 }
 
 // ` with "00" for "02" at 10`
-fn print_edit(text: &[u8], from: usize, to: usize, piece: &[u8]) {
-    say(b" with ");
-    quote(piece);
-    say(b" for ");
-    quote_part(text, from, to);
-    say(b" at ");
-    print::decimal(from as u64);
+fn print_edit(
+    rt: &impl Print,
+    text: &[u8],
+    from: usize,
+    to: usize,
+    piece: &[u8],
+) -> io::Result<()> {
+    say(rt, b" with ")?;
+    quote(rt, piece)?;
+    say(rt, b" for ")?;
+    quote_part(rt, text, from, to)?;
+    say(rt, b" at ")?;
+    print::decimal(rt, from as u64)
 }
 
-fn read_edited(text: &[u8], from: usize, to: usize, piece: &[u8], room: usize) {
+fn read_edited(
+    rt: &impl Print,
+    text: &[u8],
+    from: usize,
+    to: usize,
+    piece: &[u8],
+    room: usize,
+) -> io::Result<()> {
     let mut edited = [FREE; TEXT_BYTES];
     let bytes = edit(text, from, to, piece, &mut edited);
-    print_edit(text, from, to, piece);
-    read_front(&edited, bytes, room);
+    print_edit(rt, text, from, to, piece)?;
+    read_front(rt, &edited, bytes, room)
 }
 
-pub fn edit_row(name: &[u8], data: &[u8], row: &[u8]) {
-    begin(name);
+pub fn edit_row(rt: &impl Print, name: &[u8], data: &[u8], row: &[u8]) -> io::Result<()> {
+    begin(rt, name)?;
     let from = number_at(row, 8);
     let to = number_at(row, 14);
     let room = number_at(row, 2);
-    read_edited(rest(data, 2), from, to, rest(row, 20), room);
+    read_edited(rt, rest(data, 2), from, to, rest(row, 20), room)
 }

@@ -4,7 +4,9 @@
 mod answer_rows;
 mod word_rows;
 
-fn main() {
-    word_rows::rows();
-    answer_rows::rows();
+use std::io;
+
+fn main(rt: HostRuntime) -> io::Result<()> {
+    word_rows::rows(&rt)?;
+    answer_rows::rows(&rt)
 }

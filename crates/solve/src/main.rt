@@ -8,8 +8,8 @@ ghost use Rattle.solve.specs.Bytes.{word, words_of};
 ghost use Rattle.solve.specs.Program.{input_bytes, buffer_words, blank, text_bytes, table_text, program_text};
 ghost use Rattle.solve.specs.Program.{Counts, taken_of, reply_to, reply_text};
 
-use libc::{STDERR_FILENO, STDIN_FILENO, STDOUT_FILENO};
 use solver::Answer;
+use std::io::{self, Read};
 
 fn wide(b: u8) -> u32
     ensures { (result ≡ b) × (result < 256) }
@@ -123,31 +123,31 @@ enum Input {
     Failed,
 }
 
-// What C's read answered, as a number of the buffer's bytes or a failure.
-fn taken(got: isize, bytes: &[u8]) -> Input
+// What a read answered, as a number of the buffer's bytes or a failure.
+fn taken(got: io::Result<usize>, bytes: &[u8]) -> Input
     ensures { result ≡ taken_of got (length bytes.now) }
 {
-    if got < 0 {
-        return Input::Failed;
+    match got {
+        Ok(count) => Input::Bytes(count.min(bytes.len())),
+        Err(_) => Input::Failed,
     }
-    Input::Bytes(io::count(got, bytes))
 }
 
 // One read into the buffer.
-fn read_some(bytes: &mut [u8]) -> Input
+fn read_some(reader: &mut impl Read, bytes: &mut [u8]) -> Input
     ensures { Counts (length bytes.new) result }
 {
-    let got = libc::read(STDIN_FILENO, bytes);
+    let got = reader.read(bytes);
     taken(got, bytes)
 }
 
 // Reads until the buffer is full, the input ends or a read fails.
-fn read_input(bytes: &mut [u8]) -> Input
+fn read_input(reader: &mut impl Read, bytes: &mut [u8]) -> Input
     ensures { Counts (length bytes.new) result }
 {
     let mut done: usize = 0;
     while done < bytes.len() {
-        let Input::Bytes(more) = read_some(&mut bytes[done..]) else {
+        let Input::Bytes(more) = read_some(reader, &mut bytes[done..]) else {
             return Input::Failed;
         };
         if more == 0 {
@@ -158,7 +158,12 @@ fn read_input(bytes: &mut [u8]) -> Input
     Input::Bytes(done)
 }
 
-// What is written, and where: the descriptor, and the length of the text in front of the buffer.
+// The numbers of standard output and standard error.
+const STDOUT_FILENO: i32 = 1;
+
+const STDERR_FILENO: i32 = 2;
+
+// What is written, and where: the stream's number, and the length of the text in front of the buffer.
 #[derive(Clone, Copy)]
 struct Reply {
     to: i32,
@@ -190,28 +195,37 @@ fn reply_to(input: Input, bytes: &[u8], out: &mut [u8]) -> Reply
 }
 
 // The text was not written, or not all of it.
-fn tell_unwritten() {
+fn tell_unwritten(err: &impl Print) {
     let mut text = [0u8; printout::LINE_BYTES];
     let length = printout::put_unwritten(&mut text, 0);
-    io::write_all(STDERR_FILENO, &text[..length]);
+    let _ = err.write_all(&text[..length]);
+}
+
+// Writes to the stream that has the number.
+fn write_to(out: &impl Print, err: &impl Print, to: i32, text: &[u8]) -> io::Result<()> {
+    if to == STDERR_FILENO {
+        err.write_all(text)
+    } else {
+        out.write_all(text)
+    }
 }
 
 // Writes out the reply.
-fn answer(input: Input, bytes: &[u8])
+fn answer(out: &impl Print, err: &impl Print, input: Input, bytes: &[u8])
     requires { Counts (length bytes.now) input }
 {
     let mut text = text_buffer();
     let reply = reply_to(input, bytes, &mut text);
     let length = reply.length;
-    let written = io::write_all(reply.to, &text[..length]);
-    if !written {
-        tell_unwritten();
+    let written = write_to(out, err, reply.to, &text[..length]);
+    if written.is_err() {
+        tell_unwritten(err);
     }
 }
 
 // One byte more than a table may have, so that a longer input is seen.
-fn main() {
+fn main(rt: HostRuntime) {
     let mut bytes = [0u8; INPUT_BYTES + 1];
-    let input = read_input(&mut bytes);
-    answer(input, &bytes);
+    let input = read_input(&mut rt.stdin(), &mut bytes);
+    answer(&rt.stdout(), &rt.stderr(), input, &bytes);
 }

@@ -6,8 +6,10 @@ mod many_rows;
 mod print_trim;
 mod refusal_rows;
 
-fn main() {
-    kept_rows::rows();
-    refusal_rows::rows();
-    many_rows::rows();
+use std::io;
+
+fn main(rt: HostRuntime) -> io::Result<()> {
+    kept_rows::rows(&rt)?;
+    refusal_rows::rows(&rt)?;
+    many_rows::rows(&rt)
 }

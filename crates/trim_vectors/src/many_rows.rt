@@ -5,6 +5,7 @@ use crate::print_trim::{begin, print_answer};
 use rows::print;
 use rows::print::say;
 use rows::stations::{GUARD, change};
+use std::io;
 
 const CELLS: usize = 4096;
 
@@ -34,71 +35,71 @@ fn alike(words: &[u32], others: &[u32]) -> usize {
 }
 
 // Without the words of the buffers: the zeros in front of the work, and how far the trimmed card is the card itself.
-fn tell(card: &[u32], work: &mut [u32], out: &mut [u32]) {
+fn tell(rt: &impl Print, card: &[u32], work: &mut [u32], out: &mut [u32]) -> io::Result<()> {
     let zeros = [0; CELLS + 1];
-    print_answer(trimmer::trim(card, work, out));
-    say(b", work ");
-    print::decimal(alike(work, &zeros) as u64);
-    say(b" zero, out ");
-    print::decimal(alike(out, card) as u64);
-    say(b" as in the card");
+    print_answer(rt, trimmer::trim(card, work, out))?;
+    say(rt, b", work ")?;
+    print::decimal(rt, alike(work, &zeros) as u64)?;
+    say(rt, b" zero, out ")?;
+    print::decimal(rt, alike(out, card) as u64)?;
+    say(rt, b" as in the card")
 }
 
 // With a word of work and of room more than the chain needs. Some words of the room are printed.
-fn tell_part(card: &[u32], from: usize, to: usize)
+fn tell_part(rt: &impl Print, card: &[u32], from: usize, to: usize) -> io::Result<()>
     requires { (from ≤ to) × (to ≤ 8195) }
 {
     let mut work = [GUARD; CELLS + 1];
     let mut out = [GUARD; WORDS + 1];
-    tell(card, &mut work, &mut out);
-    print::room(&out[from..to]);
+    tell(rt, card, &mut work, &mut out)?;
+    print::room(rt, &out[from..to])
 }
 
-fn trim_changed(place: usize, word: u32, from: usize, to: usize)
+fn trim_changed(rt: &impl Print, place: usize, word: u32, from: usize, to: usize) -> io::Result<()>
     requires { (from ≤ to) × (to ≤ 8195) }
 {
     let mut card = [GUARD; WORDS];
     write_chain(&mut card);
     change(&mut card, place, word);
-    begin(b"a chain of 4096");
-    print::change(place, word);
-    tell_part(&card, from, to);
+    begin(rt, b"a chain of 4096")?;
+    print::change(rt, place, word)?;
+    tell_part(rt, &card, from, to)
 }
 
 // All cells are kept.
-fn whole() {
+fn whole(rt: &impl Print) -> io::Result<()> {
     let mut card = [GUARD; WORDS];
     write_chain(&mut card);
-    begin(b"a chain of 4096");
-    tell_part(&card, 8192, 8195);
+    begin(rt, b"a chain of 4096")?;
+    tell_part(rt, &card, 8192, 8195)
 }
 
 // A word of work too few, and a word of room too few.
-fn short() {
+fn short(rt: &impl Print) -> io::Result<()> {
     let mut card = [GUARD; WORDS];
     write_chain(&mut card);
     let mut work = [GUARD; CELLS - 1];
     let mut out = [GUARD; WORDS];
-    begin(b"a chain of 4096");
-    tell(&card, &mut work, &mut out);
-    print::room(&out[8191..]);
+    begin(rt, b"a chain of 4096")?;
+    tell(rt, &card, &mut work, &mut out)?;
+    print::room(rt, &out[8191..])?;
     let mut enough = [GUARD; CELLS];
     let mut less = [GUARD; WORDS - 1];
-    begin(b"a chain of 4096");
-    tell(&card, &mut enough, &mut less);
-    print::room(&less[8191..]);
+    begin(rt, b"a chain of 4096")?;
+    tell(rt, &card, &mut enough, &mut less)?;
+    print::room(rt, &less[8191..])
 }
 
 // A cell too many. Half the chain is kept; its end alone; the last cell alone, which then names none.
-fn changes() {
-    trim_changed(0, 0x80111001, 0, 3);
-    trim_changed(1, 0x90000800, 4098, 4101);
-    trim_changed(1, 0x90000000, 0, 5);
-    trim_changed(8193, 0xB000FFFF, 0, 5);
+fn changes(rt: &impl Print) -> io::Result<()> {
+    trim_changed(rt, 0, 0x80111001, 0, 3)?;
+    trim_changed(rt, 1, 0x90000800, 4098, 4101)?;
+    trim_changed(rt, 1, 0x90000000, 0, 5)?;
+    trim_changed(rt, 8193, 0xB000FFFF, 0, 5)
 }
 
-pub fn rows() {
-    whole();
-    short();
-    changes();
+pub fn rows(rt: &impl Print) -> io::Result<()> {
+    whole(rt)?;
+    short(rt)?;
+    changes(rt)
 }

@@ -4,17 +4,18 @@
 use entry_rows::{card_rows, judge_rows, list_rows};
 use pair_rows::{judge_card_rows, show_rows};
 use rows::{check_rows, field_rows};
+use std::io;
 
 mod run_rows;
 
-fn main() {
-    check_rows::rows();
-    field_rows::rows();
-    list_rows::rows();
-    judge_rows::rows();
-    card_rows::rows();
-    solve_rows::rows();
-    show_rows::rows();
-    judge_card_rows::rows();
-    run_rows::rows();
+fn main(rt: HostRuntime) -> io::Result<()> {
+    check_rows::rows(&rt)?;
+    field_rows::rows(&rt)?;
+    list_rows::rows(&rt)?;
+    judge_rows::rows(&rt)?;
+    card_rows::rows(&rt)?;
+    solve_rows::rows(&rt)?;
+    show_rows::rows(&rt)?;
+    judge_card_rows::rows(&rt)?;
+    run_rows::rows(&rt)
 }

@@ -2,16 +2,18 @@
 // change 4). The tests run it on many tables beside a walk of their own.
 #![tactic(auto)]
 
-ghost use Rattle.std.specs.Prelude.{◌+◌, ◌*◌, ◌≤◌, ◌<◌, ◌≡◌, length};
+ghost use Rattle.std.specs.Prelude.{◌+◌, ◌*◌, ◌≤◌, ◌<◌, ◌≡◌, length, IfOk};
 ghost use Rattle.games.specs.Words.{game};
 ghost use Rattle.tables.specs.Layout.{Sized};
 
 use games::{Action, Checked};
-use libc::{STDIN_FILENO, STDOUT_FILENO};
+use std::io::{self, Read};
 use walk::Walked;
 
-// As many words as `io::large_buffer` has room for.
-const INPUT_WORDS: usize = 16384;
+// The most bytes that are read, and as many words as they hold.
+const INPUT_BYTES: usize = 65536;
+
+const INPUT_WORDS: usize = INPUT_BYTES / 4;
 
 fn wide(b: u8) -> u32
     ensures { result < 256 }
@@ -39,67 +41,69 @@ fn decode(bytes: &[u8], words: &mut [u32])
     }
 }
 
-fn say(text: &[u8]) {
-    io::write_all(STDOUT_FILENO, text);
+fn say(rt: &impl Print, text: &[u8]) -> io::Result<()> {
+    rt.write_all(text)
 }
 
-fn decimal(n: u64) {
-    io::print_decimal(STDOUT_FILENO, n);
+fn decimal(rt: &impl Print, n: u64) -> io::Result<()> {
+    rt.print(n)
 }
 
 // Two numbers behind a text, and the line's end.
-fn line(text: &[u8], first: u64, second: u64) {
-    say(text);
-    decimal(first);
-    say(b" ");
-    decimal(second);
-    say(b"\n");
+fn line(rt: &impl Print, text: &[u8], first: u64, second: u64) -> io::Result<()> {
+    say(rt, text)?;
+    decimal(rt, first)?;
+    say(rt, b" ")?;
+    decimal(rt, second)?;
+    say(rt, b"\n")
 }
 
 // The line of one walk.
-fn print_walk(table: &[u32], s: u32, a: Action)
+fn print_walk(rt: &impl Print, table: &[u32], s: u32, a: Action) -> io::Result<()>
     requires { Sized table.now × (a.0 < (game table.now).actions) }
 {
-    say(b"walk ");
-    decimal(a.0 as u64);
-    say(b" ");
-    decimal(s as u64);
+    say(rt, b"walk ")?;
+    decimal(rt, a.0 as u64)?;
+    say(rt, b" ")?;
+    decimal(rt, s as u64)?;
     match walk::walk(table, s, a) {
-        Walked::Blocked(i, looked) => line(b": blocked ", i.0 as u64, looked as u64),
-        Walked::Post(u, looked) => line(b": post ", u as u64, looked as u64),
+        Walked::Blocked(i, looked) => line(rt, b": blocked ", i.0 as u64, looked as u64),
+        Walked::Post(u, looked) => line(rt, b": post ", u as u64, looked as u64),
     }
 }
 
 // The sets of the table's states, and then one with a state that the table doesn't have.
-fn each_set(table: &[u32], a: Action)
+fn each_set(rt: &impl Print, table: &[u32], a: Action) -> io::Result<()>
     requires { Sized table.now × (a.0 < (game table.now).actions) }
 {
     let end = sets::single(tables::states(table));
     let mut s: u32 = 0;
     while s <= end {
-        print_walk(table, s, a);
+        print_walk(rt, table, s, a)?;
         s += 1;
     }
+    Ok(())
 }
 
-fn each_action(table: &[u32])
+fn each_action(rt: &impl Print, table: &[u32]) -> io::Result<()>
     requires { Sized table.now }
 {
     let end = tables::actions(table);
     let mut a: u32 = 0;
     while a < end {
-        each_set(table, Action(a));
+        each_set(rt, table, Action(a))?;
         a += 1;
     }
+    Ok(())
 }
 
-fn print_table(table: &[u32]) {
-    say(b"table ");
-    decimal(table.len() as u64);
-    say(b"\n");
+fn print_table(rt: &impl Print, table: &[u32]) -> io::Result<()> {
+    say(rt, b"table ")?;
+    decimal(rt, table.len() as u64)?;
+    say(rt, b"\n")?;
     match tables::check(table) {
-        Checked::Refused(number, place) => line(b"refused ", number as u64, place as u64),
-        Checked::Fine => each_action(table),
+        Checked::Refused(number, place) => line(rt, b"refused ", number as u64, place as u64),
+        Checked::Fine => each_action(rt, table),
     }
 }
 
@@ -116,13 +120,14 @@ fn first_length(words: &[u32]) -> usize
     }
 }
 
-fn each_table(words: &[u32]) {
+fn each_table(rt: &impl Print, words: &[u32]) -> io::Result<()> {
     let mut at: usize = 0;
     while at < words.len() {
         let end = at + first_length(&words[at..]);
-        print_table(&words[at..end]);
+        print_table(rt, &words[at..end])?;
         at = end;
     }
+    Ok(())
 }
 
 // Room for the words of the longest input.
@@ -132,19 +137,34 @@ fn input_words() -> [u32; INPUT_WORDS]
     [0; INPUT_WORDS]
 }
 
-fn print_input(bytes: &[u8]) {
+fn print_input(rt: &impl Print, bytes: &[u8]) -> io::Result<()> {
     let count = bytes.len() / 4;
     if INPUT_WORDS < count {
-        return;
+        return Ok(());
     }
     let end = 4 * count;
     let mut words = input_words();
     decode(&bytes[..end], &mut words[..count]);
-    each_table(&words[..count]);
+    each_table(rt, &words[..count])
 }
 
-fn main() {
-    let mut bytes = io::large_buffer();
-    let end = io::read_full(STDIN_FILENO, &mut bytes);
-    print_input(&bytes[..end]);
+// Reads until the buffer is full or the input ends, and answers how many bytes stand in front.
+fn read_full(reader: &mut impl Read, buffer: &mut [u8]) -> io::Result<usize>
+    ensures { IfOk result (λ n. n ≤ length buffer.new) }
+{
+    let mut done: usize = 0;
+    while done < buffer.len() {
+        let more = reader.read(&mut buffer[done..])?;
+        if more == 0 {
+            break;
+        }
+        done += more;
+    }
+    Ok(done)
+}
+
+fn main(rt: HostRuntime) -> io::Result<()> {
+    let mut bytes = [0u8; INPUT_BYTES];
+    let end = read_full(&mut rt.stdin(), &mut bytes)?;
+    print_input(&rt, &bytes[..end])
 }
