@@ -1,5 +1,4 @@
 -- `certificates::judge_many` meets its contract: the half tables are those of the table's moves.
-use borrow.Author.Rules.{rules}
 use Rattle.pairs.proofs.Pairing.{paired}
 use Rattle.certificates.proofs.judge_many.Goals as goal
 

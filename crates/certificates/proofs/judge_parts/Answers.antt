@@ -1,9 +1,8 @@
-use mathlib.Core.Path.{◌≡◌, sym, ap, ◌∙◌, subst}
+use mathlib.Core.Path.{◌≡◌, ap, ◌∙◌, subst}
 use mathlib.Core.List.{List}
-use Prim.Native.Nat.{ℕ, ◌+◌, ◌-◌, ◌≤◌, ◌<◌}
+use Prim.Native.Nat.{ℕ, ◌+◌, ◌<◌}
 use native.Mathlib.Omega.{arith}
-use borrow.Author.Rules.{rules}
-use Rattle.games.specs.Words.{game, part_length}
+use Rattle.games.specs.Words.{part_length}
 use Rattle.games.specs.declared.Checked.TheVariants.{Fine, Refused}
 use Rattle.cards.specs.Card.{card_cells, card_observations, cell_place, checked}
 use Rattle.games.proofs.Limits.{parts_below}
@@ -73,8 +72,7 @@ loop-c-preserved c =
     let fine : checked words ≡ Fine = (paired _ _ c.requires.0.fine).card_fine in
     let seen : c.observations-o.result ≡ card_observations words = c.observations-o.ensures in
     let there : c.loop-c.c < card_cells words = omega (arith, c.loop-c-test.true, c.cells-m.ensures) in
-    let part : c.part_length.result ≡ part_length (card_observations words) = c.part_length.ensures ∙ ap part_length seen in
-    (
+    let part : c.part_length.result ≡ part_length (card_observations words) = c.part_length.ensures ∙ ap part_length seen in (
       part_pass _ _ fine _ there c.loop-c.invariant.0 _ c.part_holds-held.ensures (omega (arith, c.if-held-part_length.false, part)),
       omega (arith, there),
     )

@@ -1,7 +1,6 @@
 -- `certificates::judge_words` meets its contract: the first words, then the parts, with half tables or without.
 use mathlib.Core.Path.{◌≡◌}
 use native.Mathlib.Omega.{arith}
-use borrow.Author.Rules.{rules}
 use Rattle.games.specs.Words.{game, front_length}
 use Rattle.games.specs.declared.Checked.TheVariants.{Fine}
 use Rattle.cards.specs.Card.{card_observations, checked}

@@ -1,6 +1,5 @@
 -- `certificates::lie` meets its contract: no cell, or a cell of the card.
 use mathlib.Core.Path.{◌∙◌}
-use borrow.Author.Rules.{rules}
 use Rattle.cards.proofs.Running.{cell_below}
 use Rattle.certificates.proofs.Words.{lies_none, lies_some}
 use Rattle.certificates.proofs.lie.Goals as goal

@@ -1,13 +1,10 @@
 use mathlib.Core.Path.{◌≡◌, sym, ap, ◌∙◌}
-use Prim.Native.Nat.{ℕ, ◌-◌, ◌<◌}
+use Prim.Native.Nat.{◌<◌}
 use native.Mathlib.Omega.{arith}
-use borrow.Author.Rules.{rules}
-use borrow.Author.Tests.{not-true, not-false}
 use Rattle.sets.specs.Mask.{common}
 use Rattle.games.specs.Words.{game}
 use Rattle.tables.proofs.Checks.{sized}
 use Rattle.cards.specs.Card.{automaton, card_observations}
-use Rattle.cards.specs.Checking.{Pass}
 use Rattle.cards.proofs.Passing.{pass_none, pass_more, pass_end}
 use Rattle.cards.proofs.Running.{next_named_at}
 use Rattle.pairs.specs.Pair.{Paired}

@@ -2,8 +2,6 @@
 use mathlib.Core.Path.{◌≡◌, sym, ◌∙◌}
 use mathlib.Core.Bool.{true}
 use native.Mathlib.Omega.{arith}
-use borrow.Author.Rules.{rules}
-use borrow.Author.Tests.{not-true, not-false}
 use Rattle.games.specs.Words.{game}
 use Rattle.tables.proofs.Checks.{sized}
 use Rattle.pairs.specs.Pair.{Paired}
@@ -32,8 +30,7 @@ cell_action-requires c =
 pub post-posted-requires : goal.post-posted-requires
 post-posted-requires c =
     let pair : Paired c.args.table.now c.args.card.now = paired _ _ c.requires.0.fine in
-    let fit : set_fits (game c.args.table.now) c.cell_set-s.result ≡ true = sym c.set_fits.ensures ∙ c.if-not-set_fits.false in
-    (
+    let fit : set_fits (game c.args.table.now) c.cell_set-s.result ≡ true = sym c.set_fits.ensures ∙ c.if-not-set_fits.false in (
       sized _ pair.table_fine,
       c.requires.0.halves,
       fit_below _ _ fit,

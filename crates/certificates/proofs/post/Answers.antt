@@ -1,6 +1,5 @@
 -- `certificates::post` meets its contract: the half tables' answer, or the walk's without its number.
 use mathlib.Core.Path.{◌≡◌, sym, ap, ◌∙◌}
-use borrow.Author.Rules.{rules}
 use Rattle.games.specs.Words.{game}
 use Rattle.walk.specs.declared.Walked.{Walked}
 use Rattle.moves.specs.Halves.{posted, unnumbered}

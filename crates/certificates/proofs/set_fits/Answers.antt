@@ -1,6 +1,5 @@
 -- `certificates::set_fits` meets its contract: the two tests joined.
 use native.Mathlib.Omega.{arith}
-use borrow.Author.Rules.{rules}
 use Rattle.games.specs.Step.{safe}
 use Rattle.tables.proofs.Bounds.{few_states}
 use Rattle.certificates.specs.Certificate.{set_fits}
