@@ -7,7 +7,7 @@ use Prim.Native.Nat.{ℕ, ◌+◌, ◌^◌, ◌≤◌, ◌<◌}
 use native.Mathlib.Omega.{arith}
 use lib.ListN.{length}
 use Rattle.sets.specs.Mask.{common}
-use Rattle.sets.specs.Bounded.{Found, nothing, found, first, or_else, gather, all}
+use Rattle.sets.specs.Bounded.{Found, nothing, first, or_else, gather, all}
 use Rattle.sets.specs.Family.{holds}
 use Rattle.sets.proofs.Logic.{clash}
 use Rattle.sets.proofs.Fills.{gather_ext}

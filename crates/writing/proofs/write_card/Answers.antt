@@ -1,22 +1,19 @@
-use borrow.Author.Rules.{rules}
 use mathlib.Core.List.{List, ◌++◌}
 use mathlib.Core.Path.{◌≡◌, refl, sym, ap, ◌∙◌, subst}
-use Prim.Native.Nat.{ℕ, ◌+◌, ◌≤◌, ◌<◌, ◌-◌, ◌^◌}
+use Prim.Native.Nat.{ℕ, ◌+◌, ◌≤◌, ◌<◌, ◌^◌}
 use native.Mathlib.Omega.{arith}
 use lib.ListN.{length, get_or, drop}
 use lib.Seq.{length-take-le}
 use Rattle.families.specs.Bits.{sets as sets_of}
-use Rattle.index.specs.Index.{Noted}
 use Rattle.index.proofs.Noting.{noted_cell}
 use Rattle.writing.specs.Writing.{SettledSet, set_words}
-use Rattle.games.specs.Format.{max_cells, max_observations}
 use Rattle.games.specs.Game.{Game}
 use Rattle.games.specs.Words.{game, front_length, part_length, card_length, card_of}
 use Rattle.games.proofs.Limits.{parts_below}
 use Rattle.cards.specs.Card.{cell_place}
 use Rattle.tables.proofs.Bounds.{few_observations}
 use Rattle.tables.proofs.Checks.{sized, accepted}
-use Rattle.cards.proofs.Parts.{Carded, carded_none, carded_room, carded_part, carded_more, front_within, fronted_same, fronted_room, carded_whole}
+use Rattle.cards.proofs.Parts.{carded_none, carded_room, carded_part, carded_more, front_within, fronted_same, fronted_room, carded_whole}
 use Rattle.writing.proofs.Carding.{listed_words, set_words_length, front_words_length, card_is, cell_of}
 use Rattle.writing.proofs.write_card.Goals as goal
 
@@ -62,8 +59,7 @@ loop-c-init c =
     let parts : ℕ → List ℕ = listed_words played listed in
     let front_is : c.front_length-front.result ≡ front_length played.observations = c.front_length-front.ensures ∙ ap front_length c.observations-o.ensures in
     let count_is : c.args.count ≡ length listed = c.requires.3 in
-    let room_for : card_length (length listed) played.observations ≤ length c.args.card.now = subst (λ (n : ℕ). card_length n played.observations ≤ length c.args.card.now) count_is c.requires.4 in
-    (
+    let room_for : card_length (length listed) played.observations ≤ length c.args.card.now = subst (λ (n : ℕ). card_length n played.observations ≤ length c.args.card.now) count_is c.requires.4 in (
       omega (arith, c.observations-o.ensures, few_observations c.args.table.now (sized c.args.table.now c.requires.0.fine)),
       c.requires.0.index.cells_few,
       carded_none seen many parts _
@@ -132,8 +128,7 @@ write_cell-requires c =
     let count_is : c.args.count ≡ length listed = c.requires.3 in
     let place_is : c.cell_place-at.result ≡ cell_place played.observations c.loop-c.c = c.cell_place-at.ensures ∙ ap (λ (o : ℕ). cell_place o c.loop-c.c) c.observations-o.ensures in
     let more : c.loop-c.c < length listed = omega (arith, c.loop-c-test.true, count_is) in
-    let read : get_or c.loop-c.work c.loop-c.c 0 ≡ get_or listed c.loop-c.c 0 = noted_cell c.args.tops.now c.args.base c.loop-c.work c.loop-c.invariant.4 c.loop-c.c more in
-    (
+    let read : get_or c.loop-c.work c.loop-c.c 0 ≡ get_or listed c.loop-c.c 0 = noted_cell c.args.tops.now c.args.base c.loop-c.work c.loop-c.invariant.4 c.loop-c.c more in (
       c.requires.0,
       c.loop-c.invariant.4,
       c.requires.2,
@@ -152,8 +147,7 @@ loop-c-preserved c =
     let count_is : c.args.count ≡ length listed = c.requires.3 in
     let place_is : c.cell_place-at.result ≡ cell_place played.observations c.loop-c.c = c.cell_place-at.ensures ∙ ap (λ (o : ℕ). cell_place o c.loop-c.c) c.observations-o.ensures in
     let more : c.loop-c.c < length listed = omega (arith, c.loop-c-test.true, count_is) in
-    let read : get_or c.loop-c.work c.loop-c.c 0 ≡ get_or listed c.loop-c.c 0 = noted_cell c.args.tops.now c.args.base c.loop-c.work c.loop-c.invariant.4 c.loop-c.c more in
-    (
+    let read : get_or c.loop-c.work c.loop-c.c 0 ≡ get_or listed c.loop-c.c 0 = noted_cell c.args.tops.now c.args.base c.loop-c.work c.loop-c.invariant.4 c.loop-c.c more in (
       c.loop-c.invariant.0,
       c.loop-c.invariant.1,
       carded_more seen many parts _ c.loop-c.c c.loop-c.card c.loop-c.invariant.2 more c.cell_place-at.result c.part_length-part.result place_is part_is

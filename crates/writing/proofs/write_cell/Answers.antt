@@ -2,12 +2,11 @@ use borrow.Author.Rules.{rules}
 use mathlib.Core.Bool.{true}
 use mathlib.Core.List.{List}
 use mathlib.Core.Path.{◌≡◌, refl, sym, ap, ◌∙◌, subst}
-use Prim.Native.Nat.{ℕ, ◌+◌, ◌≤◌, ◌<◌, ◌-◌, ◌^◌}
+use Prim.Native.Nat.{ℕ, ◌+◌, ◌≤◌, ◌<◌, ◌^◌}
 use native.Mathlib.Nat.{le_antisymm}
 use native.Mathlib.Omega.{arith}
-use lib.ListN.{length, set, length-set}
+use lib.ListN.{set, length-set}
 use Rattle.sets.specs.Mask.{common}
-use Rattle.sets.specs.Bounded.{all}
 use Rattle.sets.specs.Family.{holds}
 use Rattle.sets.proofs.Bounded.{first_zero, all_zero, all_more}
 use Rattle.sets.proofs.Logic.{and_intro}
@@ -23,10 +22,9 @@ use Rattle.games.proofs.Holding.{holding_small}
 use Rattle.tables.proofs.Checks.{sized, accepted}
 use Rattle.tables.proofs.Bounds.{few_observations, few_actions, few_sets}
 use Rattle.games.proofs.Steps.{shown_below}
-use Rattle.cards.proofs.Parts.{Filled, filled_none, filled_more, filled_end}
-use Rattle.index.specs.Index.{Noted}
+use Rattle.cards.proofs.Parts.{filled_none, filled_more, filled_end}
 use Rattle.index.proofs.Answer.{nowhere_unheld, by_holding}
-use Rattle.writing.proofs.Choosing.{NoneMeets, none_next, none_with, chosen_is, never_none, blocked_fails, uncovered_fails, covered_meets, after_is, settled_held, next_word, next_word_lem, set_words_lem}
+use Rattle.writing.proofs.Choosing.{none_next, none_with, chosen_is, never_none, blocked_fails, uncovered_fails, covered_meets, after_is, settled_held, next_word, next_word_lem, set_words_lem}
 use Rattle.writing.proofs.write_cell.Goals as goal
 
 -- ---- the needs
@@ -37,20 +35,19 @@ pub actions-a-end-requires : goal.actions-a-end-requires
 actions-a-end-requires c = sized c.args.table.now c.requires.0.fine
 
 pub actions-init : goal.actions-init
-actions-init c =
-    (
-      record {
-        observations_are = c.observations-o.ensures;
-        observations_few = subst (λ (n : ℕ). n ≤ max_observations) (sym c.observations-o.ensures) (few_observations c.args.table.now (sized c.args.table.now c.requires.0.fine));
-        actions_are = c.actions-a-end.ensures;
-        actions_few = subst (λ (n : ℕ). n ≤ max_actions) (sym c.actions-a-end.ensures) (few_actions c.args.table.now (sized c.args.table.now c.requires.0.fine));
-        within = omega arith;
-        size = c.requires.4 ∙ ap (λ (n : ℕ). 1 + n) (sym c.observations-o.ensures);
-        none = first_zero _;
-      },
-      refl,
-      c.requires.1,
-    )
+actions-init c = (
+  record {
+    observations_are = c.observations-o.ensures;
+    observations_few = subst (λ (n : ℕ). n ≤ max_observations) (sym c.observations-o.ensures) (few_observations c.args.table.now (sized c.args.table.now c.requires.0.fine));
+    actions_are = c.actions-a-end.ensures;
+    actions_few = subst (λ (n : ℕ). n ≤ max_actions) (sym c.actions-a-end.ensures) (few_actions c.args.table.now (sized c.args.table.now c.requires.0.fine));
+    within = omega arith;
+    size = c.requires.4 ∙ ap (λ (n : ℕ). 1 + n) (sym c.observations-o.ensures);
+    none = first_zero _;
+  },
+  refl,
+  c.requires.1,
+)
 
 pub post-posted-requires : goal.post-posted-requires
 post-posted-requires c =
@@ -63,8 +60,7 @@ actions-preserved-in_default c =
     let played : Game = game c.args.table.now in
     let acting : ℕ = c.args.s in
     let observed : ℕ = c.observations-o.result in
-    let last : ℕ = c.actions-a-end.result in
-    (
+    let last : ℕ = c.actions-a-end.result in (
       none_next played acting observed last c.actions.a c.actions.out c.actions.invariant.0
           (blocked_fails played acting c.actions.a c.post-posted.result c.post-posted.ensures c.in_default.is) (omega arith),
       c.actions.invariant.1,
@@ -115,13 +111,10 @@ actions-preserved c =
     let shows : ℕ = common after_it (played.shown c.loop-j.j) in
     let held : settled played shows ≡ holds listed part = ap (λ (x : ℕ). settled played (common after_it x)) (sym c.shown.ensures)
     ∙ settled_held played fine listed c.requires.0.are part below in
-    let same : c.loop-holder.a ≡ c.actions.a = c.loop-holder.invariant.0 ∙ c.loop-j.invariant.0 in
-    let lost = held ∙ nowhere_unheld listed part c.holding-held.result c.holding-held.ensures.0 c.in_default-held.is in
-    (
-      rw same
-          (none_next played acting observed last c.actions.a c.loop-j.out c.loop-j.invariant.3
+    let lost = held ∙ nowhere_unheld listed part c.holding-held.result c.holding-held.ensures.0 c.in_default-held.is in (
+      none_next played acting observed last c.actions.a c.loop-j.out c.loop-j.invariant.3
           (uncovered_fails played acting c.actions.a c.post-posted.result c.post-posted.ensures after_it c.in-Post.is c.loop-j.j there lost)
-          (omega (arith, c.actions-test.true))),
+          (omega (arith, c.actions-test.true)),
       c.holding-held.auto.work ∙ c.loop-holder.invariant.1 ∙ c.loop-j.invariant.5 ∙ c.actions.invariant.1,
       c.holding-held.ensures.1,
     )
@@ -161,8 +154,7 @@ loop-j-preserved c =
     let held : settled played shows ≡ holds listed part = ap (λ (x : ℕ). settled played (common after_it x)) (sym c.shown.ensures)
     ∙ settled_held played fine listed c.requires.0.are part below in
     let named : (settled played shows ≡ true) × (c.in-By.holder.0 ≡ holding listed part) = let w = by_holding listed part c.holding-held.result c.holding-held.ensures.0 c.in-By.holder c.in-By.is in
-    (held ∙ w.0, w.1) in
-    (
+    (held ∙ w.0, w.1) in (
       c.loop-holder.invariant.0 ∙ c.loop-j.invariant.0,
       omega (arith, c.loop-j-test.true),
       all_more c.loop-j.j (λ i. settled played (common after_it (played.shown i))) ∙ and_intro c.loop-j.invariant.2 named.0,
@@ -195,8 +187,7 @@ returns-in-actions c =
     let after_it : ℕ = c.in-Post.u in
     let u = after_it in
     let e : c.loop-j.j ≡ played.observations = le_antisymm c.loop-j.invariant.1 c.loop-j-test.false ∙ c.actions.invariant.0.observations_are in
-    let m = covered_meets played acting c.actions.a c.post-posted.result c.post-posted.ensures u c.in-Post.is (rw e at c.loop-j.invariant.2) in
-    (
+    let m = covered_meets played acting c.actions.a c.post-posted.result c.post-posted.ensures u c.in-Post.is (rw e at c.loop-j.invariant.2) in (
       filled_end observed (next_word played listed u) c.loop-j.j c.loop-j.out c.picking.result c.loop-j-test.false c.loop-j.invariant.1 c.loop-j.invariant.4
           ∙ set_words_lem played listed c.requires.0.are acting c.actions.a u observed c.picking.result c.actions.invariant.0.observations_are
           (chosen_is played acting observed last c.actions.a c.loop-j.out c.loop-j.invariant.3 c.actions-test.true m)

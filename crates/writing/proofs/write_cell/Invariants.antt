@@ -1,34 +1,17 @@
 -- `writing::write_cell` meets its contract. The loops' invariants: no action below a meets the step; for the observations below j, the
 -- successors are settled and the words are written.
-use borrow.Author.Rules.{rules}
 use mathlib.Core.Bool.{true}
-use mathlib.Core.List.{List}
-use mathlib.Core.Path.{◌≡◌, refl, sym, ap, ◌∙◌, subst}
-use Prim.Native.Nat.{ℕ, ◌+◌, ◌≤◌, ◌<◌, ◌-◌, ◌^◌}
-use native.Mathlib.Nat.{le_antisymm}
-use native.Mathlib.Omega.{arith}
-use lib.ListN.{length, set, length-set}
+use mathlib.Core.Path.{◌≡◌}
+use Prim.Native.Nat.{◌≤◌, ◌-◌}
+use lib.ListN.{length}
 use Rattle.sets.specs.Mask.{common}
 use Rattle.sets.specs.Bounded.{all}
-use Rattle.sets.specs.Family.{holds}
-use Rattle.sets.proofs.Bounded.{first_zero, all_zero, all_more}
-use Rattle.sets.proofs.Logic.{and_intro}
 use Rattle.families.specs.Bits.{sets}
-use Rattle.families.proofs.Lanes.{lane_there}
-use Rattle.games.specs.Format.{low_values, max_actions, max_observations, kind_cell}
-use Rattle.games.specs.Game.{Game, Accepted}
-use Rattle.games.specs.Fields.{word}
 use Rattle.games.specs.Words.{game}
 use Rattle.games.specs.Verdict.{settled}
-use Rattle.games.specs.Automaton.{holding}
-use Rattle.games.proofs.Holding.{holding_small}
-use Rattle.tables.proofs.Checks.{sized, accepted}
-use Rattle.tables.proofs.Bounds.{few_observations, few_actions, few_sets}
-use Rattle.games.proofs.Steps.{shown_below}
-use Rattle.cards.proofs.Parts.{Filled, filled_none, filled_more, filled_end}
+use Rattle.cards.proofs.Parts.{Filled}
 use Rattle.index.specs.Index.{Noted}
-use Rattle.index.proofs.Answer.{nowhere_unheld, by_holding}
-use Rattle.writing.proofs.Choosing.{NoneMeets, none_next, none_with, chosen_is, never_none, blocked_fails, uncovered_fails, covered_meets, after_is, settled_held, next_word, next_word_lem, set_words_lem}
+use Rattle.writing.proofs.Choosing.{NoneMeets, next_word}
 use Rattle.writing.proofs.write_cell.Given as goal
 
 -- the loop over observations that is left at once
