@@ -1,5 +1,4 @@
 -- `solver::accept` meets its contract: the settled family's maximal sets are the cells, and they are noted in the work.
-use borrow.Author.Rules.{rules}
 use mathlib.Core.List.{List}
 use mathlib.Core.Path.{◌≡◌, sym, ap, ◌∙◌, subst}
 use Prim.Native.Nat.{ℕ, ◌^◌, ◌≤◌}
@@ -33,15 +32,14 @@ note_cells-count-requires c =
     let topped : List ℕ = c.maximal_bits.new.found in
     let tops_are : sets topped ≡ cells played = c.maximal_bits.ensures.1 ∙ cells_are played c.args.family.now c.requires.1 _ c.states-n.ensures in
     let same_lanes : length topped ≡ length c.args.family.now = c.maximal_bits.ensures.0 ∙ c.requires.2 in
-    let base_is : (m : Found) → c.set_count-base.result ≡ 2 ^ m.before.before.states.result → c.set_count-base.result ≡ 2 ^ (played m).states = λ m e. e ∙ ap (λ (n : ℕ). 2 ^ n) m.before.before.states.ensures in
+    let base_is : c.set_count-base.result ≡ 2 ^ played.states = c.set_count-base.ensures ∙ ap (λ (n : ℕ). 2 ^ n) c.states-n.ensures in
     let few = few_states c.args.table.now (sized c.args.table.now c.requires.0.fine) in
-    let b = base_is c c.set_count-base.ensures in
     record {
-      room = omega (arith, b, c.requires.3);
-      few = omega (arith, b, ap length tops_are, cells_few played);
-      small = omega (arith, b, few_sets c.args.table.now (sized c.args.table.now c.requires.0.fine));
+      room = omega (arith, base_is, c.requires.3);
+      few = omega (arith, base_is, ap length tops_are, cells_few played);
+      small = omega (arith, base_is, few_sets c.args.table.now (sized c.args.table.now c.requires.0.fine));
       few_lanes = few_lanes played.states topped few (same_lanes ∙ c.requires.1.size);
-      below = λ v h. rw b (cell_below played topped tops_are v h);
+      below = λ v h. rw base_is (cell_below played topped tops_are v h);
     }
 
 pub grant_indexed-requires : goal.grant_indexed-requires
@@ -50,8 +48,8 @@ grant_indexed-requires c =
     let topped : List ℕ = c.maximal_bits.new.found in
     let tops_are : sets topped ≡ cells played = c.maximal_bits.ensures.1 ∙ cells_are played c.args.family.now c.requires.1 _ c.states-n.ensures in
     let same_lanes : length topped ≡ length c.args.family.now = c.maximal_bits.ensures.0 ∙ c.requires.2 in
-    let base_is : (m : Found) → c.set_count-base.result ≡ 2 ^ m.before.before.states.result → c.set_count-base.result ≡ 2 ^ (played m).states = λ m e. e ∙ ap (λ (n : ℕ). 2 ^ n) m.before.before.states.ensures in
-    (c.requires.0, c.requires.1, same_lanes, tops_are, base_is c c.set_count-base.ensures, c.note_cells-count.ensures.1, c.note_cells-count.ensures.0)
+    let base_is : c.set_count-base.result ≡ 2 ^ played.states = c.set_count-base.ensures ∙ ap (λ (n : ℕ). 2 ^ n) c.states-n.ensures in
+    (c.requires.0, c.requires.1, same_lanes, tops_are, base_is, c.note_cells-count.ensures.1, c.note_cells-count.ensures.0)
 
 pub returns : goal.returns
 returns c =

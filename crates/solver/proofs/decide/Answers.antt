@@ -1,5 +1,4 @@
 -- `solver::decide` meets its contract: there is room for the lanes of the table's sets, and the search's tables are filled.
-use borrow.Author.Rules.{rules}
 use mathlib.Core.List.{List}
 use mathlib.Core.Path.{◌≡◌, sym, ap, ◌∙◌, subst}
 use Prim.Native.Nat.{ℕ, ◌≤◌}
@@ -56,8 +55,7 @@ answer_with-requires c =
     (e, subst (λ (m : ℕ). m ≤ max_lanes) (sym e) (table_lanes c.args.table.now (sized c.args.table.now c.requires.0))) in
     let within : (room : List ℕ) → length room ≡ max_lanes → c.lane_count-lanes.result ≤ length room = λ room e. omega (arith, lanes_are.1) in
     let front : (room : List ℕ) → length room ≡ max_lanes → length (take c.lane_count-lanes.result room) ≡ c.lane_count-lanes.result = λ room e. length-take-le _ _ (within room e) in
-    let first = front c.empty_family-family.result c.empty_family-family.ensures in
-    (
+    let first = front c.empty_family-family.result c.empty_family-family.ensures in (
       record { fine = c.requires.0; tabled = c.fill.ensures },
       first ∙ lanes_are.0,
       front c.empty_family-next.result c.empty_family-next.ensures ∙ sym first,

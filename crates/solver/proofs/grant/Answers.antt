@@ -1,5 +1,4 @@
 -- `solver::grant` meets its contract: 9 where the card room is short, else what `write_card` ensures.
-use borrow.Author.Rules.{rules}
 use mathlib.Core.Path.{◌≡◌, ap, ◌∙◌, subst}
 use Prim.Native.Nat.{ℕ, ◌≤◌}
 use native.Mathlib.Omega.{arith}

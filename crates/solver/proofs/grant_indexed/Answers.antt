@@ -1,5 +1,4 @@
 -- `solver::grant_indexed` meets its contract: with what is marked, the cells have an index.
-use borrow.Author.Rules.{rules}
 use mathlib.Core.List.{List}
 use mathlib.Core.Path.{◌≡◌, refl, sym, ap, ◌∙◌, subst}
 use Prim.Native.Nat.{ℕ, ◌^◌, ◌≤◌, ◌<◌}
@@ -45,10 +44,9 @@ overflow_cast-count c =
 
 pub grant-requires : goal.grant-requires
 grant-requires c =
-    let front : take c.args.count c.args.work.now ≡ sets c.args.tops.now = ap (λ (n : ℕ). take n c.args.work.now) c.requires.6 ∙ c.requires.5.front in
-    (
+    let front : take c.args.count c.args.work.now ≡ sets c.args.tops.now = ap (λ (n : ℕ). take n c.args.work.now) c.requires.6 ∙ c.requires.5.front in (
       record {
-        c.requires.0.fine = c.requires.0.fine;
+        fine = c.requires.0.fine;
         are = c.requires.3;
         wide = c.requires.2 ∙ c.requires.1.size;
         all_sets = c.requires.4;

@@ -1,5 +1,4 @@
 -- `solver::solve` meets its contract: a refusal of the table, 8, or what `decide` ensures; the promise follows from the outcome.
-use borrow.Author.Rules.{rules}
 use mathlib.Core.List.{List}
 use mathlib.Core.Path.{◌≡◌, sym, ap, ◌∙◌, subst}
 use Prim.Native.Nat.{ℕ, ◌*◌, ◌≤◌}
@@ -20,7 +19,7 @@ use Rattle.solver.proofs.solve.Goals as goal
 pub returns-in-Refused : goal.returns-in-Refused
 returns-in-Refused c =
     let e = solved_stopped c.args.table.now c.args.work.now c.args.card.now c.in-Refused.number c.in-Refused.place (sym c.check-checked.ensures ∙ c.in-Refused.is) in
-    (e, promised c.args.table.now c.args.work.now c.args.card.now _ _ _ e)
+    record { determined = e; promised = promised c.args.table.now c.args.work.now c.args.card.now _ _ _ e }
 
 pub states-requires : goal.states-requires
 states-requires c =
@@ -47,7 +46,7 @@ returns-then-work-need c =
     let fine : checked table ≡ Fine = sym c.check-checked.ensures ∙ c.in_default.is in
     let need_is : 4 * c.set_count-need.result ≡ work_words (game table).states = ap (λ (n : ℕ). 4 * n) (size_is (game table) c.states.result c.set_count-need.result c.states.ensures c.set_count-need.ensures) in
     let e = solved_short c.args.table.now c.args.work.now c.args.card.now fine _ need_is c.if-work-need.true in
-    (e, promised c.args.table.now c.args.work.now c.args.card.now _ _ _ e)
+    record { determined = e; promised = promised c.args.table.now c.args.work.now c.args.card.now _ _ _ e }
 
 pub slice_bounds-decide-end-2 : goal.slice_bounds-decide-end-2
 slice_bounds-decide-end-2 c = sym (length-take-le _ _ c.if-work-need.false)
@@ -66,4 +65,4 @@ returns c =
     let need_is : 4 * c.set_count-need.result ≡ work_words (game table).states = ap (λ (n : ℕ). 4 * n) (size_is (game table) c.states.result c.set_count-need.result c.states.ensures c.set_count-need.ensures) in
     let e = solved_done c.args.table.now c.args.work.now c.args.card.now fine _ need_is c.if-work-need.false c.decide-answer.result c.fill.new.d c.decide-answer.new.card c.decide-answer.ensures
     (cleared _ c.decide-answer.new.work c.args.work.now _ c.decide-answer.auto.work c.if-work-need.false c.fill.ensures) in
-    (e, promised c.args.table.now c.args.work.now c.args.card.now _ _ _ e)
+    record { determined = e; promised = promised c.args.table.now c.args.work.now c.args.card.now _ _ _ e }
