@@ -1,5 +1,4 @@
 -- `trimmer::behind_next` meets its contract: a word of 32 bits has an upper half that fits.
-use borrow.Author.Rules.{rules}
 use Prim.Native.Nat.{◌-◌}
 use native.Mathlib.Omega.{arith}
 use Rattle.trimmer.proofs.behind_next.Goals as goal

@@ -1,7 +1,6 @@
-use borrow.Author.Rules.{rules}
-use mathlib.Core.Path.{◌≡◌, refl, ap, ◌∙◌}
+use mathlib.Core.Path.{refl, ap, ◌∙◌}
 use mathlib.Core.List.{List, ◌++◌}
-use Prim.Native.Nat.{ℕ, ◌≤◌, ◌-◌}
+use Prim.Native.Nat.{ℕ}
 use native.Mathlib.Nat.{le_antisymm}
 use native.Mathlib.Omega.{arith}
 use lib.ListN.{length, get_or, drop, set, length-set}
@@ -17,8 +16,7 @@ bounds-out-i c = omega (arith, c.loop-i-test.true, c.loop-i.invariant.1, c.requi
 
 pub loop-i-preserved : goal.loop-i-preserved
 loop-i-preserved c =
-    let f : ℕ → ℕ = λ k. get_or c.args.card.now k 0 in
-    (
+    let f : ℕ → ℕ = λ k. get_or c.args.card.now k 0 in (
       omega (arith, c.loop-i-test.true),
       length-set c.loop-i.out c.loop-i.i (f c.loop-i.i) ∙ c.loop-i.invariant.1,
       ap (λ (d : List ℕ). set d c.loop-i.i (f c.loop-i.i)) c.loop-i.invariant.2 ∙ filled_more f c.loop-i.i c.args.out.now (omega (arith, c.loop-i-test.true, c.requires)),

@@ -1,13 +1,8 @@
 -- `trimmer::copy_card` meets its contract. The loop's invariant: the first i words are the card's.
-use borrow.Author.Rules.{rules}
-use mathlib.Core.Path.{◌≡◌, refl, ap, ◌∙◌}
-use mathlib.Core.List.{List, ◌++◌}
-use Prim.Native.Nat.{ℕ, ◌≤◌, ◌-◌}
-use native.Mathlib.Nat.{le_antisymm}
-use native.Mathlib.Omega.{arith}
-use lib.ListN.{length, get_or, drop, set, length-set}
+use mathlib.Core.Path.{◌≡◌}
+use Prim.Native.Nat.{◌≤◌, ◌-◌}
+use lib.ListN.{length, get_or}
 use Rattle.sets.specs.Bounded.{filled_by}
-use Rattle.sets.proofs.Fills.{filled_none, filled_more, values_back}
 use Rattle.trimmer.proofs.copy_card.Given as goal
 
 abbrev pub invariant-loop-i : goal.invariant-loop-i

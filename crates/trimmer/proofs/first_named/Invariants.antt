@@ -1,14 +1,8 @@
 -- `trimmer::first_named` meets its contract. The loop's invariant: the first words below j name no cell.
-use mathlib.Core.Path.{◌≡◌, refl, sym, ◌∙◌, subst}
-use mathlib.Core.Logic.{inl, inr}
+use mathlib.Core.Path.{◌≡◌}
 use Prim.Native.Nat.{ℕ, ◌≤◌, ◌<◌, ◌-◌}
-use native.Mathlib.Omega.{arith}
-use borrow.Author.Count.{below_more}
 use Rattle.games.specs.Automaton.{no_cell}
-use Rattle.cards.specs.Card.{card_observations, automaton}
-use Rattle.cards.proofs.Checked.{fitting}
-use Rattle.cards.proofs.Running.{named_cell}
-use Rattle.trimming.specs.Reach.{Names}
+use Rattle.cards.specs.Card.{automaton}
 use Rattle.trimmer.proofs.first_named.Given as goal
 
 abbrev pub invariant-loop-j : goal.invariant-loop-j

@@ -1,5 +1,4 @@
 -- `trimmer::mark` meets its contract: the cell is marked already, or there is room behind it for those that wait.
-use borrow.Author.Rules.{rules}
 use mathlib.Core.Path.{◌≡◌, sym, ap, ◌∙◌, subst}
 use mathlib.Core.Bool.{true, false}
 use mathlib.Core.List.{List}

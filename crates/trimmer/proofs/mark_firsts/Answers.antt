@@ -1,5 +1,4 @@
 -- `trimmer::mark_firsts` meets its contract: no cell is marked, then the first one that is named, and from there the others.
-use borrow.Author.Rules.{rules}
 use mathlib.Core.Path.{◌≡◌, sym, ap, ◌∙◌, subst}
 use mathlib.Core.Bool.{false}
 use mathlib.Core.List.{List}

@@ -1,6 +1,5 @@
-use borrow.Author.Rules.{rules}
 use mathlib.Core.Path.{sym, subst}
-use Prim.Native.Nat.{ℕ, ◌+◌, ◌≤◌, ◌<◌, ◌-◌}
+use Prim.Native.Nat.{ℕ, ◌+◌, ◌<◌}
 use native.Mathlib.Nat.{le_antisymm}
 use native.Mathlib.Omega.{arith}
 use lib.ListN.{length}
@@ -41,12 +40,11 @@ pub loop-j-smaller : goal.loop-j-smaller
 loop-j-smaller c = omega (arith, c.loop-j-test.true)
 
 pub loop-j-preserved : goal.loop-j-preserved
-loop-j-preserved c =
-    (
-      omega (arith, c.loop-j-test.true),
-      added_more (named_from c.args.card.now c.args.at) c.args.work.now c.args.waiting.cells c.args.waiting.next.0 c.loop-j.j c.loop-j.work c.loop-j.listed.cells c.loop-j.listed.next.0 c.mark-listed.new.work c.mark-listed.result.cells c.mark-listed.result.next.0 c.loop-j.invariant.1
-          (subst (λ (y : ℕ). Added (λ _. y) 1 c.loop-j.work c.loop-j.listed.cells c.loop-j.listed.next.0 c.mark-listed.new.work c.mark-listed.result.cells c.mark-listed.result.next.0) c.low_field-cell.ensures c.mark-listed.ensures),
-    )
+loop-j-preserved c = (
+  omega (arith, c.loop-j-test.true),
+  added_more (named_from c.args.card.now c.args.at) c.args.work.now c.args.waiting.cells c.args.waiting.next.0 c.loop-j.j c.loop-j.work c.loop-j.listed.cells c.loop-j.listed.next.0 c.mark-listed.new.work c.mark-listed.result.cells c.mark-listed.result.next.0 c.loop-j.invariant.1
+      (subst (λ (y : ℕ). Added (λ _. y) 1 c.loop-j.work c.loop-j.listed.cells c.loop-j.listed.next.0 c.mark-listed.new.work c.mark-listed.result.cells c.mark-listed.result.next.0) c.low_field-cell.ensures c.mark-listed.ensures),
+)
 
 pub shape_of-work : goal.shape_of-work
 shape_of-work c = c.loop-j.invariant.1.same

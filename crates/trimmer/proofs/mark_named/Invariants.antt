@@ -1,12 +1,6 @@
 -- `trimmer::mark_named` meets its contract. The loop's invariant: the cells that the first j words name are marked.
-use borrow.Author.Rules.{rules}
-use mathlib.Core.Path.{sym, subst}
-use Prim.Native.Nat.{ℕ, ◌+◌, ◌≤◌, ◌<◌, ◌-◌}
-use native.Mathlib.Nat.{le_antisymm}
-use native.Mathlib.Omega.{arith}
-use lib.ListN.{length}
-use Rattle.trimmer.specs.Marking.{Added, named_from, NamesInside, Own}
-use Rattle.trimmer.proofs.Marking.{added_none, added_more}
+use Prim.Native.Nat.{◌≤◌, ◌-◌}
+use Rattle.trimmer.specs.Marking.{Added, named_from}
 use Rattle.trimmer.proofs.mark_named.Given as goal
 
 abbrev pub invariant-loop-j : goal.invariant-loop-j

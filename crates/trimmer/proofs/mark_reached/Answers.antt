@@ -1,6 +1,6 @@
 use mathlib.Core.Path.{◌≡◌, sym, ◌∙◌, subst}
 use mathlib.Core.List.{List}
-use Prim.Native.Nat.{ℕ, ◌+◌, ◌≤◌, ◌<◌, ◌-◌}
+use Prim.Native.Nat.{ℕ, ◌+◌, ◌≤◌, ◌<◌}
 use native.Mathlib.Omega.{arith}
 use lib.ListN.{length}
 use Rattle.games.specs.Automaton.{Automaton}
@@ -10,7 +10,7 @@ use Rattle.cards.proofs.Checked.{fitting}
 use Rattle.cards.proofs.Running.{size_of}
 use Rattle.sets.proofs.Bounded.{count_le}
 use Rattle.trimmer.specs.Halves.{marked}
-use Rattle.trimmer.specs.Marking.{Added, named_from, Naming, Taking, Own, Listing}
+use Rattle.trimmer.specs.Marking.{Added, named_from, Naming, Own, Listing}
 use Rattle.trimmer.proofs.Marking.{added_ext, next_inside, next_marked, rest_listing, taking_more, taking_end}
 use Rattle.trimmer.proofs.Naming.{next_name, nexts_naming}
 use Rattle.trimmer.proofs.mark_reached.Goals as goal
@@ -34,14 +34,14 @@ cell_place-at-requires c =
     let seen : o ≡ card_observations words = c.observations-o.ensures in
     let some : 0 < c.loop-waiting.waiting.cells = c.loop-waiting-test.true in
     let cell : ℕ = c.loop-waiting.waiting.next.0 in
-    let inside : cell < played.size = next_inside played (card_observations words) c.loop-waiting.true c.loop-waiting.work _ cell c.loop-waiting.invariant some in
+    let inside : cell < played.size = next_inside played (card_observations words) c.loop-waiting.taken c.loop-waiting.work _ cell c.loop-waiting.invariant some in
     (omega (arith, seen, fits.observations), omega (arith, inside, fits.cells))
 
 pub behind_next-others-requires : goal.behind_next-others-requires
 behind_next-others-requires c =
     let words : List ℕ = c.args.card.now in
     let played : Automaton = automaton words in
-    let few : c.loop-waiting.true + c.loop-waiting.waiting.cells ≤ played.size = omega (arith, c.loop-waiting.invariant.many, count_le played.size (marked c.loop-waiting.work)) in
+    let few : c.loop-waiting.taken + c.loop-waiting.waiting.cells ≤ played.size = omega (arith, c.loop-waiting.invariant.many, count_le played.size (marked c.loop-waiting.work)) in
     let some : 0 < c.loop-waiting.waiting.cells = c.loop-waiting-test.true in
     (some, omega (arith, few, c.loop-waiting.invariant.size))
 
@@ -55,7 +55,7 @@ overflow_add-at c =
     let many : length c.loop-waiting.work ≡ card_cells words = c.loop-waiting.invariant.size ∙ size_of words in
     let some : 0 < c.loop-waiting.waiting.cells = c.loop-waiting-test.true in
     let cell : ℕ = c.loop-waiting.waiting.next.0 in
-    let inside : cell < played.size = next_inside played (card_observations words) c.loop-waiting.true c.loop-waiting.work _ cell c.loop-waiting.invariant some in
+    let inside : cell < played.size = next_inside played (card_observations words) c.loop-waiting.taken c.loop-waiting.work _ cell c.loop-waiting.invariant some in
     let below : cell < card_cells words = omega (arith, inside, size_of words) in
     let naming : Naming words (c.cell_place-at.result + 1) o (length c.loop-waiting.work) = nexts_naming words fine _ _ seen many cell _ below c.cell_place-at.ensures in
     omega (arith, naming.within)
@@ -70,14 +70,14 @@ mark_named-waiting-requires c =
     let many : length c.loop-waiting.work ≡ card_cells words = c.loop-waiting.invariant.size ∙ size_of words in
     let some : 0 < c.loop-waiting.waiting.cells = c.loop-waiting-test.true in
     let cell : ℕ = c.loop-waiting.waiting.next.0 in
-    let inside : cell < played.size = next_inside played (card_observations words) c.loop-waiting.true c.loop-waiting.work _ cell c.loop-waiting.invariant some in
+    let inside : cell < played.size = next_inside played (card_observations words) c.loop-waiting.taken c.loop-waiting.work _ cell c.loop-waiting.invariant some in
     let below : cell < card_cells words = omega (arith, inside, size_of words) in
     let own : Own c.loop-waiting.work cell = record {
       inside = omega (arith, inside, c.loop-waiting.invariant.size);
-      is_marked = next_marked played (card_observations words) c.loop-waiting.true c.loop-waiting.work _ cell c.loop-waiting.invariant some;
+      is_marked = next_marked played (card_observations words) c.loop-waiting.taken c.loop-waiting.work _ cell c.loop-waiting.invariant some;
     } in
     let naming : Naming words (c.cell_place-at.result + 1) o (length c.loop-waiting.work) = nexts_naming words fine _ _ seen many cell _ below c.cell_place-at.ensures in
-    let listing : Listing c.loop-waiting.work c.behind_next-others.result.cells c.behind_next-others.result.next.0 = rest_listing played (card_observations words) c.loop-waiting.true c.loop-waiting.work _ cell c.loop-waiting.invariant some _ _ c.behind_next-others.ensures.0 c.behind_next-others.ensures.1 c.behind_next-others.ensures.2 in
+    let listing : Listing c.loop-waiting.work c.behind_next-others.result.cells c.behind_next-others.result.next.0 = rest_listing played (card_observations words) c.loop-waiting.taken c.loop-waiting.work _ cell c.loop-waiting.invariant some _ _ c.behind_next-others.ensures.0 c.behind_next-others.ensures.1 c.behind_next-others.ensures.2 in
     (naming, listing, own)
 
 pub overflow_add-taken : goal.overflow_add-taken
@@ -86,7 +86,7 @@ overflow_add-taken c =
     let played : Automaton = automaton words in
     let fine : checked words ≡ Fine = c.requires.0 in
     let fits : Fitting played (card_actions words) (card_observations words) = fitting words fine in
-    let few : c.loop-waiting.true + c.loop-waiting.waiting.cells ≤ played.size = omega (arith, c.loop-waiting.invariant.many, count_le played.size (marked c.loop-waiting.work)) in
+    let few : c.loop-waiting.taken + c.loop-waiting.waiting.cells ≤ played.size = omega (arith, c.loop-waiting.invariant.many, count_le played.size (marked c.loop-waiting.work)) in
     let some : 0 < c.loop-waiting.waiting.cells = c.loop-waiting-test.true in
     omega (arith, some, few, fits.cells)
 
@@ -94,7 +94,7 @@ pub loop-waiting-smaller : goal.loop-waiting-smaller
 loop-waiting-smaller c =
     let words : List ℕ = c.args.card.now in
     let played : Automaton = automaton words in
-    let few : c.loop-waiting.true + c.loop-waiting.waiting.cells ≤ played.size = omega (arith, c.loop-waiting.invariant.many, count_le played.size (marked c.loop-waiting.work)) in
+    let few : c.loop-waiting.taken + c.loop-waiting.waiting.cells ≤ played.size = omega (arith, c.loop-waiting.invariant.many, count_le played.size (marked c.loop-waiting.work)) in
     let first_many : length c.mark_firsts-waiting.new.work ≡ played.size = c.mark_firsts-waiting.ensures.size in
     let some : 0 < c.loop-waiting.waiting.cells = c.loop-waiting-test.true in
     omega (arith, some, few, first_many)
@@ -109,12 +109,12 @@ loop-waiting-preserved c =
     let many : length c.loop-waiting.work ≡ card_cells words = c.loop-waiting.invariant.size ∙ size_of words in
     let some : 0 < c.loop-waiting.waiting.cells = c.loop-waiting-test.true in
     let cell : ℕ = c.loop-waiting.waiting.next.0 in
-    let inside : cell < played.size = next_inside played (card_observations words) c.loop-waiting.true c.loop-waiting.work _ cell c.loop-waiting.invariant some in
+    let inside : cell < played.size = next_inside played (card_observations words) c.loop-waiting.taken c.loop-waiting.work _ cell c.loop-waiting.invariant some in
     let below : cell < card_cells words = omega (arith, inside, size_of words) in
     let w = words in
     let A = played in
     let name = named_from w (c.cell_place-at.result + 1) in
-    taking_more A (card_observations w) c.loop-waiting.true c.loop-waiting.work _ cell c.loop-waiting.invariant some c.behind_next-others.result.cells c.behind_next-others.result.next.0 c.behind_next-others.ensures.0 c.behind_next-others.ensures.1 c.mark_named-waiting.new.work c.mark_named-waiting.result.cells c.mark_named-waiting.result.next.0
+    taking_more A (card_observations w) c.loop-waiting.taken c.loop-waiting.work _ cell c.loop-waiting.invariant some c.behind_next-others.result.cells c.behind_next-others.result.next.0 c.behind_next-others.ensures.0 c.behind_next-others.ensures.1 c.mark_named-waiting.new.work c.mark_named-waiting.result.cells c.mark_named-waiting.result.next.0
     (added_ext name (A.next cell) (card_observations w) c.loop-waiting.work c.behind_next-others.result.cells c.behind_next-others.result.next.0 c.mark_named-waiting.new.work c.mark_named-waiting.result.cells c.mark_named-waiting.result.next.0
     (next_name w fine _ _ seen many cell _ below c.cell_place-at.ensures)
     (subst (λ (n : ℕ). Added name n c.loop-waiting.work c.behind_next-others.result.cells c.behind_next-others.result.next.0 c.mark_named-waiting.new.work c.mark_named-waiting.result.cells c.mark_named-waiting.result.next.0) seen c.mark_named-waiting.ensures))
@@ -129,4 +129,4 @@ pub returns : goal.returns
 returns c =
     let words : List ℕ = c.args.card.now in
     let played : Automaton = automaton words in
-    taking_end played (card_observations words) c.loop-waiting.true c.loop-waiting.work _ _ c.loop-waiting.invariant c.loop-waiting-test.false
+    taking_end played (card_observations words) c.loop-waiting.taken c.loop-waiting.work _ _ c.loop-waiting.invariant c.loop-waiting-test.false

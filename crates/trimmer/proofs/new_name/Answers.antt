@@ -1,5 +1,4 @@
 -- `trimmer::new_name` meets its contract: what is looked up for no cell is not told.
-use borrow.Author.Rules.{rules}
 use mathlib.Core.Path.{sym, ap, ◌∙◌, subst}
 use Prim.Native.Nat.{ℕ, ◌<◌}
 use lib.ListN.{length}

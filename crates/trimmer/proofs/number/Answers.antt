@@ -1,14 +1,14 @@
 use mathlib.Core.Path.{◌≡◌, sym, ap, ◌∙◌, subst, subst₂}
-use mathlib.Core.Logic.{⊎_elim}
 use mathlib.Core.Bool.{true, false}
 use mathlib.Core.List.{List}
-use Prim.Native.Nat.{ℕ, ◌+◌, ◌≤◌, ◌<◌, ◌-◌}
+use Prim.Native.Nat.{ℕ, ◌+◌, ◌≤◌, ◌<◌}
 use native.Mathlib.Omega.{arith}
 use lib.ListN.{length}
 use Rattle.trimmer.specs.Halves.{half_values, marked, put_upper}
 use Rattle.trimmer.proofs.Halves.{marks, no_mark, put_lower_length}
 use Rattle.trimmer.proofs.Numbering.{Counting, counting_none, counting_few, counting_skip, counting_more, counting_end}
 use Rattle.trimmer.proofs.number.Goals as goal
+use Rattle.trimmer.proofs.number.Goals.{then-lower-gt0, else-lower-gt0}
 
 pub loop-c-init : goal.loop-c-init
 loop-c-init c = (omega arith, counting_none _)
@@ -21,7 +21,7 @@ overflow_cast-kept c =
     let entry : List ℕ = c.args.work.now in
     let few : length c.loop-c.work ≤ half_values = omega (arith, c.loop-c.invariant.1.same, c.requires) in
     let inside : c.loop-c.c < length c.loop-c.work = c.loop-c-test.true in
-    let behind : c.loop-c.auto ≤ c.loop-c.c = counting_few entry c.loop-c.c c.loop-c.auto c.loop-c.work c.loop-c.invariant.1 in
+    let behind : c.loop-c.kept ≤ c.loop-c.c = counting_few entry c.loop-c.c c.loop-c.kept c.loop-c.work c.loop-c.invariant.1 in
     omega (arith, inside, behind, few)
 
 pub put_lower-requires : goal.put_lower-requires
@@ -29,7 +29,7 @@ put_lower-requires c =
     let entry : List ℕ = c.args.work.now in
     let few : length c.loop-c.work ≤ half_values = omega (arith, c.loop-c.invariant.1.same, c.requires) in
     let inside : c.loop-c.c < length c.loop-c.work = c.loop-c-test.true in
-    let behind : c.loop-c.auto ≤ c.loop-c.c = counting_few entry c.loop-c.c c.loop-c.auto c.loop-c.work c.loop-c.invariant.1 in
+    let behind : c.loop-c.kept ≤ c.loop-c.c = counting_few entry c.loop-c.c c.loop-c.kept c.loop-c.work c.loop-c.invariant.1 in
     (inside, omega (arith, inside, behind, few))
 
 pub overflow_cast-c : goal.overflow_cast-c
@@ -43,7 +43,7 @@ put_upper-requires c =
     let entry : List ℕ = c.args.work.now in
     let few : length c.loop-c.work ≤ half_values = omega (arith, c.loop-c.invariant.1.same, c.requires) in
     let inside : c.loop-c.c < length c.loop-c.work = c.loop-c-test.true in
-    let behind : c.loop-c.auto ≤ c.loop-c.c = counting_few entry c.loop-c.c c.loop-c.auto c.loop-c.work c.loop-c.invariant.1 in
+    let behind : c.loop-c.kept ≤ c.loop-c.c = counting_few entry c.loop-c.c c.loop-c.kept c.loop-c.work c.loop-c.invariant.1 in
     (subst (λ (l : List ℕ). c.loop-c.kept < length l) (sym c.put_lower.ensures) (omega (arith, put_lower_length c.loop-c.work c.loop-c.c c.loop-c.kept, inside, behind)), omega (arith, inside, few))
 
 pub overflow_add-kept : goal.overflow_add-kept
@@ -51,7 +51,7 @@ overflow_add-kept c =
     let entry : List ℕ = c.args.work.now in
     let few : length c.loop-c.work ≤ half_values = omega (arith, c.loop-c.invariant.1.same, c.requires) in
     let inside : c.loop-c.c < length c.loop-c.work = c.loop-c-test.true in
-    let behind : c.loop-c.auto ≤ c.loop-c.c = counting_few entry c.loop-c.c c.loop-c.auto c.loop-c.work c.loop-c.invariant.1 in
+    let behind : c.loop-c.kept ≤ c.loop-c.c = counting_few entry c.loop-c.c c.loop-c.kept c.loop-c.work c.loop-c.invariant.1 in
     omega (arith, inside, behind, few)
 
 pub overflow_add-c : goal.overflow_add-c
@@ -71,16 +71,15 @@ loop-c-preserved c =
     let few : length c.loop-c.work ≤ half_values = omega (arith, c.loop-c.invariant.1.same, c.requires) in
     let inside : c.loop-c.c < length c.loop-c.work = c.loop-c-test.true in
     let is_marked : 0 < c.lower.result → marked entry c.loop-c.c ≡ true = λ l. marks _ _ (omega (arith, l, c.lower.ensures, c.loop-c.invariant.1.ahead c.loop-c.c (omega arith))) in
-    let no_marked : c.lower.result ≤ 0 → marked entry c.loop-c.c ≡ false = λ l. no_mark _ _ (omega (arith, l, c.lower.ensures, c.loop-c.invariant.1.ahead c.loop-c.c (omega arith))) in
-    (
+    let no_marked : c.lower.result ≤ 0 → marked entry c.loop-c.c ≡ false = λ l. no_mark _ _ (omega (arith, l, c.lower.ensures, c.loop-c.invariant.1.ahead c.loop-c.c (omega arith))) in (
       omega (arith, inside, c.loop-c.invariant.1.same),
-      ⊎_elim
-          (λ e. subst₂ (λ (w : List ℕ) (k : ℕ). Counting entry (c.loop-c.c + 1) k w)
-          (sym (e.9 ∙ e.6.ensures ∙ ap (λ (u : List ℕ). put_upper u c.loop-c.kept c.loop-c.c) e.2.ensures)) (sym e.10)
-          (counting_more entry c.loop-c.c c.loop-c.kept c.loop-c.work c.loop-c.invariant.1 (is_marked e.0.taken) inside few))
-          (λ e. subst₂ (λ (w : List ℕ) (k : ℕ). Counting entry (c.loop-c.c + 1) k w) (sym e.1) (sym e.2)
-          (counting_skip entry c.loop-c.c c.loop-c.kept c.loop-c.work c.loop-c.invariant.1 (no_marked e.0.left)))
-          c.if-lower-gt0.branch,
+      elim c.if-lower-gt0.branch [
+        | then-lower-gt0 w ↦ subst₂ (λ (u : List ℕ) (k : ℕ). Counting entry (c.loop-c.c + 1) k u)
+            (sym (w.work-is ∙ w.put_upper.ensures ∙ ap (λ (u : List ℕ). put_upper u c.loop-c.kept c.loop-c.c) w.put_lower.ensures)) (sym w.kept-is)
+            (counting_more entry c.loop-c.c c.loop-c.kept c.loop-c.work c.loop-c.invariant.1 (is_marked w.if-lower-gt0.true) inside few)
+        | else-lower-gt0 w ↦ subst₂ (λ (u : List ℕ) (k : ℕ). Counting entry (c.loop-c.c + 1) k u) (sym w.work-is) (sym w.kept-is)
+            (counting_skip entry c.loop-c.c c.loop-c.kept c.loop-c.work c.loop-c.invariant.1 (no_marked w.if-lower-gt0.false))
+      ],
     )
 
 pub shape_of-work : goal.shape_of-work
@@ -89,4 +88,4 @@ shape_of-work c = c.loop-c.invariant.1.same
 pub returns : goal.returns
 returns c =
     let entry : List ℕ = c.args.work.now in
-    counting_end entry c.loop-c.c c.loop-c.auto c.loop-c.work c.loop-c.invariant.1 c.loop-c.invariant.0 (omega (arith, c.loop-c-test.false, c.loop-c.invariant.1.same))
+    counting_end entry c.loop-c.c c.loop-c.kept c.loop-c.work c.loop-c.invariant.1 c.loop-c.invariant.0 (omega (arith, c.loop-c-test.false, c.loop-c.invariant.1.same))

@@ -1,5 +1,4 @@
 -- `trimmer::trim` meets its contract: a refusal of the card, 8, or what `trim_into` ensures; the promise follows from the outcome.
-use borrow.Author.Rules.{rules}
 use mathlib.Core.List.{List}
 use mathlib.Core.Path.{◌≡◌, sym, ◌∙◌}
 use Prim.Native.Nat.{ℕ}
@@ -11,7 +10,10 @@ use Rattle.trimmer.proofs.Answers.{trim_stopped, trim_short, trim_done, refused_
 use Rattle.trimmer.proofs.trim.Goals as goal
 
 pub returns-in-Refused : goal.returns-in-Refused
-returns-in-Refused c = (trim_stopped c.args.card.now c.args.work.now c.args.out.now c.in-Refused.number c.in-Refused.place (sym c.check-checked.ensures ∙ c.in-Refused.is), refused_trims c.args.card.now _ _ _)
+returns-in-Refused c = record {
+  determined = trim_stopped c.args.card.now c.args.work.now c.args.out.now c.in-Refused.number c.in-Refused.place (sym c.check-checked.ensures ∙ c.in-Refused.is);
+  promised = refused_trims c.args.card.now _ _ _;
+}
 
 pub cells-need-requires : goal.cells-need-requires
 cells-need-requires c =
@@ -23,7 +25,10 @@ pub returns-then-work-need : goal.returns-then-work-need
 returns-then-work-need c =
     let card : List ℕ = c.args.card.now in
     let fine : checked card ≡ Fine = sym c.check-checked.ensures ∙ c.in_default.is in
-    (trim_short c.args.card.now c.args.work.now c.args.out.now fine _ c.cells-need.ensures c.if-work-need.true, refused_trims c.args.card.now _ _ _)
+    record {
+      determined = trim_short c.args.card.now c.args.work.now c.args.out.now fine _ c.cells-need.ensures c.if-work-need.true;
+      promised = refused_trims c.args.card.now _ _ _;
+    }
 
 pub slice_bounds-trim_into-end-2 : goal.slice_bounds-trim_into-end-2
 slice_bounds-trim_into-end-2 c = sym (length-take-le _ _ c.if-work-need.false)
@@ -38,8 +43,8 @@ pub returns : goal.returns
 returns c =
     let card : List ℕ = c.args.card.now in
     let fine : checked card ≡ Fine = sym c.check-checked.ensures ∙ c.in_default.is in
-    (
-      trim_done c.args.card.now c.args.work.now c.args.out.now fine _ c.cells-need.ensures c.if-work-need.false c.trim_into-answer.result c.fill.new.d c.trim_into-answer.new.out c.trim_into-answer.ensures
-          (cleared _ c.trim_into-answer.new.work c.args.work.now _ c.trim_into-answer.auto.work c.if-work-need.false c.fill.ensures),
-      room_trims c.args.card.now c.args.out.now fine c.trim_into-answer.result c.trim_into-answer.new.out c.trim_into-answer.ensures,
-    )
+    record {
+      determined = trim_done c.args.card.now c.args.work.now c.args.out.now fine _ c.cells-need.ensures c.if-work-need.false c.trim_into-answer.result c.fill.new.d c.trim_into-answer.new.out c.trim_into-answer.ensures
+          (cleared _ c.trim_into-answer.new.work c.args.work.now _ c.trim_into-answer.auto.work c.if-work-need.false c.fill.ensures);
+      promised = room_trims c.args.card.now c.args.out.now fine c.trim_into-answer.result c.trim_into-answer.new.out c.trim_into-answer.ensures;
+    }

@@ -1,5 +1,4 @@
 -- `trimmer::trim_into` meets its contract: 9 where the room is short, else what `write_trimmed` ensures.
-use borrow.Author.Rules.{rules}
 use mathlib.Core.Path.{◌≡◌, sym, ap, ◌∙◌, subst}
 use mathlib.Core.List.{List}
 use Prim.Native.Nat.{ℕ, ◌≤◌}

@@ -1,5 +1,4 @@
 -- `trimmer::write_marked` meets its contract: all cells are kept, and the card is the trimmed one; else what `write_trimmed` ensures.
-use borrow.Author.Rules.{rules}
 use mathlib.Core.Path.{◌≡◌, sym, ap, ◌∙◌, subst}
 use mathlib.Core.List.{List, ◌++◌}
 use Prim.Native.Nat.{ℕ, ◌≤◌}
@@ -31,10 +30,9 @@ pub number-requires : goal.number-requires
 number-requires c = omega (arith, c.requires.1.size, (fitting c.args.card.now c.requires.0).cells)
 
 pub write_trimmed-requires : goal.write_trimmed-requires
-write_trimmed-requires c =
-    (
-      c.requires.0,
-      numbered_new (automaton c.args.card.now) (card_observations c.args.card.now) c.args.kept c.args.work.now c.number.new.work (fitting c.args.card.now c.requires.0).cells c.requires.1 c.number.ensures,
-      c.requires.1.many,
-      c.requires.2,
-    )
+write_trimmed-requires c = (
+  c.requires.0,
+  numbered_new (automaton c.args.card.now) (card_observations c.args.card.now) c.args.kept c.args.work.now c.number.new.work (fitting c.args.card.now c.requires.0).cells c.requires.1 c.number.ensures,
+  c.requires.1.many,
+  c.requires.2,
+)

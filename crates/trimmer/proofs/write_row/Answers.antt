@@ -1,11 +1,10 @@
-use borrow.Author.Rules.{rules}
 use mathlib.Core.Path.{◌≡◌, sym, ap, ◌∙◌, subst}
-use Prim.Native.Nat.{ℕ, ◌+◌, ◌≤◌, ◌<◌, ◌-◌}
+use Prim.Native.Nat.{ℕ, ◌+◌, ◌<◌}
 use native.Mathlib.Omega.{arith}
 use lib.ListN.{length, length-set}
 use Rattle.games.specs.Fields.{word}
 use Rattle.games.specs.Format.{low_values}
-use Rattle.cards.proofs.Parts.{Filled, filled_none, filled_more, filled_end}
+use Rattle.cards.proofs.Parts.{filled_none, filled_more, filled_end}
 use Rattle.trimmer.specs.Marking.{named_from, NamesInside}
 use Rattle.trimmer.specs.Numbering.{new_name, row_words}
 use Rattle.trimmer.proofs.Writing.{name_small}
@@ -35,8 +34,7 @@ new_name-new-requires c = (subst (λ (y : ℕ). NamesInside y (length c.args.wor
 pub naming-requires : goal.naming-requires
 naming-requires c =
     let names : ℕ → ℕ = named_from c.args.card.now c.args.at in
-    let new : c.new_name-new.result.0 ≡ new_name c.args.work.now (names c.loop-j.j) = c.new_name-new.ensures ∙ ap (new_name c.args.work.now) c.low_field-cell.ensures in
-    (
+    let new : c.new_name-new.result.0 ≡ new_name c.args.work.now (names c.loop-j.j) = c.new_name-new.ensures ∙ ap (new_name c.args.work.now) c.low_field-cell.ensures in (
       c.requires.2,
       subst (λ (y : ℕ). y < low_values) (sym new) (name_small c.args.work.now (names c.loop-j.j)),
       omega (arith, c.loop-j-test.true, c.requires.1),
@@ -67,8 +65,7 @@ pub loop-j-preserved : goal.loop-j-preserved
 loop-j-preserved c =
     let names : ℕ → ℕ = named_from c.args.card.now c.args.at in
     let written : ℕ → ℕ = λ i. word c.args.kind (new_name c.args.work.now (names i)) i 0 in
-    let new : c.new_name-new.result.0 ≡ new_name c.args.work.now (names c.loop-j.j) = c.new_name-new.ensures ∙ ap (new_name c.args.work.now) c.low_field-cell.ensures in
-    (
+    let new : c.new_name-new.result.0 ≡ new_name c.args.work.now (names c.loop-j.j) = c.new_name-new.ensures ∙ ap (new_name c.args.work.now) c.low_field-cell.ensures in (
       omega (arith, c.loop-j-test.true),
       filled_more c.args.count written c.loop-j.j c.loop-j.out c.naming.result c.loop-j-test.true
           (c.naming.ensures ∙ ap (λ (y : ℕ). word c.args.kind y c.loop-j.j 0) new) c.loop-j.invariant.1,

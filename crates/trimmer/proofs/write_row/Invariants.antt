@@ -1,15 +1,9 @@
 -- `trimmer::write_row` meets its contract. The loop's invariant: the words for the observations below j are written.
-use borrow.Author.Rules.{rules}
-use mathlib.Core.Path.{◌≡◌, sym, ap, ◌∙◌, subst}
-use Prim.Native.Nat.{ℕ, ◌+◌, ◌≤◌, ◌<◌, ◌-◌}
-use native.Mathlib.Omega.{arith}
-use lib.ListN.{length, length-set}
+use Prim.Native.Nat.{◌≤◌, ◌-◌}
 use Rattle.games.specs.Fields.{word}
-use Rattle.games.specs.Format.{low_values}
-use Rattle.cards.proofs.Parts.{Filled, filled_none, filled_more, filled_end}
-use Rattle.trimmer.specs.Marking.{named_from, NamesInside}
-use Rattle.trimmer.specs.Numbering.{new_name, row_words}
-use Rattle.trimmer.proofs.Writing.{name_small}
+use Rattle.cards.proofs.Parts.{Filled}
+use Rattle.trimmer.specs.Marking.{named_from}
+use Rattle.trimmer.specs.Numbering.{new_name}
 use Rattle.trimmer.proofs.write_row.Given as goal
 
 abbrev pub invariant-loop-j : goal.invariant-loop-j

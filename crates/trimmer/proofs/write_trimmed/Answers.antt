@@ -1,7 +1,6 @@
-use borrow.Author.Rules.{rules}
 use mathlib.Core.Path.{◌≡◌, refl, sym, ap, ◌∙◌, subst}
 use mathlib.Core.List.{List, ◌++◌}
-use Prim.Native.Nat.{ℕ, ◌+◌, ◌≤◌, ◌<◌, ◌-◌, ◌^◌}
+use Prim.Native.Nat.{ℕ, ◌+◌, ◌≤◌, ◌<◌, ◌^◌}
 use native.Mathlib.Omega.{arith}
 use lib.ListN.{length, drop}
 use lib.Seq.{length-take-le}
@@ -14,7 +13,7 @@ use Rattle.cards.specs.Card.{card_cells, card_actions, card_observations, cell_p
 use Rattle.cards.proofs.Checked.{fitting, cell_in}
 use Rattle.cards.proofs.Running.{size_of}
 use Rattle.cards.proofs.Written.{cell_length}
-use Rattle.cards.proofs.Parts.{Carded, carded_none, carded_room, carded_part, carded_more, front_within, fronted_same, fronted_room, carded_whole}
+use Rattle.cards.proofs.Parts.{carded_none, carded_room, carded_part, carded_more, front_within, fronted_same, fronted_room, carded_whole}
 use Rattle.trimming.specs.Trim.{trim, trimmed}
 use Rattle.trimming.proofs.Numbers.{kept_few}
 use Rattle.trimmer.proofs.Naming.{firsts_naming, nexts_naming}
@@ -29,8 +28,7 @@ actions-requires c = c.requires.0
 
 pub heading-head-requires : goal.heading-head-requires
 heading-head-requires c =
-    let F = fitting c.args.card.now c.requires.0 in
-    (
+    let F = fitting c.args.card.now c.requires.0 in (
       omega (arith, c.requires.2, kept_few (automaton c.args.card.now) (card_observations c.args.card.now), F.cells),
       omega (arith, c.observations-o.ensures, F.observations),
       omega (arith, c.actions.ensures, F.actions),
@@ -82,8 +80,7 @@ write_row-requires c =
     let enough : card_length many seen ≤ length room = subst (λ (n : ℕ). n ≤ length room) long c.requires.3 in
     let front_fits : front ≤ length room = omega (arith, front_length_is, front_within many seen (length room) enough) in
     let work_long : length c.args.work.now ≡ card_cells words = c.requires.1.size ∙ size_of words in
-    let some_work : 0 < length c.args.work.now = omega (arith, c.requires.1.size, fits.some_cell) in
-    (
+    let some_work : 0 < length c.args.work.now = omega (arith, c.requires.1.size, fits.some_cell) in (
       firsts_naming words fine _ _ o_is work_long,
       omega (arith, o_is, fits.observations),
       omega arith,
@@ -252,8 +249,7 @@ write_row-requires-in-loop-i c =
     let some_work : 0 < length c.args.work.now = omega (arith, c.requires.1.size, fits.some_cell) in
     let inside : c.upper.result < card_cells words = kept_inside words fine c.args.work.now c.requires.1 o many o_is c.requires.2 c.loop-i.i c.upper.result c.loop-i-test.true c.upper.ensures in
     let more : c.loop-i.i < many = c.loop-i-test.true in
-    let at_is : c.cell_place-at.result ≡ cell_place seen c.loop-i.i = c.cell_place-at.ensures ∙ ap (λ (n : ℕ). cell_place n c.loop-i.i) o_is in
-    (
+    let at_is : c.cell_place-at.result ≡ cell_place seen c.loop-i.i = c.cell_place-at.ensures ∙ ap (λ (n : ℕ). cell_place n c.loop-i.i) o_is in (
       nexts_naming words fine _ _ o_is work_long c.upper.result _ inside c.cell_place-from.ensures,
       omega (arith, o_is, fits.observations),
       omega arith,
