@@ -1,13 +1,9 @@
 -- Invariant: behind the first lines, the parts of the cells below c are written.
-use mathlib.Core.Path.{refl, ◌∙◌}
 use Prim.Native.Nat.{◌*◌, ◌-◌}
-use native.Mathlib.Omega.{arith}
-use borrow.Author.Rules.{rules}
 use Rattle.games.specs.Words.{part_length}
 use Rattle.cards.specs.Card.{card_observations}
-use Rattle.text.proofs.Writing.{wrote_then, wrote_length}
-use Rattle.printout.specs.Lines.{line_bytes, part_text, card_text}
-use Rattle.printout.proofs.Texts.{Below, below_none, below_more, below_fits, below_all, card_bytes}
+use Rattle.printout.specs.Lines.{line_bytes, part_text}
+use Rattle.printout.proofs.Texts.{Below}
 use Rattle.printout.proofs.put_card.Given as goal
 
 abbrev pub invariant-loop-c : goal.invariant-loop-c

@@ -5,8 +5,8 @@ use Rattle.printout.specs.Lines.{first_line}
 use Rattle.printout.proofs.put_first.Goals as goal
 
 pub returns : goal.returns
-returns c =
-    (
-      wrote_then (wrote_then (wrote_then c.put_bytes-next.ensures c.put_field-next.ensures.0) c.put_cell_field-next.ensures.0) c.put.ensures,
-      search rules,
-    )
+unfolding first_line
+returns c = (
+  wrote_then (wrote_then (wrote_then c.put_bytes-next.ensures c.put_field-next.ensures.0) c.put_cell_field-next.ensures.0) c.put.ensures,
+  search rules,
+)

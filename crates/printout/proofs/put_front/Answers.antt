@@ -1,10 +1,8 @@
 use mathlib.Core.Path.{ap}
-use Prim.Native.Nat.{◌-◌}
 use native.Mathlib.Omega.{arith}
-use borrow.Author.Rules.{rules}
 use Rattle.text.proofs.Writing.{wrote_length}
-use Rattle.printout.specs.Lines.{line_bytes, first_line, first_text, front_text}
-use Rattle.printout.proofs.Texts.{Below, below_none, below_more, below_fits, below_all}
+use Rattle.printout.specs.Lines.{first_line, front_text}
+use Rattle.printout.proofs.Texts.{below_none, below_more, below_fits, below_all}
 use Rattle.printout.proofs.put_front.Goals as goal
 
 pub loop-j-init : goal.loop-j-init
@@ -20,4 +18,5 @@ pub shape_of-out : goal.shape_of-out
 shape_of-out c = wrote_length c.loop-j.invariant.wrote
 
 pub returns : goal.returns
+unfolding front_text
 returns c = below_all _ _ _ _ c.loop-j.invariant _ c.observations-o.ensures c.loop-j-test.false

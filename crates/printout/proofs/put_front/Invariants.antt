@@ -1,11 +1,7 @@
 -- Invariant: the first lines of the observations below j are written.
-use mathlib.Core.Path.{ap}
 use Prim.Native.Nat.{◌-◌}
-use native.Mathlib.Omega.{arith}
-use borrow.Author.Rules.{rules}
-use Rattle.text.proofs.Writing.{wrote_length}
-use Rattle.printout.specs.Lines.{line_bytes, first_line, first_text, front_text}
-use Rattle.printout.proofs.Texts.{Below, below_none, below_more, below_fits, below_all}
+use Rattle.printout.specs.Lines.{line_bytes, first_text}
+use Rattle.printout.proofs.Texts.{Below}
 use Rattle.printout.proofs.put_front.Given as goal
 
 abbrev pub invariant-loop-j : goal.invariant-loop-j

@@ -5,9 +5,9 @@ use Rattle.printout.specs.Lines.{next_line}
 use Rattle.printout.proofs.put_next.Goals as goal
 
 pub returns : goal.returns
-returns c =
-    (
-      wrote_then (wrote_then (wrote_then (wrote_then c.put_bytes-next.ensures c.put_field-next.ensures.0) c.put_field-next-2.ensures.0)
-          c.put_cell_field-next.ensures.0) c.put.ensures,
-      search rules,
-    )
+unfolding next_line
+returns c = (
+  wrote_then (wrote_then (wrote_then (wrote_then c.put_bytes-next.ensures c.put_field-next.ensures.0) c.put_field-next-2.ensures.0)
+      c.put_cell_field-next.ensures.0) c.put.ensures,
+  search rules,
+)

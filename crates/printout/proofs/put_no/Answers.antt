@@ -5,4 +5,5 @@ use Rattle.printout.specs.Lines.{no_line}
 use Rattle.printout.proofs.put_no.Goals as goal
 
 pub returns : goal.returns
+unfolding no_line
 returns c = (wrote_then (wrote_then c.put_bytes-next.ensures c.put_field-next.ensures.0) c.put.ensures, search rules)

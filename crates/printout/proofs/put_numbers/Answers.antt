@@ -4,8 +4,7 @@ use Rattle.text.proofs.Writing.{wrote_then}
 use Rattle.printout.proofs.put_numbers.Goals as goal
 
 pub returns : goal.returns
-returns c =
-    (
-      wrote_then (wrote_then (wrote_then c.put_bytes-next.ensures c.put_field-next.ensures.0) c.put_field-next-2.ensures.0) c.put.ensures,
-      search rules,
-    )
+returns c = (
+  wrote_then (wrote_then (wrote_then c.put_bytes-next.ensures c.put_field-next.ensures.0) c.put_field-next-2.ensures.0) c.put.ensures,
+  search rules,
+)

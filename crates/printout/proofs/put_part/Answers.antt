@@ -1,10 +1,8 @@
 use mathlib.Core.Path.{ap, ◌∙◌}
-use Prim.Native.Nat.{◌-◌}
 use native.Mathlib.Omega.{arith}
-use borrow.Author.Rules.{rules}
 use Rattle.text.proofs.Writing.{wrote_then, wrote_length}
-use Rattle.printout.specs.Lines.{line_bytes, next_line, next_text, part_text}
-use Rattle.printout.proofs.Texts.{Below, below_none, below_more, below_fits, below_all}
+use Rattle.printout.specs.Lines.{next_line, part_text}
+use Rattle.printout.proofs.Texts.{below_none, below_more, below_fits, below_all}
 use Rattle.printout.proofs.put_part.Goals as goal
 
 pub loop-j-init : goal.loop-j-init
@@ -27,6 +25,7 @@ pub shape_of-out : goal.shape_of-out
 shape_of-out c = wrote_length c.loop-j.invariant.wrote ∙ wrote_length c.put_own-next.ensures.0
 
 pub returns : goal.returns
+unfolding part_text
 returns c =
     let nexts = below_all _ _ _ _ c.loop-j.invariant _ c.observations-o.ensures c.loop-j-test.false in
     (wrote_then c.put_own-next.ensures.0 nexts.0, omega (arith, nexts.1, c.put_own-next.ensures.1))

@@ -1,11 +1,7 @@
 -- Invariant: behind the cell's own line, the next lines of the observations below j are written.
-use mathlib.Core.Path.{ap, ◌∙◌}
 use Prim.Native.Nat.{◌-◌}
-use native.Mathlib.Omega.{arith}
-use borrow.Author.Rules.{rules}
-use Rattle.text.proofs.Writing.{wrote_then, wrote_length}
-use Rattle.printout.specs.Lines.{line_bytes, next_line, next_text, part_text}
-use Rattle.printout.proofs.Texts.{Below, below_none, below_more, below_fits, below_all}
+use Rattle.printout.specs.Lines.{line_bytes, next_text}
+use Rattle.printout.proofs.Texts.{Below}
 use Rattle.printout.proofs.put_part.Given as goal
 
 abbrev pub invariant-loop-j : goal.invariant-loop-j
