@@ -4,7 +4,6 @@ use Prim.Native.Nat.{◌≤◌}
 use native.Mathlib.Omega.{arith}
 use lib.ListN.{length, take}
 use lib.Seq.{length-take-le}
-use borrow.Author.Rules.{rules}
 use Rattle.kiss.proofs.Idling.{few_cells, idle_none_first}
 use Rattle.kiss.proofs.idle_by.Goals as goal
 

@@ -1,10 +1,5 @@
-use mathlib.Core.Path.{◌≡◌}
 use mathlib.Core.Bool.{not}
-use Prim.Native.Nat.{◌≤◌, ◌-◌}
 use native.Mathlib.Omega.{arith}
-use lib.ListN.{length}
-use borrow.Author.Rules.{rules}
-use Rattle.sets.specs.Bounded.{first, nothing}
 use Rattle.sets.proofs.Bounded.{first_zero, first_skip}
 use Rattle.trimmer.specs.Halves.{marked}
 use Rattle.kiss.proofs.Idling.{free_at, taken_at, lowest_stop, lowest_end}

@@ -2,13 +2,9 @@
 use mathlib.Core.Path.{◌≡◌}
 use mathlib.Core.Bool.{not}
 use Prim.Native.Nat.{◌≤◌, ◌-◌}
-use native.Mathlib.Omega.{arith}
 use lib.ListN.{length}
-use borrow.Author.Rules.{rules}
 use Rattle.sets.specs.Bounded.{first, nothing}
-use Rattle.sets.proofs.Bounded.{first_zero, first_skip}
 use Rattle.trimmer.specs.Halves.{marked}
-use Rattle.kiss.proofs.Idling.{free_at, taken_at, lowest_stop, lowest_end}
 use Rattle.kiss.proofs.lowest_unmarked.Given as goal
 
 abbrev pub invariant-loop-c : goal.invariant-loop-c

@@ -1,6 +1,5 @@
 -- `kiss::lowest_unreached` meets its contract.
 use native.Mathlib.Omega.{arith}
-use borrow.Author.Rules.{rules}
 use Rattle.cards.proofs.Running.{size_of}
 use Rattle.kiss.proofs.Idling.{few_cells, idle_unmarked}
 use Rattle.kiss.proofs.lowest_unreached.Goals as goal

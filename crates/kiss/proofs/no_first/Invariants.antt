@@ -1,13 +1,8 @@
 -- `kiss::no_first` meets its contract. The loop's invariant: the first words below j name no cell.
-use mathlib.Core.Path.{◌≡◌, sym, ◌∙◌}
+use mathlib.Core.Path.{◌≡◌}
 use Prim.Native.Nat.{ℕ, ◌≤◌, ◌<◌, ◌-◌}
-use native.Mathlib.Omega.{arith}
-use borrow.Author.Count.{below_more}
 use Rattle.games.specs.Automaton.{no_cell}
-use Rattle.cards.specs.Card.{card_observations, automaton}
-use Rattle.cards.proofs.Checked.{fitting}
-use Rattle.cards.proofs.Running.{named_cell}
-use Rattle.kiss.proofs.Idling.{some_first, none_first}
+use Rattle.cards.specs.Card.{automaton}
 use Rattle.kiss.proofs.no_first.Given as goal
 
 abbrev pub invariant-loop-j : goal.invariant-loop-j
