@@ -1,7 +1,6 @@
 -- `kiss_writer::entered` meets its contract: both kinds of state.
 use mathlib.Core.Path.{sym, ◌∙◌}
 use Rattle.kiss_writer.proofs.Lines.{target_first, target_next}
-use borrow.Author.Rules.{rules}
 use Rattle.kiss_writer.proofs.entered.Goals as goal
 
 pub returns-then-state-eq0 : goal.returns-then-state-eq0

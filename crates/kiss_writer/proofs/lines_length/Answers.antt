@@ -1,9 +1,7 @@
-use Prim.Native.Nat.{suc, ◌*◌, ◌-◌, ◌≤◌}
+use Prim.Native.Nat.{suc}
 use native.Mathlib.Omega.{arith}
-use Rattle.games.specs.Format.{max_observations}
 use Rattle.cards.specs.Card.{card_cells}
-use Rattle.kiss_writer.specs.Lines.{most_bytes, lines_of}
-use Rattle.kiss_writer.proofs.Rows.{Counted, counted_one, counted_more, counted_fits, counted_all}
+use Rattle.kiss_writer.proofs.Rows.{counted_one, counted_more, counted_fits, counted_all}
 use Rattle.kiss_writer.proofs.Lines.{narrow, cells_few, cell_line_lem, reset_line}
 use borrow.Author.Rules.{rules}
 use Rattle.kiss_writer.proofs.lines_length.Goals as goal
@@ -33,12 +31,11 @@ pub loop-state-init : goal.loop-state-init
 loop-state-init c = (search rules, counted_one _ _ _ _ (omega arith) c.state_length-bytes.ensures.0 c.state_length-bytes.ensures.1)
 
 pub state_length-bytes-requires-in-loop-state : goal.state_length-bytes-requires-in-loop-state
-state_length-bytes-requires-in-loop-state c =
-    (
-      c.requires.0,
-      omega (arith, c.cells-states.ensures, c.loop-state-test.true),
-      cell_line_lem _ _ c.requires.1 _ c.loop-state.invariant.0,
-    )
+state_length-bytes-requires-in-loop-state c = (
+  c.requires.0,
+  omega (arith, c.cells-states.ensures, c.loop-state-test.true),
+  cell_line_lem _ _ c.requires.1 _ c.loop-state.invariant.0,
+)
 
 pub overflow_add-bytes : goal.overflow_add-bytes
 overflow_add-bytes c =

@@ -9,16 +9,14 @@ pub returns-then-width-eq1 : goal.returns-then-width-eq1
 returns-then-width-eq1 c = (rw (one_bit c.args.width c.args.x c.if-width-eq1.true) c.put_bit.ensures, search rules)
 
 pub returns-then-width-eq2 : goal.returns-then-width-eq2
-returns-then-width-eq2 c =
-    (
-      rw (two_bits c.args.width c.args.x c.if-width-eq2.true) (wrote_then c.put_bit-next.ensures c.put_bit-then-width-eq2.ensures),
-      search rules,
-    )
+returns-then-width-eq2 c = (
+  rw (two_bits c.args.width c.args.x c.if-width-eq2.true) (wrote_then c.put_bit-next.ensures c.put_bit-then-width-eq2.ensures),
+  search rules,
+)
 
 pub returns : goal.returns
-returns c =
-    (
-      rw (three_bits c.args.width c.args.x (omega arith))
-          (wrote_then (wrote_then c.put_bit-next-2.ensures c.put_bit-next-3.ensures) c.put_bit-2.ensures),
-      search rules,
-    )
+returns c = (
+  rw (three_bits c.args.width c.args.x (omega arith))
+      (wrote_then (wrote_then c.put_bit-next-2.ensures c.put_bit-next-3.ensures) c.put_bit-2.ensures),
+  search rules,
+)

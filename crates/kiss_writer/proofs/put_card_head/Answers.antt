@@ -8,8 +8,7 @@ use Rattle.kiss_writer.proofs.put_card_head.Goals as goal
 
 pub put_head-requires : goal.put_head-requires
 put_head-requires c =
-    let f = fitting c.args.card.now c.requires.0 in
-    (
+    let f = fitting c.args.card.now c.requires.0 in (
       omega (arith, c.actions-a.ensures, f.actions),
       omega (arith, c.observations-o.ensures, f.observations),
       omega (arith, c.cells-states.ensures, cells_few c.args.card.now c.requires.0),
@@ -18,9 +17,8 @@ put_head-requires c =
     )
 
 pub returns : goal.returns
-returns c =
-    (
-      rw (← (head_is c.args.card.now _ _ (c.cells-states.result + 1) _ c.actions-a.ensures c.observations-o.ensures (omega (arith, c.cells-states.ensures)) c.requires.1))
-          c.put_head.ensures.0,
-      search rules,
-    )
+returns c = (
+  rw (← (head_is c.args.card.now _ _ (c.cells-states.result + 1) _ c.actions-a.ensures c.observations-o.ensures (omega (arith, c.cells-states.ensures)) c.requires.1))
+      c.put_head.ensures.0,
+  search rules,
+)

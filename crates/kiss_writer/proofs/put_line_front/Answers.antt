@@ -5,8 +5,8 @@ use borrow.Author.Rules.{rules}
 use Rattle.kiss_writer.proofs.put_line_front.Goals as goal
 
 pub returns : goal.returns
-returns c =
-    (
-      wrote_then (wrote_then (wrote_then c.put_bits-next.ensures.0 c.put-next.ensures) c.put_state-next.ensures.0) c.put.ensures,
-      search rules,
-    )
+unfolding line_front
+returns c = (
+  wrote_then (wrote_then (wrote_then c.put_bits-next.ensures.0 c.put-next.ensures) c.put_state-next.ensures.0) c.put.ensures,
+  search rules,
+)

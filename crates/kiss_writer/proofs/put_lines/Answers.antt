@@ -1,13 +1,10 @@
-use Prim.Native.Nat.{suc, ◌*◌, ◌-◌}
+use Prim.Native.Nat.{suc}
 use native.Mathlib.Omega.{arith}
-use Rattle.games.specs.Format.{max_observations}
 use Rattle.cards.specs.Card.{card_cells}
 use Rattle.cards.proofs.Checked.{fitting}
 use Rattle.text.proofs.Writing.{wrote_length}
-use Rattle.kiss_writer.specs.Lines.{most_bytes, lines_of}
-use Rattle.kiss_writer.proofs.Rows.{Below, below_none, below_more, below_fits, below_all}
+use Rattle.kiss_writer.proofs.Rows.{below_none, below_more, below_fits, below_all}
 use Rattle.kiss_writer.proofs.Lines.{cells_few}
-use borrow.Author.Rules.{rules}
 use Rattle.kiss_writer.proofs.put_lines.Goals as goal
 
 pub overflow_add-states : goal.overflow_add-states
@@ -17,20 +14,19 @@ pub loop-state-init : goal.loop-state-init
 loop-state-init c = below_none _ _ _
 
 pub put_state_lines-next-requires : goal.put_state_lines-next-requires
-put_state_lines-next-requires c =
-    (
-      c.requires.0,
-      c.requires.1,
-      omega (arith, c.cells-states.ensures, c.loop-state-test.true),
-      omega (
-        arith,
-        c.cells-states.ensures,
-        c.requires.2,
-        cells_few c.args.card.now c.requires.0,
-        (fitting c.args.card.now c.requires.0).observations,
-        below_fits _ _ _ _ c.loop-state.invariant c.loop-state-test.true,
-      ),
-    )
+put_state_lines-next-requires c = (
+  c.requires.0,
+  c.requires.1,
+  omega (arith, c.cells-states.ensures, c.loop-state-test.true),
+  omega (
+    arith,
+    c.cells-states.ensures,
+    c.requires.2,
+    cells_few c.args.card.now c.requires.0,
+    (fitting c.args.card.now c.requires.0).observations,
+    below_fits _ _ _ _ c.loop-state.invariant c.loop-state-test.true,
+  ),
+)
 
 pub loop-state-preserved : goal.loop-state-preserved
 loop-state-preserved c =

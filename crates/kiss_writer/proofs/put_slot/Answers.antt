@@ -7,23 +7,20 @@ use borrow.Author.Rules.{rules}
 use Rattle.kiss_writer.proofs.put_slot.Goals as goal
 
 pub returns-then-to-eq-NO_CELL : goal.returns-then-to-eq-NO_CELL
-returns-then-to-eq-NO_CELL c =
-    (
-      rw (slot_none c.args.card.now _ _ _ c.entered-to.ensures c.if-to-eq-NO_CELL.true) wrote_none,
-      search rules,
-    )
+returns-then-to-eq-NO_CELL c = (
+  rw (slot_none c.args.card.now _ _ _ c.entered-to.ensures c.if-to-eq-NO_CELL.true) wrote_none,
+  search rules,
+)
 
 pub cell_action-picked-requires : goal.cell_action-picked-requires
-cell_action-picked-requires c =
-    (
-      c.requires.0,
-      entered_cell c.args.card.now c.requires.0 _ _ _ c.requires.2 c.requires.3 c.entered-to.ensures c.if-to-eq-NO_CELL.false,
-    )
+cell_action-picked-requires c = (
+  c.requires.0,
+  entered_cell c.args.card.now c.requires.0 _ _ _ c.requires.2 c.requires.3 c.entered-to.ensures c.if-to-eq-NO_CELL.false,
+)
 
 pub put_line-requires : goal.put_line-requires
 put_line-requires c =
-    let cell = entered_cell c.args.card.now c.requires.0 _ _ _ c.requires.2 c.requires.3 c.entered-to.ensures c.if-to-eq-NO_CELL.false in
-    (
+    let cell = entered_cell c.args.card.now c.requires.0 _ _ _ c.requires.2 c.requires.3 c.entered-to.ensures c.if-to-eq-NO_CELL.false in (
       narrow c.args.card.now c.requires.0 _ c.requires.1,
       omega (arith, c.requires.2, cells_few c.args.card.now c.requires.0),
       omega (arith, c.requires.3, (fitting c.args.card.now c.requires.0).observations),
@@ -33,9 +30,8 @@ put_line-requires c =
     )
 
 pub returns : goal.returns
-returns c =
-    (
-      rw (← (slot_written c.args.card.now _ _ _ c.entered-to.ensures c.if-to-eq-NO_CELL.false _ c.requires.1 _ c.cell_action-picked.ensures))
-          c.put_line.ensures.0,
-      c.put_line.ensures.1,
-    )
+returns c = (
+  rw (← (slot_written c.args.card.now _ _ _ c.entered-to.ensures c.if-to-eq-NO_CELL.false _ c.requires.1 _ c.cell_action-picked.ensures))
+      c.put_line.ensures.0,
+  c.put_line.ensures.1,
+)

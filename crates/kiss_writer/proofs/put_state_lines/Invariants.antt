@@ -1,11 +1,7 @@
 -- Invariant: the lines of the observations below j are written.
 use Prim.Native.Nat.{◌-◌}
-use native.Mathlib.Omega.{arith}
-use Rattle.text.proofs.Writing.{wrote_length}
-use Rattle.kiss.specs.Text.{state_text}
 use Rattle.kiss_writer.specs.Lines.{most_bytes, slot_of}
-use Rattle.kiss_writer.proofs.Rows.{Below, below_none, below_more, below_fits, below_all}
-use borrow.Author.Rules.{rules}
+use Rattle.kiss_writer.proofs.Rows.{Below}
 use Rattle.kiss_writer.proofs.put_state_lines.Given as goal
 
 abbrev pub invariant-loop-j : goal.invariant-loop-j

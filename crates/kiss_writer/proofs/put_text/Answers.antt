@@ -1,7 +1,6 @@
 -- `kiss_writer::put_text` meets its contract: the head, the lines and the end.
 use Rattle.text.proofs.Writing.{wrote_then}
 use Rattle.kiss_writer.proofs.Lines.{text_is}
-use borrow.Author.Rules.{rules}
 use Rattle.kiss_writer.proofs.put_text.Goals as goal
 
 pub returns : goal.returns

@@ -1,6 +1,5 @@
 -- `kiss_writer::text_length` meets its contract: the head, the lines and the end.
 use Rattle.kiss_writer.proofs.Lines.{text_long}
-use borrow.Author.Rules.{rules}
 use Rattle.kiss_writer.proofs.text_length.Goals as goal
 
 pub returns : goal.returns

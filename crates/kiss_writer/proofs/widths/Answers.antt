@@ -3,7 +3,6 @@ use mathlib.Core.Path.{ap, ◌∙◌}
 use native.Mathlib.Omega.{arith}
 use Rattle.cards.proofs.Checked.{fitting}
 use Rattle.kiss.specs.Text.{bits}
-use borrow.Author.Rules.{rules}
 use Rattle.kiss_writer.proofs.widths.Goals as goal
 
 pub bits-requires : goal.bits-requires
@@ -15,6 +14,6 @@ bits-requires-2 c = omega (arith, c.actions.ensures, (fitting c.args.card.now c.
 pub returns : goal.returns
 returns c =
     record {
-      c = c.bits.ensures ∙ ap bits c.observations.ensures;
-      c = c.bits-2.ensures ∙ ap bits c.actions.ensures;
+      input = c.bits.ensures ∙ ap bits c.observations.ensures;
+      output = c.bits-2.ensures ∙ ap bits c.actions.ensures;
     }

@@ -1,6 +1,5 @@
 -- `kiss_writer::write_text` meets its contract: 9 where the room is short, else the text.
 use Rattle.kiss_writer.proofs.Answers.{room_short, room_filled}
-use borrow.Author.Rules.{rules}
 use Rattle.kiss_writer.proofs.write_text.Goals as goal
 
 pub returns-then-out-need : goal.returns-then-out-need
