@@ -1,11 +1,10 @@
-use borrow.Author.Rules.{rules}
 use mathlib.Core.Path.{sym, ◌∙◌}
-use Prim.Native.Nat.{ℕ, ◌+◌, ◌≤◌, ◌<◌, ◌-◌}
+use Prim.Native.Nat.{ℕ, ◌+◌, ◌<◌}
 use native.Mathlib.Omega.{arith}
 use lib.ListN.{length, length-set}
 use Rattle.games.specs.Automaton.{no_cell}
 use Rattle.games.specs.Fields.{word}
-use Rattle.cards.proofs.Parts.{Filled, filled_none, filled_more, filled_end}
+use Rattle.cards.proofs.Parts.{filled_none, filled_more, filled_end}
 use Rattle.kiss_reader.proofs.blank_row.Goals as goal
 
 pub loop-j-init : goal.loop-j-init

@@ -1,12 +1,8 @@
 -- `kiss_reader::blank_row` meets its contract. The loop's invariant: the words for the observations below j are written.
-use borrow.Author.Rules.{rules}
-use mathlib.Core.Path.{sym, ◌∙◌}
-use Prim.Native.Nat.{ℕ, ◌+◌, ◌≤◌, ◌<◌, ◌-◌}
-use native.Mathlib.Omega.{arith}
-use lib.ListN.{length, length-set}
+use Prim.Native.Nat.{◌≤◌, ◌-◌}
 use Rattle.games.specs.Automaton.{no_cell}
 use Rattle.games.specs.Fields.{word}
-use Rattle.cards.proofs.Parts.{Filled, filled_none, filled_more, filled_end}
+use Rattle.cards.proofs.Parts.{Filled}
 use Rattle.kiss_reader.proofs.blank_row.Given as goal
 
 abbrev pub invariant-loop-j : goal.invariant-loop-j

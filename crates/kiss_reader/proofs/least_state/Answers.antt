@@ -1,6 +1,5 @@
 -- `kiss_reader::least_state` meets its contract.
 use Rattle.kiss_reader.proofs.Parts.{state_later, state_same}
-use borrow.Author.Rules.{rules}
 use Rattle.kiss_reader.proofs.least_state.Goals as goal
 
 pub returns-then-j-from : goal.returns-then-j-from

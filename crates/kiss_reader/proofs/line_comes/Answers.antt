@@ -2,7 +2,6 @@
 use Rattle.kiss_reader.specs.Reading.{comes}
 use Prim.Native.Nat.{ℕ}
 use mathlib.Core.Path.{ap}
-use borrow.Author.Rules.{rules}
 use Rattle.kiss_reader.proofs.line_comes.Goals as goal
 
 pub returns : goal.returns

@@ -3,7 +3,6 @@ use Rattle.kiss_reader.proofs.Parts.{sized}
 use Rattle.kiss.proofs.Widths.{bits_few}
 use native.Mathlib.Omega.{arith}
 use mathlib.Core.Path.{refl}
-use borrow.Author.Rules.{rules}
 use Rattle.kiss_reader.proofs.measured.Goals as goal
 
 pub overflow_shl-result : goal.overflow_shl-result

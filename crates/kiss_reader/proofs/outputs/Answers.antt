@@ -1,6 +1,5 @@
 -- `kiss_reader::outputs` meets its contract.
 use Rattle.kiss_reader.proofs.Parts.{outputs_one, outputs_all}
-use borrow.Author.Rules.{rules}
 use Rattle.kiss_reader.proofs.outputs.Goals as goal
 
 pub returns-then-low_field-eq0 : goal.returns-then-low_field-eq0

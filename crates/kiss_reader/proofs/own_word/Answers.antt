@@ -5,7 +5,6 @@ use Rattle.cards.specs.Card.{cell_place}
 use native.Mathlib.Omega.{arith}
 use Prim.Native.Nat.{ℕ, ◌<◌}
 use mathlib.Core.Path.{sym, ap, subst}
-use borrow.Author.Rules.{rules}
 use Rattle.kiss_reader.proofs.own_word.Goals as goal
 
 pub offset_bounds-words-place : goal.offset_bounds-words-place

@@ -1,6 +1,5 @@
 -- `kiss_reader::read_counts` meets its contract.
 use Rattle.kiss_reader.proofs.Parts.{counts_read}
-use borrow.Author.Rules.{rules}
 use Rattle.kiss_reader.proofs.read_counts.Goals as goal
 
 pub returns : goal.returns

@@ -1,6 +1,5 @@
 -- `kiss_reader::read_end` meets its contract.
 use Rattle.kiss_reader.proofs.Parts.{end_read}
-use borrow.Author.Rules.{rules}
 use Rattle.kiss_reader.proofs.read_end.Goals as goal
 
 pub returns : goal.returns

@@ -2,7 +2,6 @@
 use Rattle.kiss_reader.proofs.Parts.{head_read}
 use Rattle.kiss.proofs.Widths.{bits_few}
 use native.Mathlib.Omega.{arith}
-use borrow.Author.Rules.{rules}
 use Rattle.kiss_reader.proofs.read_head.Goals as goal
 
 pub read_widths-bits-requires : goal.read_widths-bits-requires

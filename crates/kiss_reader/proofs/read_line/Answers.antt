@@ -1,6 +1,5 @@
 -- `kiss_reader::read_line` meets its contract.
 use Rattle.kiss_reader.proofs.Lines.{line_read}
-use borrow.Author.Rules.{rules}
 use Rattle.kiss_reader.proofs.read_line.Goals as goal
 
 pub returns : goal.returns

@@ -1,4 +1,3 @@
-use borrow.Author.Rules.{rules}
 use borrow.Author.Tests.{not-true}
 use mathlib.Core.Path.{◌≡◌, refl, sym, ◌∙◌}
 use mathlib.Core.Bool.{true}
@@ -6,11 +5,10 @@ use Prim.Native.Nat.{◌+◌, ◌*◌, ◌≤◌, ◌<◌}
 use native.Mathlib.Nat.{mul-le-mul}
 use native.Mathlib.Omega.{arith}
 use lib.ListN.{length}
-use Rattle.games.specs.Automaton.{Automaton}
 use Rattle.games.specs.Format.{max_cells, max_observations}
 use Rattle.form.specs.Form.{byte_at}
 use Rattle.kiss.specs.Profile.{blank, with_line}
-use Rattle.kiss_reader.specs.Reading.{InLines, comes}
+use Rattle.kiss_reader.specs.Reading.{comes}
 use Rattle.kiss_reader.proofs.Lines.{first_long, comes_some, in_lines_none, in_lines_long, in_lines_held, in_lines_more, in_lines_stop, in_lines_end}
 use Rattle.kiss_reader.proofs.read_lines.Goals as goal
 
@@ -37,7 +35,7 @@ shape_of-words-then-not-c c =
 pub returns-then-not-c : goal.returns-then-not-c
 returns-then-not-c c =
     let came : comes (byte_at c.args.t.now c.loop-z.c.at) c.args.z.cells c.args.z.observations c.loop-z.q c.loop-z.from c.loop-z.k ≡ true = sym c.line_comes.ensures ∙ c.loop-z-test.true in
-    in_lines_stop _ _ _ _ _ _ _ c.loop-z.invariant.0 _ c.loop-z.invariant.1 c.read_line-line.result came c.read_line-line.ensures c.if-not-c.true
+    in_lines_stop _ _ _ _ _ _ _ c.loop-z.invariant.0 _ c.loop-z.invariant.1 c.read_line-line.result came c.read_line-line.ensures (not-true _ c.if-not-c.true)
 
 pub store-requires : goal.store-requires
 store-requires c = (c.requires.1, c.read_line-line.ensures.bounded, in_lines_long _ _ _ _ _ _ _ c.loop-z.invariant.0 _ c.loop-z.invariant.1)
@@ -59,8 +57,7 @@ loop-z-smaller c =
 
 pub loop-z-preserved : goal.loop-z-preserved
 loop-z-preserved c =
-    let came : comes (byte_at c.args.t.now c.loop-z.c.at) c.args.z.cells c.args.z.observations c.loop-z.q c.loop-z.from c.loop-z.k ≡ true = sym c.line_comes.ensures ∙ c.loop-z-test.true in
-    (
+    let came : comes (byte_at c.args.t.now c.loop-z.c.at) c.args.z.cells c.args.z.observations c.loop-z.q c.loop-z.from c.loop-z.k ≡ true = sym c.line_comes.ensures ∙ c.loop-z-test.true in (
       with_line c.loop-z.invariant.0 c.read_line-line.result.state c.read_line-line.result.observation c.read_line-line.result.cell c.read_line-line.result.output,
       in_lines_more _ _ _ _ _ _ _ c.loop-z.invariant.0 c.loop-z.words c.loop-z.invariant.1 c.read_line-line.result came c.read_line-line.ensures _ c.store.ensures,
     )

@@ -1,6 +1,5 @@
 -- `kiss_reader::read_slot` meets its contract.
 use Rattle.kiss_reader.proofs.Parts.{slot_read}
-use borrow.Author.Rules.{rules}
 use Rattle.kiss_reader.proofs.read_slot.Goals as goal
 
 pub returns : goal.returns

@@ -1,6 +1,5 @@
 -- `kiss_reader::read_states` meets its contract.
 use Rattle.kiss_reader.proofs.Parts.{states_read}
-use borrow.Author.Rules.{rules}
 use Rattle.kiss_reader.proofs.read_states.Goals as goal
 
 pub returns : goal.returns

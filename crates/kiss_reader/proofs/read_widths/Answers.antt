@@ -1,6 +1,5 @@
 -- `kiss_reader::read_widths` meets its contract.
 use Rattle.kiss_reader.proofs.Parts.{widths_read}
-use borrow.Author.Rules.{rules}
 use Rattle.kiss_reader.proofs.read_widths.Goals as goal
 
 pub returns : goal.returns

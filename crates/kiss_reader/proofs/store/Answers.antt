@@ -6,7 +6,6 @@ use lib.ListN.{length, length-set}
 use native.Mathlib.Omega.{arith}
 use Prim.Native.Nat.{ℕ, ◌+◌, ◌*◌, ◌≤◌, ◌<◌}
 use mathlib.Core.Path.{sym, subst}
-use borrow.Author.Rules.{rules}
 use Rattle.kiss_reader.proofs.store.Goals as goal
 
 pub overflow_mul-row : goal.overflow_mul-row

@@ -1,7 +1,6 @@
 -- `kiss_reader::tell` meets its contract.
 use Rattle.kiss.proofs.Idling.{idle_found, idle_nothing}
 use Rattle.kiss_reader.proofs.Answers.{tell_idle, tell_short, tell_card}
-use borrow.Author.Rules.{rules}
 use Rattle.kiss_reader.proofs.tell.Goals as goal
 
 pub returns-then-idle-cells : goal.returns-then-idle-cells

@@ -1,7 +1,6 @@
-use borrow.Author.Rules.{rules}
 use mathlib.Core.Path.{◌≡◌, sym, ap, ◌∙◌}
 use mathlib.Core.List.{List}
-use Prim.Native.Nat.{ℕ, ◌+◌, ◌≤◌, ◌<◌, ◌-◌}
+use Prim.Native.Nat.{ℕ, ◌+◌, ◌≤◌, ◌<◌}
 use native.Mathlib.Omega.{arith}
 use lib.ListN.{length}
 use lib.Seq.{length-take-le}
@@ -9,7 +8,7 @@ use Rattle.games.specs.Format.{kind_first, kind_next}
 use Rattle.games.specs.Fields.{word}
 use Rattle.games.specs.Words.{front_length, part_length, card_length, card_head, cell_words}
 use Rattle.cards.specs.Card.{cell_place}
-use Rattle.cards.proofs.Parts.{row_length, Carded, carded_none, carded_room, carded_part, carded_more, front_within, fronted_same, fronted_room, carded_whole}
+use Rattle.cards.proofs.Parts.{row_length, carded_none, carded_room, carded_part, carded_more, front_within, fronted_same, fronted_room, carded_whole}
 use Rattle.cards.proofs.Written.{cell_length}
 use Rattle.kiss.specs.Profile.{blank}
 use Rattle.kiss_reader.specs.Storing.{blank_row}
