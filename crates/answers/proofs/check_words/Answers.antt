@@ -1,6 +1,5 @@
 -- `answers::check_words` meets its contract: the words of each case.
 use mathlib.Core.Path.{sym, ap, ◌∙◌}
-use borrow.Author.Rules.{rules}
 use Rattle.answers.specs.Words.{check_words}
 use Rattle.answers.proofs.check_words.Goals as goal
 

@@ -1,6 +1,5 @@
 -- `answers::judge_words` meets its contract: the words of each case.
 use mathlib.Core.Path.{sym, ap, ◌∙◌}
-use borrow.Author.Rules.{rules}
 use Rattle.answers.specs.Words.{judge_words}
 use Rattle.answers.proofs.judge_words.Goals as goal
 

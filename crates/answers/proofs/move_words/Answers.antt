@@ -1,6 +1,5 @@
 -- `answers::move_words` meets its contract: the words of each case.
 use mathlib.Core.Path.{sym, ap, ◌∙◌}
-use borrow.Author.Rules.{rules}
 use Rattle.answers.specs.Words.{move_words}
 use Rattle.answers.proofs.move_words.Goals as goal
 

@@ -1,6 +1,5 @@
 -- `answers::ran_words` meets its contract: the words of each case.
 use mathlib.Core.Path.{sym, ap, ◌∙◌}
-use borrow.Author.Rules.{rules}
 use Rattle.answers.specs.Words.{ran_words}
 use Rattle.answers.proofs.ran_words.Goals as goal
 

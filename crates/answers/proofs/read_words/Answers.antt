@@ -1,6 +1,5 @@
 -- `answers::read_words` meets its contract: the words of each case.
 use mathlib.Core.Path.{sym, ap, ◌∙◌}
-use borrow.Author.Rules.{rules}
 use Rattle.answers.specs.Words.{read_words}
 use Rattle.answers.proofs.read_words.Goals as goal
 

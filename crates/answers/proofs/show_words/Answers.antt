@@ -1,6 +1,5 @@
 -- `answers::show_words` meets its contract: the words of each case.
 use mathlib.Core.Path.{sym, ap, ◌∙◌}
-use borrow.Author.Rules.{rules}
 use Rattle.answers.specs.Words.{show_words}
 use Rattle.answers.proofs.show_words.Goals as goal
 

@@ -1,6 +1,5 @@
 -- `answers::solve_words` meets its contract: the words of each case.
 use mathlib.Core.Path.{sym, ap, ◌∙◌}
-use borrow.Author.Rules.{rules}
 use Rattle.answers.specs.Words.{solve_words}
 use Rattle.answers.proofs.solve_words.Goals as goal
 

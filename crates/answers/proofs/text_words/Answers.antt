@@ -1,6 +1,5 @@
 -- `answers::text_words` meets its contract: the words of each case.
 use mathlib.Core.Path.{sym, ap, ◌∙◌}
-use borrow.Author.Rules.{rules}
 use Rattle.answers.specs.Words.{text_words}
 use Rattle.answers.proofs.text_words.Goals as goal
 

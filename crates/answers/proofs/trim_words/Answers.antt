@@ -1,6 +1,5 @@
 -- `answers::trim_words` meets its contract: the words of each case.
 use mathlib.Core.Path.{sym, ap, ◌∙◌}
-use borrow.Author.Rules.{rules}
 use Rattle.answers.specs.Words.{trim_words}
 use Rattle.answers.proofs.trim_words.Goals as goal
 

@@ -1,6 +1,5 @@
 -- `answers::written_words` meets its contract: the words of each case.
 use mathlib.Core.Path.{sym, ap, ◌∙◌}
-use borrow.Author.Rules.{rules}
 use Rattle.answers.specs.Words.{written_words}
 use Rattle.answers.proofs.written_words.Goals as goal
 
