@@ -1,6 +1,5 @@
 -- `abi::card_words` meets its contract: the numbers of a checked card's head, or the words of the refusal.
 use mathlib.Core.Path.{sym, ◌∙◌}
-use borrow.Author.Rules.{rules}
 use Rattle.abi.proofs.Told.{card_fine, card_refused}
 use Rattle.abi.proofs.card_words.Goals as goal
 

@@ -1,6 +1,5 @@
 -- `abi::kirdanzug_check_table` meets its contract: the words of what `check` answers.
 use mathlib.Core.Path.{ap, ◌∙◌}
-use borrow.Author.Rules.{rules}
 use Rattle.answers.specs.Words.{check_words}
 use Rattle.abi.proofs.kirdanzug_check_table.Goals as goal
 

@@ -1,6 +1,5 @@
 -- `abi::kirdanzug_drive` meets its contract: the words of the answer with which the driven runner stands last.
 use mathlib.Core.Path.{ap, ◌∙◌}
-use borrow.Author.Rules.{rules}
 use Rattle.cards.specs.declared.Stood.{Stood}
 use Rattle.answers.specs.Words.{move_words}
 use Rattle.abi.proofs.kirdanzug_drive.Goals as goal

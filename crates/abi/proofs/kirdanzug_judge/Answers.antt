@@ -1,6 +1,5 @@
 -- `abi::kirdanzug_judge` meets its contract: the words of what `judge` answers.
 use mathlib.Core.Path.{ap, ◌∙◌}
-use borrow.Author.Rules.{rules}
 use Rattle.answers.specs.Words.{judge_words}
 use Rattle.abi.proofs.kirdanzug_judge.Goals as goal
 

@@ -1,13 +1,11 @@
 -- `abi::kirdanzug_judge_card` meets its contract: the words of what `judge_card` answers, and accepted means safe.
 use mathlib.Core.Path.{ap, ◌∙◌}
-use borrow.Author.Rules.{rules}
 use Rattle.answers.specs.Words.{check_words}
 use Rattle.abi.proofs.Told.{accepted_told}
 use Rattle.abi.proofs.kirdanzug_judge_card.Goals as goal
 
 pub returns : goal.returns
-returns c =
-    (
-      c.check_words.ensures ∙ ap check_words c.judge_card.ensures.0,
-      accepted_told _ c.judge_card.result _ c.check_words.ensures c.judge_card.ensures.1,
-    )
+returns c = record {
+  determined = c.check_words.ensures ∙ ap check_words c.judge_card.ensures.determined;
+  safe = accepted_told _ c.judge_card.result _ c.check_words.ensures c.judge_card.ensures.safe;
+}

@@ -1,6 +1,5 @@
 -- `abi::kirdanzug_open` meets its contract: the words of what `begin` answers.
 use mathlib.Core.Path.{ap, ◌∙◌}
-use borrow.Author.Rules.{rules}
 use Rattle.answers.specs.Words.{move_words}
 use Rattle.abi.proofs.kirdanzug_open.Goals as goal
 

@@ -1,5 +1,4 @@
 -- `abi::kirdanzug_run` meets its contract: the words of what `run` answers, and what it leaves.
-use borrow.Author.Rules.{rules}
 use Rattle.answers.specs.Words.{ran_words}
 use Rattle.abi.proofs.Told.{tells}
 use Rattle.abi.proofs.kirdanzug_run.Goals as goal

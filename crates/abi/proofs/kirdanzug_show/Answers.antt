@@ -1,6 +1,5 @@
 -- `abi::kirdanzug_show` meets its contract: the words of what `find` answers.
 use mathlib.Core.Path.{ap, ◌∙◌}
-use borrow.Author.Rules.{rules}
 use Rattle.answers.specs.Words.{show_words}
 use Rattle.abi.proofs.kirdanzug_show.Goals as goal
 

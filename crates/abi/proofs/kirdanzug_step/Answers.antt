@@ -1,6 +1,5 @@
 -- `abi::kirdanzug_step` meets its contract: the words of what `step` answers.
 use mathlib.Core.Path.{ap, ◌∙◌}
-use borrow.Author.Rules.{rules}
 use Rattle.answers.specs.Words.{move_words}
 use Rattle.abi.proofs.kirdanzug_step.Goals as goal
 
