@@ -1,7 +1,7 @@
 //! Builds and links the proved archive.
 //!
-//! `KIRDANZUG_ARCHIVE` may name a folder that already holds libabi.a; otherwise `rt lib abi`
-//! is run in the repository's root and writes crates/abi/out/libabi.a.
+//! `KIRDANZUG_ARCHIVE` may name a folder that already holds libabi.a; otherwise `rt lib`
+//! is run in crates/abi and writes crates/abi/out/libabi.a.
 
 use std::env;
 use std::path::{Path, PathBuf};
@@ -24,7 +24,7 @@ fn main() {
     println!("cargo:rustc-env=KIRDANZUG_ARCHIVE_FOLDER={}", folder.display());
 }
 
-/// Runs `rt lib abi` in the repository's root; answers the folder of the archive.
+/// Runs `rt lib` in crates/abi; answers the folder of the archive.
 fn build_archive() -> PathBuf {
     let manifest = env::var("CARGO_MANIFEST_DIR").expect("cargo sets CARGO_MANIFEST_DIR");
     let root = Path::new(&manifest).parent().expect("rust/ has a parent");
@@ -35,10 +35,10 @@ fn build_archive() -> PathBuf {
         }
     }
     println!("cargo:rerun-if-changed={}", root.join("crates.txt").display());
-    let run = Command::new("rt").args(["lib", "abi"]).current_dir(root).output();
+    let run = Command::new("rt").arg("lib").current_dir(root.join("crates").join("abi")).output();
     let output = run.expect("rt cannot be started");
     let text = String::from_utf8_lossy(&output.stdout).into_owned()
         + &String::from_utf8_lossy(&output.stderr);
-    assert!(output.status.success(), "rt lib abi failed:\n{text}");
+    assert!(output.status.success(), "rt lib failed:\n{text}");
     root.join("crates").join("abi").join("out")
 }

@@ -122,7 +122,7 @@ fn build_and_run(section: &str) {
         std::fs::write(&path, &block.text).expect("the file can be written");
     }
     let commands: Vec<&str> = the(&blocks, section, "sh").text.lines().collect();
-    assert_eq!(commands[0], "rt lib abi", "the archive comes first");
+    assert_eq!(commands[0], "(cd crates/abi && rt lib)", "the archive comes first");
     let printed: String = commands[1..].iter().map(|line| run_line(&folder, line)).collect();
     assert_eq!(printed, the(&blocks, section, "text").text, "{section}");
 }
