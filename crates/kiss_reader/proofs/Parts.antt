@@ -12,7 +12,6 @@ use lib.Pow.{pow_mono}
 use borrow.Author.Tests.{eq-eqb, ne_eqb, eqb-true, lt-ltb, le-ltb}
 use Rattle.sets.proofs.Logic.{decided, clash, and_left, and_right, and_intro}
 use Rattle.games.specs.Format.{max_actions, max_observations, max_cells, kind_first, kind_next}
-use Rattle.games.specs.Fields.{low_field, action_field}
 use Rattle.games.specs.Words.{card_words}
 use Rattle.text.specs.Text.{bytes}
 use Rattle.form.specs.Form.{Form, stop, reads, Has, byte_at, word, number}
@@ -30,7 +29,7 @@ use Rattle.kiss_reader.specs.declared.Head.{Head}
 use Rattle.kiss_reader.specs.declared.Sizes.{Sizes}
 use Rattle.kiss_reader.specs.declared.Slot.{Slot}
 use Rattle.kiss_reader.specs.declared.Range.{Range}
-use Rattle.kiss_reader.specs.Reading.{counts, widths, states, slot, Passed, Told, CountsRead, Limited, HeadRead, Sized, SlotRead, outputs_by, EndRead}
+use Rattle.kiss_reader.specs.Reading.{counts, widths, states, slot, Passed, Told, CountsRead, Limited, HeadRead, Sized, SlotRead, EndRead}
 use Rattle.kiss_reader.specs.Storing.{slot_kind}
 
 -- a cursor at a place with another number
@@ -273,16 +272,6 @@ kind_next_lem q n = sym (ap (λ (b : Bool). cond b kind_first kind_next) (ne_eqb
 
 abbrev pub range : (least most : ℕ) → Range
 range x y = record { least = x; most = y }
-
-module _ (a own : ℕ) where
-  pub outputs_one : (low x : ℕ) → low ≡ low_field own → low ≡ 0 → x ≡ action_field own → range x x ≡ outputs_by a own
-  outputs_one low x e z f =
-      ap (λ (y : ℕ). range y y) f
-      ∙ sym (ap (λ (b : Bool). cond b (range (action_field own) (action_field own)) (range 0 (a - 1))) (eq-eqb (low_field own) 0 (sym e ∙ z)))
-
-  pub outputs_all : (low : ℕ) → low ≡ low_field own → (low ≡ 0 → ⊥) → range 0 (a - 1) ≡ outputs_by a own
-  outputs_all low e n =
-      sym (ap (λ (b : Bool). cond b (range (action_field own) (action_field own)) (range 0 (a - 1))) (ne_eqb (low_field own) 0 (λ z. n (e ∙ z))))
 
 -- the name of a state, as the code tests it
 module _ (t : List ℕ) (c : Cursor) (m least b : ℕ) (is : b ≡ byte_at t c.at) where
