@@ -1,0 +1,10 @@
+-- `trim_each` is safe and ends. The measure is the number of words left.
+use Prim.Native.Nat.{◌-◌}
+use lib.ListN.{length}
+use Rattle.trim_vectors.proofs.refusal_rows.trim_each.Given as goal
+
+abbrev pub invariant-loop-i : goal.invariant-loop-i
+invariant-loop-i g l = Unit {0}
+
+abbrev pub decreases-loop-i : goal.decreases-loop-i
+decreases-loop-i g l = length l.words - l.i
