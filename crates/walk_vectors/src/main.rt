@@ -10,10 +10,10 @@ use games::{Action, Checked};
 use std::io::{self, Read};
 use walk::Walked;
 
-// The most bytes that are read, and as many words as they hold.
-const INPUT_BYTES: usize = 65536;
+// The most words that are read, and their bytes.
+const INPUT_WORDS: usize = 16384;
 
-const INPUT_WORDS: usize = INPUT_BYTES / 4;
+const INPUT_BYTES: usize = 4 * INPUT_WORDS;
 
 fn wide(b: u8) -> u32
     ensures { result < 256 }
