@@ -1,0 +1,10 @@
+-- `run` is safe and ends. The measure is the number of bytes left.
+use Prim.Native.Nat.{◌-◌}
+use lib.ListN.{length}
+use Rattle.kiss_vectors.proofs.run.Given as goal
+
+abbrev pub invariant-loop-at : goal.invariant-loop-at
+invariant-loop-at g l = Unit {0}
+
+abbrev pub decreases-loop-at : goal.decreases-loop-at
+decreases-loop-at g l = length l.input - l.at
