@@ -1,17 +1,14 @@
 -- Laws of what is printed: for each answer of solve, and for each input.
 -- Assumes nothing.
 use mathlib.Core.Path.{◌≡◌, refl, sym, ap, ◌∙◌, subst}
-use mathlib.Core.Logic.{⊎_elim}
 use mathlib.Core.Bool.{true, false}
-use mathlib.Core.List.{List, [], ◌∷◌, ◌++◌}
-use Prim.Native.Nat.{ℕ, ◌+◌, ◌*◌, ◌/◌, ◌%◌, ◌≤◌, ◌<◌}
+use mathlib.Core.List.{List, ◌++◌}
+use Prim.Native.Nat.{ℕ, min, ◌*◌, ◌/◌, ◌%◌, ◌≤◌, ◌<◌}
 use native.Mathlib.Nat.{mul_comm, mul-le-mul_right, min-le_right, not-suc-le-zero}
 use native.Mathlib.Omega.{arith}
 use borrow.Author.Tests.{eq-eqb, ne_eqb, lt-ltb, le-ltb, ltb-true}
-use types.Run.{OneOf}
-use denote.Enum.Declared.{tag_of}
 use lib.ListN.{length, take}
-use lib.IntN.{ℤ, pos, negsuc}
+use lib.IntN.{ℤ, pos, negsuc, nat_abs}
 use lib.Signed.{lt_z}
 use Rattle.sets.proofs.Logic.{clash}
 use Rattle.games.specs.Answers.{Leaves, leaves}
@@ -20,14 +17,12 @@ use Rattle.games.specs.Words.{part_length, card_length}
 use Rattle.solver.specs.Solve.{Buffers, buffers, solved, written}
 use Rattle.solver.specs.declared.Answer.{Answer}
 use Rattle.solver.specs.declared.Answer.TheVariants.{Yes, No, Refused}
-use Rattle.solver.specs.contracts.Answer.{the_type}
 use Rattle.text.specs.Text.{Wrote}
 use Rattle.printout.specs.Lines.{yes_line, card_text, no_line, refused_line, answer_text, unread_line}
 use Rattle.solve.specs.Bytes.{words_of}
 use Rattle.solve.specs.Program.{input_bytes, buffer_words, blank, card_in, table_text, program_text, Counts, taken_of, reply_to, reply_text}
 use Rattle.solve.specs.declared.Input.{Input}
 use Rattle.solve.specs.declared.Input.TheVariants.{Bytes, Failed}
-use Rattle.io.specs.Counts.{clamp_len}
 
 -- another name for the text that was written
 pub wrote_same : {s t d e : List ℕ} {r : ℕ} → s ≡ t → Wrote s 0 d r e → Wrote t 0 d r e
@@ -58,10 +53,10 @@ pub same_text : {v w work card : List ℕ} → v ≡ w → work ≡ blank → ca
 same_text e f g = rw (e, f, g)
 
 -- the answer is a yes, a no or a refusal
-pub no_fourth : (r : Answer) → OneOf (1 ∷ 2 ∷ []) (tag_of the_type r) → OneOf (0 ∷ 2 ∷ []) (tag_of the_type r) → OneOf (0 ∷ 1 ∷ []) (tag_of the_type r) → ⊥
-no_fourth (Yes t m) a b c = ⊎_elim (λ e. omega arith) (λ e. omega arith) a
-no_fourth (No k) a b c = ⊎_elim (λ e. omega arith) (λ e. omega arith) b
-no_fourth (Refused n p) a b c = ⊎_elim (λ e. omega arith) (λ e. omega arith) c
+pub no_fourth : (r : Answer) → ((t m : ℕ) → r ≡ Yes t m → ⊥) → ((k : ℕ) → r ≡ No k → ⊥) → ((n p : ℕ) → r ≡ Refused n p → ⊥) → ⊥
+no_fourth (Yes t m) a b c = a t m refl
+no_fourth (No k) a b c = b k refl
+no_fourth (Refused n p) a b c = c n p refl
 
 -- a card in a room of so many words has numbers that its head can hold
 pub card_fits : (m o p n : ℕ) → p ≡ o → o ≤ max_observations → n ≡ buffer_words → card_length m o ≤ n → (m ≤ low_values) × (p < number_values)
@@ -94,7 +89,7 @@ unfolding taken_of
 failed_taken (pos k) n e = absurd (not-suc-le-zero (ltb-true k 0 e))
 failed_taken (negsuc k) n e = refl
 
-pub bytes_taken : (got : ℤ) (n k : ℕ) → lt_z got (pos 0) ≡ false → k ≡ clamp_len got n → Bytes k ≡ taken_of got n
+pub bytes_taken : (got : ℤ) (n k : ℕ) → lt_z got (pos 0) ≡ false → k ≡ min (nat_abs got) n → Bytes k ≡ taken_of got n
 unfolding taken_of
 bytes_taken (pos j) n k e f = ap Bytes f
 bytes_taken (negsuc j) n k e f = clash {b = true} refl e

@@ -1,6 +1,6 @@
 -- What the solving program prints for the bytes on its standard input (document 01, "Stations to try").
 -- Assumes nothing.
-use Rattle.std.specs.Prelude.{cond, not, List, [], ℕ, ◌+◌, ◌*◌, ◌/◌, ◌%◌, ◌≤◌, min, eqb, ltb, length, take, replicate, ℤ, pos, Result, Ok, Err}
+use Rattle.std.specs.Prelude.{cond, not, List, [], ℕ, ◌+◌, ◌*◌, ◌/◌, ◌%◌, ◌≤◌, min, eqb, ltb, length, take, replicate, ℤ, pos, negsuc}
 use Rattle.games.specs.Format.{max_sets}
 use Rattle.solver.specs.Solve.{solved, written}
 use Rattle.solver.specs.declared.Answer.{Answer}
@@ -44,10 +44,10 @@ program_text b =
 
 -- ---- what reading gave, and the reply to it
 
--- what a read answers: so many of the buffer's bytes, or a failure, which is no end of the input
-unfoldable pub taken_of : {E : Type 0} → Result ℕ E → (room : ℕ) → Input
-taken_of (Ok k) n = Bytes (min k n)
-taken_of (Err e) n = Failed
+-- what C's read answers: so many of the buffer's bytes, or a failure, which is no end of the input
+unfoldable pub taken_of : ℤ → (room : ℕ) → Input
+taken_of (pos k) n = Bytes (min k n)
+taken_of (negsuc k) n = Failed
 
 -- no more bytes than there was room for
 abbrev pub Counts : (room : ℕ) → Input → Type 0

@@ -2,7 +2,7 @@
 // buffer by functions whose contracts say what it is; the program reads, calls them, and writes the buffer out.
 #![tactic(auto)]
 
-ghost use Rattle.std.specs.Prelude.{◌≡◌, ◌+◌, ◌*◌, ◌/◌, ◌%◌, ◌≤◌, ◌<◌, length};
+ghost use Rattle.std.specs.Prelude.{◌≡◌, ◌+◌, ◌*◌, ◌/◌, ◌%◌, ◌^◌, ◌≤◌, ◌<◌, length, IfOk};
 ghost use Rattle.text.specs.Text.{Wrote};
 ghost use Rattle.solve.specs.Bytes.{word, words_of};
 ghost use Rattle.solve.specs.Program.{input_bytes, buffer_words, blank, text_bytes, table_text, program_text};
@@ -123,13 +123,23 @@ enum Input {
     Failed,
 }
 
-// What a read answered, as a number of the buffer's bytes or a failure.
-fn taken(got: io::Result<usize>, bytes: &[u8]) -> Input
+// What a read answered, as a number of the buffer's bytes or a failure, which is a negative number.
+fn taken(got: isize, bytes: &[u8]) -> Input
     ensures { result ≡ taken_of got (length bytes.now) }
 {
-    match got {
-        Ok(count) => Input::Bytes(count.min(bytes.len())),
-        Err(_) => Input::Failed,
+    if got < 0 {
+        return Input::Failed;
+    }
+    Input::Bytes((got as usize).min(bytes.len()))
+}
+
+// A read's answer as one number.
+fn told(answer: io::Result<usize>) -> isize
+    requires { IfOk answer (λ n. n < 2 ^ 63) }
+{
+    match answer {
+        Ok(count) => count as isize,
+        Err(_) => -1,
     }
 }
 
@@ -137,7 +147,7 @@ fn taken(got: io::Result<usize>, bytes: &[u8]) -> Input
 fn read_some(reader: &mut impl Read, bytes: &mut [u8]) -> Input
     ensures { Counts (length bytes.new) result }
 {
-    let got = reader.read(bytes);
+    let got = told(reader.read(bytes));
     taken(got, bytes)
 }
 
