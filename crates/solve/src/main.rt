@@ -2,7 +2,7 @@
 // buffer by functions whose contracts say what it is; the program reads, calls them, and writes the buffer out.
 #![tactic(auto)]
 
-ghost use Rattle.std.specs.Prelude.{◌≡◌, ◌+◌, ◌*◌, ◌/◌, ◌%◌, ◌^◌, ◌≤◌, ◌<◌, length, IfOk};
+ghost use Rattle.std.specs.Prelude.{◌≡◌, ◌+◌, ◌*◌, ◌/◌, ◌%◌, ◌^◌, ◌≤◌, ◌<◌, length, IfOk, OnErr, pos, negsuc};
 ghost use Rattle.text.specs.Text.{Wrote};
 ghost use Rattle.solve.specs.Bytes.{word, words_of};
 ghost use Rattle.solve.specs.Program.{input_bytes, buffer_words, blank, text_bytes, table_text, program_text};
@@ -133,9 +133,11 @@ fn taken(got: isize, bytes: &[u8]) -> Input
     Input::Bytes((got as usize).min(bytes.len()))
 }
 
-// A read's answer as one number.
+// A read's answer as one number: the count, or a negative number for an error.
 fn told(answer: io::Result<usize>) -> isize
     requires { IfOk answer (λ n. n < 2 ^ 63) }
+    ensures count { IfOk answer (λ n. result ≡ pos n) }
+    ensures failure { OnErr answer (result ≡ negsuc 0) }
 {
     match answer {
         Ok(count) => count as isize,
