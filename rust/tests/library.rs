@@ -5,7 +5,6 @@
 use kirdanzug::*;
 use std::collections::BTreeSet;
 use std::io::Write;
-use std::os::unix::fs::symlink;
 use std::path::{Path, PathBuf};
 use std::process::{Command, Output, Stdio};
 
@@ -88,10 +87,26 @@ fn folder(name: &str) -> PathBuf {
         std::fs::remove_dir_all(&folder).expect("the folder of the last run goes");
     }
     std::fs::create_dir_all(folder.join("crates/abi")).expect("the folder can be made");
-    for (from, to) in [("include", root().join("include")), ("rust", root().join("rust")), ("crates/abi/out", ARCHIVE.into())] {
-        symlink(to, folder.join(from)).expect("a link can be made");
+    for (to, from) in [("include", root().join("include")), ("rust", root().join("rust"))] {
+        copy(&from, &folder.join(to));
     }
+    std::fs::create_dir(folder.join("crates/abi/out")).expect("the folder can be made");
+    std::fs::copy(Path::new(ARCHIVE).join("libabi.a"), folder.join("crates/abi/out/libabi.a")).expect("the archive is copied");
     folder
+}
+
+/// Copies a folder without what cargo built in it. (No links: `rt ci` refuses a repository that has one, in any folder.)
+fn copy(from: &Path, to: &Path) {
+    std::fs::create_dir(to).expect("a folder can be made");
+    for entry in std::fs::read_dir(from).expect("the folder is there") {
+        let path = entry.expect("a file").path();
+        let name = path.file_name().expect("it has a name");
+        if path.is_file() {
+            std::fs::copy(&path, to.join(name)).expect("the file is copied");
+        } else if name != "target" {
+            copy(&path, &to.join(name));
+        }
+    }
 }
 
 fn text(bytes: &[u8]) -> String {
