@@ -3,12 +3,12 @@
 use mathlib.Core.Path.{◌≡◌, refl, sym, ap, ◌∙◌, subst}
 use mathlib.Core.Bool.{true, false}
 use mathlib.Core.List.{List, ◌++◌}
-use Prim.Native.Nat.{ℕ, min, ◌*◌, ◌/◌, ◌%◌, ◌≤◌, ◌<◌}
+use Prim.Native.Nat.{ℕ, ◌*◌, ◌/◌, ◌%◌, ◌≤◌, ◌<◌}
 use native.Mathlib.Nat.{mul_comm, mul-le-mul_right, min-le_right, not-suc-le-zero}
 use native.Mathlib.Omega.{arith}
 use borrow.Author.Tests.{eq-eqb, ne_eqb, lt-ltb, le-ltb, ltb-true}
 use lib.ListN.{length, take}
-use lib.IntN.{ℤ, pos, negsuc, nat_abs}
+use lib.IntN.{ℤ, pos, negsuc}
 use lib.Signed.{lt_z}
 use Rattle.sets.proofs.Logic.{clash}
 use Rattle.games.specs.Answers.{Leaves, leaves}
@@ -23,6 +23,7 @@ use Rattle.solve.specs.Bytes.{words_of}
 use Rattle.solve.specs.Program.{input_bytes, buffer_words, blank, card_in, table_text, program_text, Counts, taken_of, reply_to, reply_text}
 use Rattle.solve.specs.declared.Input.{Input}
 use Rattle.solve.specs.declared.Input.TheVariants.{Bytes, Failed}
+use Rattle.io.specs.Counts.{clamp_len}
 
 -- another name for the text that was written
 pub wrote_same : {s t d e : List ℕ} {r : ℕ} → s ≡ t → Wrote s 0 d r e → Wrote t 0 d r e
@@ -89,7 +90,7 @@ unfolding taken_of
 failed_taken (pos k) n e = absurd (not-suc-le-zero (ltb-true k 0 e))
 failed_taken (negsuc k) n e = refl
 
-pub bytes_taken : (got : ℤ) (n k : ℕ) → lt_z got (pos 0) ≡ false → k ≡ min (nat_abs got) n → Bytes k ≡ taken_of got n
+pub bytes_taken : (got : ℤ) (n k : ℕ) → lt_z got (pos 0) ≡ false → k ≡ clamp_len got n → Bytes k ≡ taken_of got n
 unfolding taken_of
 bytes_taken (pos j) n k e f = ap Bytes f
 bytes_taken (negsuc j) n k e f = clash {b = true} refl e

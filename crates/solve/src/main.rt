@@ -9,7 +9,7 @@ ghost use Rattle.solve.specs.Program.{input_bytes, buffer_words, blank, text_byt
 ghost use Rattle.solve.specs.Program.{Counts, taken_of, reply_to, reply_text};
 
 use solver::Answer;
-use std::io::{self, Read};
+use std::io::Read;
 
 fn wide(b: u8) -> u32
     ensures { (result ≡ b) × (result < 256) }
@@ -124,17 +124,18 @@ enum Input {
 }
 
 // What a read answered, as a number of the buffer's bytes or a failure, which is a negative number.
+#[tactic(auto, unfolding(crate::specs::Program::taken_of))]
 fn taken(got: isize, bytes: &[u8]) -> Input
     ensures { result ≡ taken_of got (length bytes.now) }
 {
     if got < 0 {
         return Input::Failed;
     }
-    Input::Bytes((got as usize).min(bytes.len()))
+    Input::Bytes(io::count(got, bytes))
 }
 
 // A read's answer as one number: the count, or a negative number for an error.
-fn told(answer: io::Result<usize>) -> isize
+fn told(answer: std::io::Result<usize>) -> isize
     requires { IfOk answer (λ n. n < 2 ^ 63) }
     ensures count { IfOk answer (λ n. result ≡ pos n) }
     ensures failure { OnErr answer (result ≡ negsuc 0) }
@@ -214,7 +215,7 @@ fn tell_unwritten(err: &impl Print) {
 }
 
 // Writes to the stream that has the number.
-fn write_to(out: &impl Print, err: &impl Print, to: i32, text: &[u8]) -> io::Result<()> {
+fn write_to(out: &impl Print, err: &impl Print, to: i32, text: &[u8]) -> std::io::Result<()> {
     if to == STDERR_FILENO {
         err.write_all(text)
     } else {
