@@ -1,22 +1,19 @@
 #!/usr/bin/env python3
-"""Turns proofs/F/Proof.antt (tie.close) of an older kit into Invariants.antt and Answers.antt, by names.json of rt check --old-names.
-usage: convert.py ROOT NAMES CRATE..    (ROOT: the tree whose Proof.antt are as port.py left them; writes into ./crates)"""
-import json, os, re, sys, difflib
+"""Turns proofs/F/Proof.antt (tie.close) of an older kit into Invariants.antt and Answers.antt. It was run once, for the port of docs/PORT.md.
+
+usage: answers_of_walks.py ROOT NAMES CRATE..    at the top of a checkout; it writes into ./crates
+
+ROOT is a tree whose Proof.antt are as port.py of the kit left them, before tools/spell.py. NAMES/CRATE/names.json is what `rt check --generated DIR
+--old-names` writes of a crate: the older names of its goals and steps, and those of today. A path `c.before.before.loop.i` becomes
+`c.loop-i.i`; lets that only name a place go; a helper over a place becomes a let in each answer that uses it. It goes by text and prints what it
+could not turn; `rt check` decides."""
+import json, os, re, sys
 ROOT, NAMES = sys.argv[1], sys.argv[2]
-HERE="tools"
-ROWS=dict(l.rstrip('\n').split('\t') for l in open(HERE+'/spellings.tsv'))
+HERE=os.path.dirname(os.path.realpath(__file__))
+ROWS=dict(l.rstrip('\n').split('\t') for l in open(os.path.join(HERE,'spellings.tsv')))
 IDCH=r"[^\s(){}.;,@\"«»]"
 NAME=re.compile(IDCH+'+')
 norm=lambda s: s.replace('-','_').replace('IsPlace','place')
-
-def blocks(text):
-    """top-level declarations: list of lists of lines"""
-    out=[];cur=[]
-    for line in text.split('\n'):
-        if line and not line[0].isspace() and cur and not cur[-1].startswith('--') or False:
-            pass
-        cur.append(line)
-    return text
 
 def decls(lines):
     """group top-level: a signature line 'name : type' (may continue indented) followed by unfolding/equations"""
@@ -34,8 +31,6 @@ def decls(lines):
     return items
 
 SIG=re.compile(r"^((?:abbrev |pub |unfoldable )*)("+IDCH+r"+)\s*:\s+(.*)$",re.S)
-
-class Fn: pass
 
 def strip_parens(s):
     s=s.strip()
@@ -215,7 +210,7 @@ def convert(crate, fdir, text, js, key, log):
             prev=body
             for nme in ident:
                 body=re.sub(r"\(%s ([^\s(){};,]+)\)"%re.escape(nme), r"\1.before", body)
-                body=re.sub(r"(?<![^\s(){};,])%s \(?([^\s(){};,]+)\)?(?![^\s(){};,])"%re.escape(nme), r"\1.before", body) if False else re.sub(r"(?<![^\s(){};,])%s ([^\s(){};,]+)(?![^\s(){};,])"%re.escape(nme), r"\1.before", body)
+                body=re.sub(r"(?<![^\s(){};,])%s ([^\s(){};,]+)(?![^\s(){};,])"%re.escape(nme), r"\1.before", body)
         return body
     LET=re.compile(r"^(\s*)let\s+("+IDCH+r"+)\s*(?::\s*(.*?))?\s*=\s*(.*?)\s+in\s*(.*)$",re.S)
     used_helpers={}
@@ -480,7 +475,6 @@ def convert(crate, fdir, text, js, key, log):
     res={}
     if inv: res['Invariants.antt']='\n'.join(headcom+us+['use %s.Given as goal'%full,''])+'\n'+'\n\n'.join(inv)+'\n'
     if ans: res['Answers.antt']='\n'.join(([] if inv else headcom)+us+['use %s.Goals as goal'%full,''])+'\n'+'\n\n'.join(ans)+'\n'
-    if not res: res=None if False else {}
     return res
 
 def main():
