@@ -69,7 +69,7 @@ fn readme_first_hour_works() {
     let page = fs::read_to_string(root().join("README.md")).expect("README.md is there");
     let blocks = blocks(&page);
 
-    let first = block(&blocks, "sh", "cd crates/solve && rt run ");
+    let first = block(&blocks, "sh", "(cd crates/solve && rt run ");
     // The program that the page's line proves, builds and runs has been built before the tests.
     let solve = first.replacen("rt run ", "out/solve ", 1);
     let answers: Vec<_> = blocks.iter().filter(|(_, text)| text.starts_with("yes ")).map(|(_, text)| text).collect();
