@@ -10,6 +10,8 @@ use native.Mathlib.Numerals.{add-one}
 use native.Mathlib.Omega.{arith}
 use lib.Dec.{eqb}
 use lib.Count.{ones, ones_step, count_trailing_zeros}
+use Rattle.std.specs.Prelude.{map, sum, sum_by}
+use Rattle.std.proofs.lemmas.List.Sums.{sum-map, sum_by-cons}
 use lib.ListN.{length, get_or, take, drop, set, length-append, length-set, length-drop, take-append-drop}
 use lib.Seq.{take-suc-set, drop-set-lt, drop-drop, take_at, drop-append-add}
 use borrow.Author.Tests.{eqb-true, eqb-false}
@@ -208,6 +210,31 @@ module _ (bits : List ℕ) (lane k : ℕ) (e : k ≡ count (lane * lane_sets) (h
       ∙ sym (select_raised (lane * lane_sets) lane_sets (has bits)) ∙ ap (λ (x : ℕ). select x (has bits)) (sym next))
       (ap₂ drop (d ∙ ap (λ (x : ℕ). x + size (get_or bits lane 0)) (sym n)) f ∙ drop-append-add (select (lane * lane_sets) (has bits)) (drop k out₀) (size (get_or bits lane 0)) ∙ drop-drop (size (get_or bits lane 0)) k out₀
       ∙ ap (λ (x : ℕ). drop x out₀) (sym d))
+
+-- how many sets there are, word by word
+first_word : (word : ℕ) (bits : List ℕ) (t : ℕ) → t < lane_sets → member word t ≡ has (word ∷ bits) t
+first_word word bits t l =
+    let e : 0 * lane_sets + t ≡ t = omega arith in
+    sym (has_at (word ∷ bits) 0 t l) ∙ ap (has (word ∷ bits)) e
+
+other_words : (word : ℕ) (bits : List ℕ) (t : ℕ) → has bits t ≡ has (word ∷ bits) (lane_sets + t)
+other_words word bits t =
+    let lane : suc (t / lane_sets) ≡ (lane_sets + t) / lane_sets = omega arith in
+    let place : t % lane_sets ≡ (lane_sets + t) % lane_sets = omega arith in
+    ap₂ (λ (x y : ℕ). member (get_or (word ∷ bits) x 0) y) lane place
+
+ones_below : (bits : List ℕ) → ((i : ℕ) → get_or bits i 0 < 2 ^ lane_sets) → sum_by ones bits ≡ count (length bits * lane_sets) (has bits)
+unfolding count
+ones_below [] h = refl
+ones_below (word ∷ bits) h =
+    let next : length (word ∷ bits) * lane_sets ≡ lane_sets + length bits * lane_sets = omega arith in
+    sum_by-cons ones word bits
+    ∙ ap₂ ◌+◌ (ones_count lane_sets word (h 0) ∙ count_ext lane_sets (member word) (has (word ∷ bits)) (first_word word bits))
+    (ones_below bits (λ i. h (suc i)) ∙ count_ext (length bits * lane_sets) (has bits) (λ t. has (word ∷ bits) (lane_sets + t)) (λ t l. other_words word bits t))
+    ∙ sym (ap (λ (x : ℕ). count x (has (word ∷ bits))) next ∙ count_raised lane_sets (length bits * lane_sets) (has (word ∷ bits)))
+
+pub ones_sets : (bits : List ℕ) → ((i : ℕ) → get_or bits i 0 < 2 ^ lane_sets) → sum (map ones bits) ≡ length (sets bits)
+ones_sets bits h = sum-map ones bits ∙ ones_below bits h ∙ sym (sets_count bits)
 
 -- what is stored in front leaves the length
 pub front_length : (p : ℕ → Bool) (m k : ℕ) (out₀ out : List ℕ) → k ≡ count m p → k ≤ length out₀ → out ≡ select m p ++ drop k out₀ → length out ≡ length out₀

@@ -166,10 +166,8 @@ fn covered(word: u64) -> u64
     ensures { (t : ℕ) → t < lane_sets → member result t ≡ covered_by word t }
 {
     let mut all = 0;
-    let mut i: u32 = 0;
-    while i < LANE_STATES {
-        all = all | shifted(word, i);
-        i += 1;
+    for i in 0..LANE_STATES {
+        all |= shifted(word, i);
     }
     all
 }
@@ -217,11 +215,7 @@ pub fn copy(from: &[u64], out: &mut [u64])
     requires { length from.now ≡ length out.old }
     ensures { out.new ≡ from.now }
 {
-    let mut i: usize = 0;
-    while i < from.len() {
-        out[i] = from[i];
-        i += 1;
-    }
+    out.copy_from_slice(from);
 }
 
 // The maximal sets, as bits in `found`. The lanes are done from the lowest: those above a lane are then still the family's.
@@ -230,11 +224,9 @@ pub fn maximal_bits(bits: &[u64], n: u32, found: &mut [u64])
     ensures { (length found.new ≡ length found.old)
         × (sets found.new ≡ maximal n (is_in bits.now)) }
 {
-    copy(bits, found);
-    let mut lane = 0;
-    while lane < found.len() {
+    found.copy_from_slice(bits);
+    for lane in 0..found.len() {
         keep_tops(found, lane);
-        lane += 1;
     }
 }
 
@@ -243,13 +235,7 @@ pub fn size(bits: &[u64]) -> usize
     requires { length bits.now ≤ max_lanes }
     ensures { result ≡ length (sets bits.now) }
 {
-    let mut k = 0;
-    let mut lane = 0;
-    while lane < bits.len() {
-        k = k + u64::count_ones(bits[lane]) as usize;
-        lane += 1;
-    }
-    k
+    bits.iter().map(|word| word.count_ones() as usize).sum()
 }
 
 // Writes the sets, ascending, in front of `out`; how many.
@@ -258,23 +244,10 @@ pub fn write(bits: &[u64], out: &mut [u32]) -> usize
     ensures { (result ≡ length (sets bits.now)) × (out.new ≡ sets bits.now ++ drop result out.old) }
 {
     let mut k = 0;
-    let mut lane = 0;
-    while lane < bits.len() {
-        k = unpack(bits[lane], lane as u32 * LANE_SETS, k, out);
-        lane += 1;
+    for (lane, word) in bits.iter().enumerate() {
+        k = unpack(*word, lane as u32 * LANE_SETS, k, out);
     }
     k
-}
-
-// No set.
-fn clear(bits: &mut [u64])
-    ensures { bits.new ≡ replicate (length bits.old) 0 }
-{
-    let mut i = 0;
-    while i < bits.len() {
-        bits[i] = 0;
-        i += 1;
-    }
 }
 
 // The list's sets.
@@ -283,12 +256,9 @@ fn insert(list: &[u32], n: u32, bits: &mut [u64])
     ensures { (length bits.new ≡ length bits.old)
         × ((s : ℕ) → is_in bits.new s ≡ listed list.now s) }
 {
-    let mut i = 0;
-    while i < list.len() {
-        let m = list[i];
-        let lane = (m / LANE_SETS) as usize;
-        bits[lane] = bits[lane] | (1 << (m % LANE_SETS));
-        i += 1;
+    for mask in list {
+        let lane = (*mask / LANE_SETS) as usize;
+        bits[lane] |= 1 << (*mask % LANE_SETS);
     }
 }
 
@@ -297,10 +267,8 @@ fn lower(word: u64) -> u64
     ensures { (t : ℕ) → t < lane_sets → member result t ≡ low_has word t }
 {
     let mut all = word;
-    let mut i: u32 = 0;
-    while i < LANE_STATES {
-        all = all | shifted(all, i);
-        i += 1;
+    for i in 0..LANE_STATES {
+        all |= shifted(all, i);
     }
     all
 }
@@ -309,10 +277,8 @@ fn lower(word: u64) -> u64
 fn lower_all(bits: &mut [u64])
     ensures { ByLane (λ lane t. low_has (get_or bits.old lane 0) t) bits.old bits.new }
 {
-    let mut lane = 0;
-    while lane < bits.len() {
-        bits[lane] = lower(bits[lane]);
-        lane += 1;
+    for word in bits.iter_mut() {
+        *word = lower(*word);
     }
 }
 
@@ -321,9 +287,7 @@ fn spread(bits: &mut [u64])
     requires { length bits.old ≤ 2 ^ high_states }
     ensures { ByLane (up_has bits.old) bits.old bits.new }
 {
-    let mut lane = bits.len();
-    while 0 < lane {
-        lane -= 1;
+    for lane in (0..bits.len()).rev() {
         bits[lane] = larger(bits, lane, true);
     }
 }
@@ -342,7 +306,7 @@ pub fn below(list: &[u32], n: u32, bits: &mut [u64])
     requires { Holding n list.now bits.old }
     ensures { Bits n (holds list.now) bits.new }
 {
-    clear(bits);
+    bits.fill(0);
     insert(list, n, bits);
     close(bits);
 }

@@ -4,6 +4,3 @@ use Rattle.families.proofs.spread.Given as goal
 
 abbrev pub invariant-loop-lane : goal.invariant-loop-lane
 invariant-loop-lane l = Spreading l.initial.bits l.bits l.lane
-
-abbrev pub decreases-loop-lane : goal.decreases-loop-lane
-decreases-loop-lane l = l.lane
