@@ -42,7 +42,7 @@ fn card_words(card: &[u32]) -> [u64; 3]
 {
     let found = cards::check(card);
     match found {
-        Checked::Fine => {
+        Ok(()) => {
             let cells = cards::cells(card);
             let observations = cards::observations(card);
             answers::pair(cells, observations)
@@ -152,14 +152,14 @@ pub extern "C" fn kirdanzug_write(
 }
 
 // Reads the table into fields, and writes these.
-fn rewrite(table: &[u32], out: &mut [u32]) -> Written
+fn rewrite(table: &[u32], out: &mut [u32]) -> Result<usize, Refusal>
     ensures { leaves result out.new ≡ rewritten table.now out.old }
 {
     let got = fields::read(table);
     let answer = got.answer;
     match answer {
         Checked::Refused(number, place) => Written::Refused(number, place),
-        Checked::Fine => fields::write(got.fields, out),
+        Ok(()) => fields::write(got.fields, out),
     }
 }
 

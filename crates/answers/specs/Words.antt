@@ -1,26 +1,22 @@
 -- The three words that an exported function answers, for each case of the answer behind it.
 -- Assumes nothing.
-use Rattle.std.specs.Prelude.{List, [], ◌∷◌, ℕ}
-use Rattle.games.specs.declared.Checked.{Checked}
-use Rattle.games.specs.declared.Checked.TheVariants as checked
-use Rattle.games.specs.declared.Written.{Written}
-use Rattle.games.specs.declared.Written.TheVariants as written
-use Rattle.judge.specs.declared.Judged.{Judged}
-use Rattle.judge.specs.declared.Judged.TheVariants as judged
-use Rattle.cards.specs.declared.Move.{Move}
-use Rattle.cards.specs.declared.Move.TheVariants as moved
-use Rattle.runner.specs.declared.Ran.{Ran}
-use Rattle.runner.specs.declared.Ran.TheVariants as ran
-use Rattle.show.specs.declared.Shown.{Shown}
-use Rattle.show.specs.declared.Shown.TheVariants as shown
-use Rattle.solver.specs.declared.Answer.{Answer}
-use Rattle.solver.specs.declared.Answer.TheVariants as answer
-use Rattle.trimmer.specs.declared.Answer.{Answer as TrimAnswer}
-use Rattle.trimmer.specs.declared.Answer.TheVariants as trim
-use Rattle.kiss_writer.specs.declared.Answer.{Answer as WriteAnswer}
-use Rattle.kiss_writer.specs.declared.Answer.TheVariants as write
-use Rattle.kiss_reader.specs.declared.Answer.{Answer as ReadAnswer}
-use Rattle.kiss_reader.specs.declared.Answer.TheVariants as read
+use Rattle.std.specs.Prelude.{Bool, true, false, List, [], ◌∷◌, ℕ, Result, Ok, Err}
+use Rattle.games.specs.Answers.{Checked, Written, number_of}
+use Rattle.games.specs.declared.Refusal.{Refusal}
+use Rattle.judge.specs.Judge.{Judged}
+use Rattle.cards.specs.Run.{Move}
+use Rattle.cards.specs.declared.Entered.{Entered}
+use Rattle.runner.specs.Runs.{Ran}
+use Rattle.show.specs.Show.{Shown}
+use Rattle.show.specs.declared.Part.{Part}
+use Rattle.solver.specs.Solve.{Answer}
+use Rattle.solver.specs.declared.Verdict.{Verdict}
+use Rattle.solver.specs.declared.Verdict.TheVariants.{Yes, No}
+use Rattle.trimmer.specs.Trimmer.{Answer as TrimAnswer}
+use Rattle.trimmer.specs.declared.Trimmed.{Trimmed}
+use Rattle.kiss_writer.specs.Write.{Answer as WriteAnswer}
+use Rattle.kiss_reader.specs.Read.{Answer as ReadAnswer}
+use Rattle.kiss_reader.specs.declared.Read.{Read}
 
 -- done, with two values
 abbrev pub done : (x y : ℕ) → List ℕ
@@ -31,57 +27,85 @@ abbrev pub no : (round : ℕ) → List ℕ
 no k = 1 ∷ k ∷ 0 ∷ []
 
 -- a refusal, with its number and place
-abbrev pub refused : (number place : ℕ) → List ℕ
-refused number place = 2 ∷ number ∷ place ∷ []
+abbrev pub refusal_words : Refusal → List ℕ
+refusal_words e = 2 ∷ number_of e.reason ∷ e.place ∷ []
 
--- a table's check and the judge of cards: no value beside fine
+-- an answer: the words of its value, or of its refusal
+abbrev pub words_of : {A : Type 0} → (A → List ℕ) → Result A Refusal → List ℕ
+words_of told (Ok x) = told x
+words_of told (Err e) = refusal_words e
+
+-- ---- the words of a value
+
+-- no value beside fine
+abbrev pub unit_words : Unit {0} → List ℕ
+unit_words _ = done 0 0
+
+-- 1 where the set is good, else 0
+abbrev pub bool_words : Bool → List ℕ
+bool_words true = done 1 0
+bool_words false = done 0 0
+
+-- a number of words, bytes or observations
+abbrev pub length_words : ℕ → List ℕ
+length_words n = done n 0
+
+-- the settling count and the number of cells; the round number
+abbrev pub verdict_words : Verdict → List ℕ
+verdict_words (Yes settled cells) = done settled cells
+verdict_words (No round) = no round
+
+-- the cell entered and its action
+abbrev pub entered_words : Entered → List ℕ
+entered_words m = done m.cell.0 m.action.0
+
+-- where a part starts in the table, and its length
+abbrev pub part_words : Part → List ℕ
+part_words p = done p.offset p.length
+
+-- the words of the trimmed card, and its cells
+abbrev pub trimmed_words : Trimmed → List ℕ
+trimmed_words t = done t.words t.cells
+
+-- the words of the card that was read, and its cells
+abbrev pub read_card_words : Read → List ℕ
+read_card_words r = done r.words r.cells
+
+-- ---- the words of an entry's answer
+
+-- a table's check and the judge of cards
 abbrev pub check_words : Checked → List ℕ
-check_words checked.Fine = done 0 0
-check_words (checked.Refused number place) = refused number place
+check_words = words_of unit_words
 
--- solve: the settling count and the number of cells
 abbrev pub solve_words : Answer → List ℕ
-solve_words (answer.Yes settled cells) = done settled cells
-solve_words (answer.No k) = no k
-solve_words (answer.Refused number place) = refused number place
+solve_words = words_of verdict_words
 
--- judge: 1 where the set is good, else 0
 abbrev pub judge_words : Judged → List ℕ
-judge_words judged.Good = done 1 0
-judge_words judged.NotGood = done 0 0
-judge_words (judged.Refused number place) = refused number place
+judge_words = words_of bool_words
 
 -- join, meet, write and rewrite: the number of words in front of `out`
 abbrev pub written_words : Written → List ℕ
-written_words (written.Words length) = done length 0
-written_words (written.Refused number place) = refused number place
+written_words = words_of length_words
 
--- open and step: the cell entered and its action
+-- open and step
 abbrev pub move_words : Move → List ℕ
-move_words (moved.Entered cell action) = done cell.0 action.0
-move_words (moved.Refused number place) = refused number place
+move_words = words_of entered_words
 
 -- run: the number of observations taken, all of them
 abbrev pub ran_words : Ran → List ℕ
-ran_words (ran.Done taken) = done taken 0
-ran_words (ran.Refused number place taken) = refused number place
+ran_words (Ok taken) = length_words taken
+ran_words (Err s) = refusal_words s.refusal
 
--- show: where the part starts in the table, and its length
 abbrev pub show_words : Shown → List ℕ
-show_words (shown.Part offset length) = done offset length
-show_words (shown.Refused number place) = refused number place
+show_words = words_of part_words
 
--- trim: the words of the trimmed card, and its cells
 abbrev pub trim_words : TrimAnswer → List ℕ
-trim_words (trim.Trimmed words cells) = done words cells
-trim_words (trim.Refused number place) = refused number place
+trim_words = words_of trimmed_words
 
 -- write_kiss: the bytes of the text
 abbrev pub text_words : WriteAnswer → List ℕ
-text_words (write.Written bytes) = done bytes 0
-text_words (write.Refused number place) = refused number place
+text_words = words_of length_words
 
--- read_kiss: the words of the card, and its cells
+-- read_kiss
 abbrev pub read_words : ReadAnswer → List ℕ
-read_words (read.Read words cells) = done words cells
-read_words (read.Refused number place) = refused number place
+read_words = words_of read_card_words

@@ -42,7 +42,7 @@ pub fn check_words(a: Checked) -> [u64; 3]
     ensures { result ≡ check_words a }
 {
     match a {
-        Checked::Fine => pair(0, 0),
+        Ok(()) => pair(0, 0),
         Checked::Refused(number, place) => refused(number, place),
     }
 }
@@ -71,7 +71,7 @@ pub fn written_words(a: Written) -> [u64; 3]
     ensures { result ≡ written_words a }
 {
     match a {
-        Written::Words(length) => span(length, 0),
+        Ok(length) => span(length, 0),
         Written::Refused(number, place) => refused(number, place),
     }
 }

@@ -9,7 +9,7 @@ use Rattle.games.specs.Format.{within, max_actions, max_observations, max_sets, 
 use Rattle.games.specs.Automaton.{no_cell}
 use Rattle.games.specs.Fields.{low_field, number_field, action_field, word}
 use Rattle.games.specs.Words.{front_length, part_length, card_length, card_head}
-use Rattle.games.specs.declared.Checked.TheVariants.{Fine, Refused}
+use Rattle.games.specs.Answers.{refused}
 use Rattle.games.proofs.Answers.{never, cond_passed, found_none}
 use Rattle.games.proofs.Limits.{within_low, within_high}
 use Rattle.cards.specs.Card.{head_place, first_place, cell_place, next_place, Spot, at_head, at_first, at_cell, at_next, spot_at}
@@ -18,6 +18,8 @@ use Rattle.cards.specs.Card.{head_fits, cell_named, cell_fits, fits_at, word_fit
 use Rattle.cards.proofs.Spots.{spot_head, spot_first, spot_cell, spot_next}
 use Rattle.cards.proofs.Passing.{pass_stop, pass_all, pass_on, row_stop, row_pass}
 use Rattle.cards.specs.Checking.{Shaped, FitsBelow, names, RightNames}
+use Rattle.games.specs.declared.Reason.TheVariants as reason
+use Rattle.std.specs.Prelude.{Ok, Err}
 
 -- the word at a place, by what stands there
 at_spot : (w : List ℕ) (p : ℕ) (x : Spot) → spot_at (card_observations w) p ≡ x → word_fits w p ≡ fits_at w x (get_or w p 0)
@@ -95,13 +97,13 @@ head_told x low number action y p q r e h g f i j k = rw (i, j, k, f, e, h, g)
 -- ---- the check goes through the words in order
 
 module _ (w : List ℕ) where
-  pub stopped : (p : ℕ) → FitsBelow w p → p < length w → word_fits w p ≡ false → words_checked w ≡ Refused 13 p
+  pub stopped : (p : ℕ) → FitsBelow w p → p < length w → word_fits w p ≡ false → words_checked w ≡ refused reason.NoCard p
   unfolding words_checked
-  stopped p h l e = ap (λ (f : Found). at_found f (Refused 13) Fine) (pass_stop (word_fits w) (length w) p h l e)
+  stopped p h l e = ap (λ (f : Found). at_found f (refused reason.NoCard) (Ok tt)) (pass_stop (word_fits w) (length w) p h l e)
 
-  pub fits_all : FitsBelow w (length w) → words_checked w ≡ Fine
+  pub fits_all : FitsBelow w (length w) → words_checked w ≡ Ok tt
   unfolding words_checked
-  fits_all h = ap (λ (f : Found). at_found f (Refused 13) Fine) (pass_all (word_fits w) (length w) h)
+  fits_all h = ap (λ (f : Found). at_found f (refused reason.NoCard) (Ok tt)) (pass_all (word_fits w) (length w) h)
 
   -- a head that fits
   pub fits_head : Shaped w → FitsBelow w 1
@@ -113,22 +115,22 @@ module _ (w : List ℕ) where
 
   -- n first or next words, from a place on: the first wrong one stops the check
   names_stop : (k at n r : ℕ) → ((j : ℕ) → j < n → word_fits w (at + j) ≡ names w k at j) → at + n ≤ length w → FitsBelow w at
-      → RightNames w k at n r → r < n → words_checked w ≡ Refused 13 (at + r)
+      → RightNames w k at n r → r < n → words_checked w ≡ refused reason.NoCard (at + r)
   unfolding words_checked
   names_stop k at n r same enough below ended l =
-      ap (λ (f : Found). at_found f (Refused 13) Fine) (row_stop (word_fits w) (length w) (names w k at) at n r same enough below ended l)
+      ap (λ (f : Found). at_found f (refused reason.NoCard) (Ok tt)) (row_stop (word_fits w) (length w) (names w k at) at n r same enough below ended l)
 
 -- the head, the length, and then the words
-pub no_word : (w : List ℕ) → length w ≡ 0 → checked w ≡ Refused 13 0
+pub no_word : (w : List ℕ) → length w ≡ 0 → checked w ≡ refused reason.NoCard 0
 unfolding checked
 no_word w e = rw (checked, eq-eqb (length w) 0 e)
 
-pub wrong_head : (w : List ℕ) → (length w ≡ 0 → ⊥) → head_fits (get_or w 0 0) ≡ false → checked w ≡ Refused 13 0
+pub wrong_head : (w : List ℕ) → (length w ≡ 0 → ⊥) → head_fits (get_or w 0 0) ≡ false → checked w ≡ refused reason.NoCard 0
 unfolding checked
 wrong_head w n h = rw (checked, ne_eqb (length w) 0 n, h)
 
 pub wrong_length : (w : List ℕ) → (length w ≡ 0 → ⊥) → head_fits (get_or w 0 0) ≡ true
-    → (length w ≡ card_length (card_cells w) (card_observations w) → ⊥) → checked w ≡ Refused 13 (length w)
+    → (length w ≡ card_length (card_cells w) (card_observations w) → ⊥) → checked w ≡ refused reason.NoCard (length w)
 unfolding checked
 wrong_length w n h m = rw (checked, ne_eqb (length w) 0 n, h, ne_eqb (length w) (card_length (card_cells w) (card_observations w)) m)
 
@@ -143,19 +145,19 @@ pub record Sound (w : List ℕ) : Type 0 where
   pub long : length w ≡ card_length (card_cells w) (card_observations w)
   pub words : (p : ℕ) → p < length w → word_fits w p ≡ true
 
-words_fine : (w : List ℕ) → words_checked w ≡ Fine → (p : ℕ) → p < length w → word_fits w p ≡ true
+words_fine : (w : List ℕ) → words_checked w ≡ Ok tt → (p : ℕ) → p < length w → word_fits w p ≡ true
 unfolding words_checked
 words_fine w e p l =
     let wrong : ℕ → Bool = λ q. not (word_fits w q) in
-    not-false (word_fits w p) (first_nothing (length w) wrong (found_none (first (length w) wrong) (Refused 13) (λ i r. never 13 i r) e) p l)
+    not-false (word_fits w p) (first_nothing (length w) wrong (found_none (first (length w) wrong) (refused reason.NoCard) (λ i r. never reason.NoCard i r) e) p l)
 
-pub sound : (w : List ℕ) → checked w ≡ Fine → Sound w
+pub sound : (w : List ℕ) → checked w ≡ Ok tt → Sound w
 unfolding checked
 sound w e =
     let asked = card_length (card_cells w) (card_observations w) in
-    let one = cond_passed (eqb (length w) 0) 13 0 _ e in
-    let two = cond_passed (not (head_fits (get_or w head_place 0))) 13 head_place _ one.1 in
-    let three = cond_passed (not (eqb (length w) asked)) 13 (length w) _ two.1 in
+    let one = cond_passed (eqb (length w) 0) reason.NoCard 0 _ e in
+    let two = cond_passed (not (head_fits (get_or w head_place 0))) reason.NoCard head_place _ one.1 in
+    let three = cond_passed (not (eqb (length w) asked)) reason.NoCard (length w) _ two.1 in
     record {
       head = not-false (head_fits (get_or w head_place 0)) two.0;
       long = eqb-true (length w) asked (not-false (eqb (length w) asked) three.0);
@@ -217,7 +219,7 @@ module _ (w : List ℕ) (s : Shaped w) where
   firsts_in = omega (arith, s.long)
 
   module _ (r : ℕ) (found : RightNames w kind_first 1 seen r) where
-    pub firsts_stop : r < seen → words_checked w ≡ Refused 13 (1 + r)
+    pub firsts_stop : r < seen → words_checked w ≡ refused reason.NoCard (1 + r)
     firsts_stop = names_stop w kind_first 1 seen r (word_begins w) firsts_in (fits_head w s) found
 
     pub firsts_fit : seen ≤ r → FitsBelow w (front_length seen)
@@ -238,7 +240,7 @@ module _ (w : List ℕ) (s : Shaped w) where
       here : FitsBelow w p
       here = subst (FitsBelow w) (sym g) below
 
-      pub own_stop : cell_fits (card_actions w) (get_or w p 0) ≡ false → words_checked w ≡ Refused 13 p
+      pub own_stop : cell_fits (card_actions w) (get_or w p 0) ≡ false → words_checked w ≡ refused reason.NoCard p
       own_stop e = stopped w p here (omega (arith, part_in)) (own_fits ∙ e)
 
       module _ (own : cell_fits (card_actions w) (get_or w p 0) ≡ true) (r : ℕ) (found : RightNames w kind_next (p + 1) seen r) where
@@ -247,7 +249,7 @@ module _ (w : List ℕ) (s : Shaped w) where
             pass_on (word_fits w) (length w) p 1 here (omega (arith, part_in))
             (λ i k. let e : p ≡ p + i = omega arith in subst (λ (q : ℕ). word_fits w q ≡ true) e (own_fits ∙ own))
 
-        pub nexts_stop : r < seen → words_checked w ≡ Refused 13 (p + 1 + r)
+        pub nexts_stop : r < seen → words_checked w ≡ refused reason.NoCard (p + 1 + r)
         nexts_stop = names_stop w kind_next (p + 1) seen r next_fits (omega (arith, part_in)) behind_own found
 
         pub nexts_fit : seen ≤ r → FitsBelow w (cell_place seen (c + 1))
@@ -285,7 +287,7 @@ cell_action a x e =
     ltb-true (action_field x) a (and_right (eqb x (word kind_cell (low_field x) 0 (action_field x)) && ltb (low_field x) max_sets) (ltb (action_field x) a) e)
 
 -- what a card means can be held by a card
-module _ (w : List ℕ) (e : checked w ≡ Fine) where
+module _ (w : List ℕ) (e : checked w ≡ Ok tt) where
   abbrev m : ℕ
   m = card_cells w
 

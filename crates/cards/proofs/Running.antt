@@ -4,11 +4,14 @@ use Rattle.std.proofs.Common.{◌≡◌, ℕ, ◌+◌, ◌<◌, ◌≤◌, List,
 use borrow.Author.Tests.{lt-leb}
 use Rattle.games.specs.Automaton.{Automaton, no_cell}
 use Rattle.games.specs.Fields.{low_field, action_field}
-use Rattle.games.specs.declared.Checked.TheVariants.{Fine, Refused as Wrong}
+use Rattle.games.specs.Answers.{refused}
 use Rattle.cards.specs.declared.Move.TheVariants.{Refused}
 use Rattle.cards.specs.Card.{first_place, cell_place, next_place, card_cells, card_observations, automaton, checked, Named}
 use Rattle.cards.specs.Run.{entered, enters, begun, followed, opened, stepped}
 use Rattle.cards.proofs.Checked.{fitting, cell_in, next_in}
+use Rattle.games.specs.declared.Reason.{Reason}
+use Rattle.games.specs.declared.Reason.TheVariants as reason
+use Rattle.std.specs.Prelude.{Ok, Err}
 
 -- the fields of a card's automaton
 module _ (w : List ℕ) where
@@ -38,7 +41,7 @@ named_cell A c h n = ⊎_elim (λ l. l) (λ e. absurd (n e)) h
 
 -- a move, by its case
 module _ (A : Automaton) (o : ℕ) where
-  pub cannot_occur : (c j : ℕ) → c ≡ no_cell → enters A c j ≡ Refused 14 j
+  pub cannot_occur : (c j : ℕ) → c ≡ no_cell → enters A c j ≡ refused reason.CannotOccur j
   unfolding enters
   cannot_occur c j e = rw (enters, eq-eqb c no_cell e)
 
@@ -46,7 +49,7 @@ module _ (A : Automaton) (o : ℕ) where
   unfolding enters
   enters_cell c j n = rw (enters, ne_eqb c no_cell n)
 
-  pub begun_late : (j : ℕ) → o ≤ j → begun A o j ≡ Refused 12 j
+  pub begun_late : (j : ℕ) → o ≤ j → begun A o j ≡ refused reason.NumberBeyond j
   unfolding begun
   begun_late j l = rw (begun, le-leb o j l)
 
@@ -54,11 +57,11 @@ module _ (A : Automaton) (o : ℕ) where
   unfolding begun
   begun_enters j l = rw (begun, lt-leb o j l)
 
-  pub followed_outside : (c j : ℕ) → A.size ≤ c → followed A o c j ≡ Refused 12 c
+  pub followed_outside : (c j : ℕ) → A.size ≤ c → followed A o c j ≡ refused reason.NumberBeyond c
   unfolding followed
   followed_outside c j l = rw (followed, le-leb A.size c l)
 
-  pub followed_late : (c j : ℕ) → c < A.size → o ≤ j → followed A o c j ≡ Refused 12 j
+  pub followed_late : (c j : ℕ) → c < A.size → o ≤ j → followed A o c j ≡ refused reason.NumberBeyond j
   unfolding followed
   followed_late c j k l = rw (followed, lt-leb A.size c k, le-leb o j l)
 
@@ -67,24 +70,24 @@ module _ (A : Automaton) (o : ℕ) where
   followed_enters c j k l = rw (followed, lt-leb A.size c k, lt-leb o j l)
 
 -- opening and stepping on a checked card, by its automaton; and on words that are none
-pub opened_fine : (w : List ℕ) (j : ℕ) → checked w ≡ Fine → opened w j ≡ begun (automaton w) (card_observations w) j
+pub opened_fine : (w : List ℕ) (j : ℕ) → checked w ≡ Ok tt → opened w j ≡ begun (automaton w) (card_observations w) j
 unfolding opened
 opened_fine w j e = rw (opened, e)
 
-pub stepped_fine : (w : List ℕ) (c j : ℕ) → checked w ≡ Fine → stepped w c j ≡ followed (automaton w) (card_observations w) c j
+pub stepped_fine : (w : List ℕ) (c j : ℕ) → checked w ≡ Ok tt → stepped w c j ≡ followed (automaton w) (card_observations w) c j
 unfolding stepped
 stepped_fine w c j e = rw (stepped, e)
 
-pub opened_wrong : (w : List ℕ) (j n p : ℕ) → checked w ≡ Wrong n p → opened w j ≡ Refused n p
+pub opened_wrong : (w : List ℕ) (j : ℕ) (n : Reason) (p : ℕ) → checked w ≡ refused n p → opened w j ≡ refused n p
 unfolding opened
 opened_wrong w j n p e = rw (opened, e)
 
-pub stepped_wrong : (w : List ℕ) (c j n p : ℕ) → checked w ≡ Wrong n p → stepped w c j ≡ Refused n p
+pub stepped_wrong : (w : List ℕ) (c j : ℕ) (n : Reason) (p : ℕ) → checked w ≡ refused n p → stepped w c j ≡ refused n p
 unfolding stepped
 stepped_wrong w c j n p e = rw (stepped, e)
 
 -- what the functions over a checked card read; p is the place that the code has of a cell's own word
-module _ (w : List ℕ) (e : checked w ≡ Fine) where
+module _ (w : List ℕ) (e : checked w ≡ Ok tt) where
   pub own_in : (c p : ℕ) → c < card_cells w → p ≡ cell_place (card_observations w) c → p < length w
   own_in c p l g = subst (λ (i : ℕ). i < length w) (sym g) (cell_in w e c l)
 
@@ -109,11 +112,11 @@ module _ (w : List ℕ) where
   pub begun_told : (j x : ℕ) → j < card_observations w → x ≡ (automaton w).begins j → enters (automaton w) x j ≡ begun (automaton w) (card_observations w) j
   begun_told j x l f = ap (λ (c : ℕ). enters (automaton w) c j) f ∙ sym (begun_enters (automaton w) (card_observations w) j l)
 
-  pub outside_told : (c j : ℕ) → card_cells w ≤ c → Refused 12 c ≡ followed (automaton w) (card_observations w) c j
+  pub outside_told : (c j : ℕ) → card_cells w ≤ c → refused reason.NumberBeyond c ≡ followed (automaton w) (card_observations w) c j
   outside_told c j l = sym (followed_outside (automaton w) (card_observations w) c j (subst (λ (n : ℕ). n ≤ c) (sym (size_of w)) l))
 
   module _ (c j : ℕ) (l : c < card_cells w) where
-    pub late_told : card_observations w ≤ j → Refused 12 j ≡ followed (automaton w) (card_observations w) c j
+    pub late_told : card_observations w ≤ j → refused reason.NumberBeyond j ≡ followed (automaton w) (card_observations w) c j
     late_told k = sym (followed_late (automaton w) (card_observations w) c j (subst (λ (n : ℕ). c < n) (sym (size_of w)) l) k)
 
     pub followed_told : (x : ℕ) → j < card_observations w → x ≡ (automaton w).next c j

@@ -10,7 +10,6 @@ use Rattle.games.specs.Automaton.{Automaton, no_cell, next_cell, cell_from, cell
 use Rattle.games.specs.Demands.{UnderCard, Second}
 use Rattle.games.proofs.Winning.{next_cell_lem, Covers, covering_wins}
 use Rattle.games.specs.declared.Action.{Action}
-use Rattle.games.specs.declared.Checked.TheVariants.{Fine}
 use Rattle.cards.specs.declared.Move.{Move}
 use Rattle.cards.specs.declared.Move.TheVariants.{Refused}
 use Rattle.cards.specs.Card.{card_observations, automaton, checked, Fitting, Named}
@@ -18,6 +17,10 @@ use Rattle.cards.specs.Kept.{Kept}
 use Rattle.cards.specs.Run.{as_cell, entered, enters, opened, stepped, cell_or, moved, ran_from, ran}
 use Rattle.cards.proofs.Checked.{fitting}
 use Rattle.cards.proofs.Running.{named_cell, cannot_occur, enters_cell, begun_late, begun_enters, followed_outside, followed_late, followed_enters, opened_fine, stepped_fine}
+use Rattle.games.specs.declared.Reason.{Reason}
+use Rattle.games.specs.declared.Reason.TheVariants as reason
+use Rattle.games.specs.Answers.{refused}
+use Rattle.std.specs.Prelude.{Ok}
 
 -- ---- one observation more
 
@@ -25,7 +28,7 @@ pub moved_entered : (w : List ℕ) (c a j : ℕ) → moved w (entered c a) j ≡
 unfolding moved
 moved_entered w c a j = refl
 
-pub moved_refused : (w : List ℕ) (n p j : ℕ) → moved w (Refused n p) j ≡ Refused n p
+pub moved_refused : (w : List ℕ) (n : Reason) (p j : ℕ) → moved w (refused n p) j ≡ refused n p
 unfolding moved
 moved_refused w n p j = refl
 
@@ -96,7 +99,7 @@ way_cell {A} F (more {h} {j} v l n) =
 
 -- ---- a checked card does what its automaton does
 
-pub ran_way : (w : List ℕ) {h : List ℕ} → checked w ≡ Fine → Way (automaton w) (card_observations w) h
+pub ran_way : (w : List ℕ) {h : List ℕ} → checked w ≡ Ok tt → Way (automaton w) (card_observations w) h
     → ran w h ≡ entered (cell_after (automaton w) h) (action_after (automaton w) h)
 ran_way w e (one {j} l n) =
     let A = automaton w in
@@ -120,7 +123,7 @@ ran_way w e (more {h} {j} v l n) =
 -- ---- on a play
 
 -- document 01: played on any play of its table under the actions it gives, a card that meets the second demand never meets 12, 13 or 14
-module _ (g : Game) (w : List ℕ) (right : checked w ≡ Fine) (observations : card_observations w ≡ g.observations) (S : Second g (automaton w)) where
+module _ (g : Game) (w : List ℕ) (right : checked w ≡ Ok tt) (observations : card_observations w ≡ g.observations) (S : Second g (automaton w)) where
   here : (p : Play) → PlayOf g p → UnderCard (automaton w) p → cell_after (automaton w) (seen p) ≡ no_cell → ⊥
   here p m u e = omega (arith, (S.keeps p m u).cell_below, (fitting w right).cells)
 
@@ -138,19 +141,19 @@ module _ (g : Game) (w : List ℕ) (right : checked w ≡ Fine) (observations : 
 
 -- ---- before the opening: from cell 65,535 every step is refused, by 13, else by 12
 
-pub no_cell_refused : (w : List ℕ) (j : ℕ) → checked w ≡ Fine → stepped w no_cell j ≡ Refused 12 no_cell
+pub no_cell_refused : (w : List ℕ) (j : ℕ) → checked w ≡ Ok tt → stepped w no_cell j ≡ refused reason.NumberBeyond no_cell
 no_cell_refused w j e =
     let l : (automaton w).size ≤ no_cell = omega (arith, (fitting w e).cells) in
     stepped_fine w no_cell j e ∙ followed_outside (automaton w) (card_observations w) no_cell j l
 
-pub ran_none : (w : List ℕ) → checked w ≡ Fine → ran w [] ≡ Refused 12 no_cell
+pub ran_none : (w : List ℕ) → checked w ≡ Ok tt → ran w [] ≡ refused reason.NumberBeyond no_cell
 unfolding ran
 ran_none w e = no_cell_refused w 0 e
 
 -- ---- a run that ends in a cell ends in the automaton's
 
 -- a refusal enters no cell
-pub not_entered : {X : Type 0} (n p c a : ℕ) → Refused n p ≡ entered c a → X
+pub not_entered : {X : Type 0} (n : Reason) (p c a : ℕ) → refused n p ≡ entered c a → X
 not_entered n p c a e = let z : ◌≡◌ {A = ℕ} 0 1 = cc in absurd (omega arith)
 
 -- the same move, the same cell and action
@@ -159,20 +162,20 @@ same_entered c a d b e =
     let action : ◌≡◌ {A = Action} (record { 0 = a }) (record { 0 = b }) = cc in
     (ap (λ (m : Move). (cell_or m (as_cell 0)).0) e, ap (λ (x : Action). x.0) action)
 
-module _ (w : List ℕ) (e : checked w ≡ Fine) (c a : ℕ) where
+module _ (w : List ℕ) (e : checked w ≡ Ok tt) (c a : ℕ) where
   abbrev A : Automaton
   A = automaton w
 
   abbrev o : ℕ
   o = card_observations w
 
-  refused_stays : (h : List ℕ) (n p : ℕ) → ran_from w (Refused n p) h ≡ Refused n p
+  refused_stays : (h : List ℕ) (n : Reason) (p : ℕ) → ran_from w (refused n p) h ≡ refused n p
   unfolding ran_from moved
   refused_stays [] n p = refl
   refused_stays (j ∷ h) n p = refused_stays h n p
 
   -- so a run from a refusal ends in no cell
-  no_way : {X : Type 0} (h : List ℕ) (r : Move) (n p : ℕ) → r ≡ Refused n p → ran_from w r h ≡ entered c a → X
+  no_way : {X : Type 0} (h : List ℕ) (r : Move) (n : Reason) (p : ℕ) → r ≡ refused n p → ran_from w r h ≡ entered c a → X
   no_way h r n p f run = not_entered n p c a (sym (ap (λ (m : Move). ran_from w m h) f ∙ refused_stays h n p) ∙ run)
 
   -- from what a word names
@@ -209,7 +212,7 @@ module _ (w : List ℕ) (e : checked w ≡ Fine) (c a : ℕ) where
 -- ---- whoever drew it
 
 -- a card whose cells cover the plays keeps every play clear and is never refused on one, whoever drew it
-pub covering_kept : (g : Game) → Accepted g → (w : List ℕ) → checked w ≡ Fine → card_observations w ≡ g.observations → Covers g (automaton w) → Kept g w
+pub covering_kept : (g : Game) → Accepted g → (w : List ℕ) → checked w ≡ Ok tt → card_observations w ≡ g.observations → Covers g (automaton w) → Kept g w
 covering_kept g A w right observations C =
     let S = covering_wins g A (automaton w) C in
     record { right = right; second = S; runs = never_refused g w right observations S }

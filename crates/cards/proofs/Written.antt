@@ -9,13 +9,13 @@ use Rattle.games.specs.Automaton.{Automaton, no_cell}
 use Rattle.games.specs.Fields.{low_field, number_field, action_field, word}
 use Rattle.games.specs.Words.{front_length, part_length, card_length, cell_words, card_words, card_head}
 use Rattle.games.proofs.Limits.{within_limit}
-use Rattle.games.specs.declared.Checked.TheVariants.{Fine}
 use Rattle.cards.specs.Card.{head_place, first_place, cell_place, next_place, card_cells, card_observations, card_actions, automaton, head_fits, cell_named, cell_fits, word_fits, checked, Named, Fitting}
 use Rattle.sets.proofs.Fills.{gather_length, gather_at, gather_ext, length_values, get_d_values}
 use Rattle.cards.proofs.Spots.{every_place}
 use Rattle.cards.proofs.Checked.{word_head, word_begins, word_cell, word_next, only_words, fits_all, shaped}
 use Rattle.cards.proofs.Checked.{head_word_lem as head_told, first_word as first_told, own_word as own-told, next_word_lem as next_told}
 use Rattle.cards.proofs.Running.{size_of, set_of_lem, action_of_lem, begins_of, next_of}
+use Rattle.std.specs.Prelude.{Ok}
 
 -- the fields of a word
 pub low_of : (k x n y : ℕ) → x < low_values → n < number_values → y < action_values → low_field (word k x n y) ≡ x
@@ -191,7 +191,7 @@ module _ (A : Automaton) (a o : ℕ) (F : Fitting A a o) where
       every_place A.size o (λ q. word_fits (card_words A a o) q ≡ true) (word_head (card_words A a o) 0 refl ∙ head_word_lem) first_word cell_word next_word_lem p
       (omega (arith, card_long A a o))
 
-  pub written_checked : checked (card_words A a o) ≡ Fine
+  pub written_checked : checked (card_words A a o) ≡ Ok tt
   written_checked =
       let w = card_words A a o in
       only_words w (λ e. omega (arith, card_long A a o)) head_word_lem written_long
@@ -214,7 +214,7 @@ module _ (A : Automaton) (a o : ℕ) (F : Fitting A a o) where
       }
 
 -- a card is the words of what it means
-pub words_back : (w : List ℕ) → checked w ≡ Fine → card_words (automaton w) (card_actions w) (card_observations w) ≡ w
+pub words_back : (w : List ℕ) → checked w ≡ Ok tt → card_words (automaton w) (card_actions w) (card_observations w) ≡ w
 words_back w e =
     let A = automaton w in
     let a = card_actions w in

@@ -6,8 +6,10 @@ use Rattle.games.specs.Automaton.{Automaton, no_cell}
 use Rattle.games.specs.Format.{within, max_actions, max_observations, max_sets, max_cells, kind_first, kind_cell, kind_next}
 use Rattle.games.specs.Fields.{low_field, number_field, action_field, word}
 use Rattle.games.specs.Words.{front_length, part_length, card_length, card_head}
-use Rattle.games.specs.declared.Checked.{Checked}
-use Rattle.games.specs.declared.Checked.TheVariants.{Fine, Refused}
+use Rattle.games.specs.Answers.{Checked}
+use Rattle.games.specs.Answers.{refused}
+use Rattle.games.specs.declared.Reason.TheVariants as reason
+use Rattle.std.specs.Prelude.{Ok, Err}
 
 -- the places of a card's words, for o observations: the head; the first cell by observation; a cell's part; its next cell by observation
 abbrev pub head_place : ℕ
@@ -90,14 +92,14 @@ word_fits w p = fits_at w (spot_at (card_observations w) p) (slice_index w p)
 
 -- the lowest wrong word stops the check
 unfoldable pub words_checked : List ℕ → Checked
-words_checked w = at_found (first (length w) (λ p. not (word_fits w p))) (Refused 13) Fine
+words_checked w = at_found (first (length w) (λ p. not (word_fits w p))) (refused reason.NoCard) (Ok tt)
 
 -- refusal 13: no word, or a wrong head, at place 0; the length; the lowest wrong word
 unfoldable pub checked : List ℕ → Checked
 checked w =
-    cond (length w == 0) (Refused 13 0)
-    (cond (not (head_fits (slice_index w head_place))) (Refused 13 head_place)
-    (cond (not (length w == card_length (card_cells w) (card_observations w))) (Refused 13 (length w))
+    cond (length w == 0) (refused reason.NoCard 0)
+    (cond (not (head_fits (slice_index w head_place))) (refused reason.NoCard head_place)
+    (cond (not (length w == card_length (card_cells w) (card_observations w))) (refused reason.NoCard (length w))
     (words_checked w)))
 
 -- a first or next cell: one of the automaton's, or none

@@ -5,10 +5,13 @@ use Rattle.games.specs.Answers.{unless}
 use Rattle.games.specs.Automaton.{Automaton, no_cell}
 use Rattle.games.specs.declared.Cell.{Cell}
 use Rattle.games.specs.declared.Observation.{Observation}
-use Rattle.cards.specs.declared.Move.{Move}
-use Rattle.cards.specs.declared.Move.TheVariants.{Entered, Refused}
+use Rattle.games.specs.declared.Refusal.{Refusal}
+use Rattle.cards.specs.declared.Entered.{Entered}
 use Rattle.cards.specs.declared.Stood.{Stood}
 use Rattle.cards.specs.Card.{automaton, card_observations, checked}
+use Rattle.games.specs.declared.Reason.TheVariants as reason
+use Rattle.games.specs.Answers.{refused}
+use Rattle.std.specs.Prelude.{Result, Ok, Err}
 
 -- a number as one of its column
 abbrev pub as_cell : ℕ → Cell
@@ -17,29 +20,33 @@ as_cell c = record { 0 = c }
 abbrev pub as_observation : ℕ → Observation
 as_observation j = record { 0 = j }
 
+-- what an observation leads to: a cell entered and its action, or a refusal
+abbrev pub Move : Type 0
+Move = Result Entered Refusal
+
 -- the cell entered and its action
 abbrev pub entered : (c a : ℕ) → Move
-entered c a = Entered (as_cell c) (record { 0 = a })
+entered c a = Ok (record { cell = as_cell c; action = record { 0 = a } })
 
 -- what the observation j leads to: the cell c and its action, or 14 where the automaton says that j cannot occur
 unfoldable pub enters : Automaton → (c j : ℕ) → Move
-enters A c j = cond (c == no_cell) (Refused 14 j) (entered c (A.action c))
+enters A c j = cond (c == no_cell) (refused reason.CannotOccur j) (entered c (A.action c))
 
 -- what an automaton for o observations does on the first observation
 unfoldable pub begun : Automaton → (o j : ℕ) → Move
-begun A o j = cond (nat_le o j) (Refused 12 j) (enters A (A.begins j) j)
+begun A o j = cond (nat_le o j) (refused reason.NumberBeyond j) (enters A (A.begins j) j)
 
 -- what it does in cell c on a later one: the cell is looked at first
 unfoldable pub followed : Automaton → (o c j : ℕ) → Move
-followed A o c j = cond (nat_le A.size c) (Refused 12 c) (cond (nat_le o j) (Refused 12 j) (enters A (A.next c j) j))
+followed A o c j = cond (nat_le A.size c) (refused reason.NumberBeyond c) (cond (nat_le o j) (refused reason.NumberBeyond j) (enters A (A.next c j) j))
 
 -- opening a card with the first observation; the card's own refusal comes first
 unfoldable pub opened : List ℕ → ℕ → Move
-opened w j = unless (checked w) Refused (begun (automaton w) (card_observations w) j)
+opened w j = unless (checked w) Err (begun (automaton w) (card_observations w) j)
 
 -- a later observation in a cell
 unfoldable pub stepped : List ℕ → (c j : ℕ) → Move
-stepped w c j = unless (checked w) Refused (followed (automaton w) (card_observations w) c j)
+stepped w c j = unless (checked w) Err (followed (automaton w) (card_observations w) c j)
 
 -- ---- a runner
 
@@ -49,8 +56,8 @@ stands c m = record { cell = c; answer = m }
 
 -- the cell that a move leads to: the one entered, or the one given where it was refused
 abbrev pub cell_or : Move → Cell → Cell
-cell_or (Entered c a) d = c
-cell_or (Refused n p) d = d
+cell_or (Ok m) d = m.cell
+cell_or (Err e) d = d
 
 -- a runner after an answer
 abbrev pub stands_after : Move → Cell → Stood
@@ -68,8 +75,8 @@ advances w c j = stands_after (stepped w c.0 j.0) c
 
 -- one observation more: a step from the cell entered; a refusal stays
 unfoldable pub moved : List ℕ → Move → ℕ → Move
-moved w (Entered c a) j = stepped w c.0 j
-moved w (Refused n p) j = Refused n p
+moved w (Ok m) j = stepped w m.cell.0 j
+moved w (Err e) j = Err e
 
 unfoldable pub ran_from : List ℕ → Move → List ℕ → Move
 ran_from w r [] = r

@@ -10,14 +10,17 @@ ghost use Rattle.cards.specs.Checking.{Shaped, Pass, FitsBelow, names, RightName
 ghost use Rattle.cards.specs.Card.{automaton, card_cells, card_observations, card_actions, cell_place, Named};
 ghost use Rattle.cards.specs.Run.{enters, begun, followed, opened, stepped, stands_after, starts, advances};
 
-use games::{Action, Cell, Checked, Observation};
+use games::{Action, Cell, Observation, Reason, Refusal};
 
-// What an observation leads to: the cell entered and its action, or a refusal's number and place.
-#[derive(Clone, Copy)]
-pub enum Move {
-    Entered(Cell, Action),
-    Refused(u32, usize),
+// A cell that was entered, and its action.
+#[derive(Clone, Copy, PartialEq, Eq, Debug)]
+pub struct Entered {
+    pub cell: Cell,
+    pub action: Action,
 }
+
+// What an observation leads to.
+pub type Move = Result<Entered, Refusal>;
 
 // The cell that a runner is in, and its last answer.
 #[derive(Clone, Copy)]
@@ -143,7 +146,7 @@ fn right_nexts(card: &[u32], at: usize, count: u32) -> u32
 }
 
 // The cells' parts, each its own word and its next words: the lowest wrong word stops the check.
-fn check_parts(card: &[u32]) -> Checked
+fn check_parts(card: &[u32]) -> Result<(), Refusal>
     requires { Shaped card.now × FitsBelow card.now (front_length (card_observations card.now)) }
     ensures { result ≡ words_checked card.now }
 {
@@ -154,44 +157,44 @@ fn check_parts(card: &[u32]) -> Checked
     while c < m {
         let at = cell_place(o, Cell(c));
         if !cell_fits(a, card[at]) {
-            return Checked::Refused(13, at);
+            return Err(Reason::NoCard.at(at));
         }
         let named = right_nexts(card, at + 1, o);
         if named < o {
-            return Checked::Refused(13, at + 1 + named as usize);
+            return Err(Reason::NoCard.at(at + 1 + named as usize));
         }
         c += 1;
     }
-    Checked::Fine
+    Ok(())
 }
 
 // The words behind the head: the first words, then the cells' parts.
-fn check_words(card: &[u32]) -> Checked
+fn check_words(card: &[u32]) -> Result<(), Refusal>
     requires { Shaped card.now }
     ensures { result ≡ words_checked card.now }
 {
     let o = games::number_field(card[0]);
     let named = right_from(card, games::KIND_FIRST, 1, o, 0);
     if named < o {
-        return Checked::Refused(13, 1 + named as usize);
+        return Err(Reason::NoCard.at(1 + named as usize));
     }
     check_parts(card)
 }
 
 // Refusal 13: the head, the length, the words in order.
-pub fn check(card: &[u32]) -> Checked
+pub fn check(card: &[u32]) -> Result<(), Refusal>
     ensures { result ≡ checked card.now }
 {
     if card.len() == 0 {
-        return Checked::Refused(13, 0);
+        return Err(Reason::NoCard.at(0));
     }
     let head = card[0];
     if !head_fits(head) {
-        return Checked::Refused(13, 0);
+        return Err(Reason::NoCard.at(0));
     }
     let words = games::card_length(games::low_field(head), games::number_field(head));
     if card.len() != words {
-        return Checked::Refused(13, card.len());
+        return Err(Reason::NoCard.at(card.len()));
     }
     check_words(card)
 }
@@ -206,21 +209,21 @@ pub fn cell_place(o: u32, cell: Cell) -> usize
 
 // What the words of a checked card say: the numbers of its head,
 pub fn cells(card: &[u32]) -> u32
-    requires { checked card.now ≡ Checked.Fine }
+    requires { checked card.now ≡ Ok tt }
     ensures { result ≡ card_cells card.now }
 {
     games::low_field(card[0])
 }
 
 pub fn observations(card: &[u32]) -> u32
-    requires { checked card.now ≡ Checked.Fine }
+    requires { checked card.now ≡ Ok tt }
     ensures { result ≡ card_observations card.now }
 {
     games::number_field(card[0])
 }
 
 pub fn actions(card: &[u32]) -> u32
-    requires { checked card.now ≡ Checked.Fine }
+    requires { checked card.now ≡ Ok tt }
     ensures { result ≡ card_actions card.now }
 {
     games::action_field(card[0])
@@ -228,7 +231,7 @@ pub fn actions(card: &[u32]) -> u32
 
 // the cell that a first observation leads to,
 pub fn first_cell(card: &[u32], seen: Observation) -> Cell
-    requires { (checked card.now ≡ Checked.Fine) × (seen.0 < card_observations card.now) }
+    requires { (checked card.now ≡ Ok tt) × (seen.0 < card_observations card.now) }
     ensures { result.0 ≡ (automaton card.now).begins seen.0 }
 {
     let place = 1 + seen.0 as usize;
@@ -237,14 +240,14 @@ pub fn first_cell(card: &[u32], seen: Observation) -> Cell
 
 // where a cell's own word stands, and the word, with its set and its action,
 fn own_place(card: &[u32], cell: Cell) -> usize
-    requires { (checked card.now ≡ Checked.Fine) × (cell.0 < card_cells card.now) }
+    requires { (checked card.now ≡ Ok tt) × (cell.0 < card_cells card.now) }
     ensures { result ≡ cell_place (card_observations card.now) cell.0 }
 {
     cell_place(observations(card), cell)
 }
 
 fn own_word(card: &[u32], cell: Cell) -> u32
-    requires { (checked card.now ≡ Checked.Fine) × (cell.0 < card_cells card.now) }
+    requires { (checked card.now ≡ Ok tt) × (cell.0 < card_cells card.now) }
     ensures { result ≡ slice_index card.now (cell_place (card_observations card.now) cell.0) }
 {
     let place = own_place(card, cell);
@@ -252,14 +255,14 @@ fn own_word(card: &[u32], cell: Cell) -> u32
 }
 
 pub fn cell_set(card: &[u32], cell: Cell) -> u32
-    requires { (checked card.now ≡ Checked.Fine) × (cell.0 < card_cells card.now) }
+    requires { (checked card.now ≡ Ok tt) × (cell.0 < card_cells card.now) }
     ensures { result ≡ (automaton card.now).set cell.0 }
 {
     games::low_field(own_word(card, cell))
 }
 
 pub fn cell_action(card: &[u32], cell: Cell) -> Action
-    requires { (checked card.now ≡ Checked.Fine) × (cell.0 < card_cells card.now) }
+    requires { (checked card.now ≡ Ok tt) × (cell.0 < card_cells card.now) }
     ensures { result.0 ≡ (automaton card.now).action cell.0 }
 {
     Action(games::action_field(own_word(card, cell)))
@@ -267,7 +270,7 @@ pub fn cell_action(card: &[u32], cell: Cell) -> Action
 
 // and the cell that a later observation leads to.
 pub fn next_cell(card: &[u32], cell: Cell, seen: Observation) -> Cell
-    requires { (checked card.now ≡ Checked.Fine) × (cell.0 < card_cells card.now) × (seen.0 < card_observations card.now) }
+    requires { (checked card.now ≡ Ok tt) × (cell.0 < card_cells card.now) × (seen.0 < card_observations card.now) }
     ensures { result.0 ≡ (automaton card.now).next cell.0 seen.0 }
 {
     let place = own_place(card, cell) + 1 + seen.0 as usize;
@@ -276,36 +279,39 @@ pub fn next_cell(card: &[u32], cell: Cell, seen: Observation) -> Cell
 
 // The cell that the observation leads to, with its action, or 14.
 fn enter(card: &[u32], cell: Cell, seen: Observation) -> Move
-    requires { (checked card.now ≡ Checked.Fine) × Named (automaton card.now) cell.0 }
+    requires { (checked card.now ≡ Ok tt) × Named (automaton card.now) cell.0 }
     ensures { result ≡ enters (automaton card.now) cell.0 seen.0 }
 {
     if cell.0 == games::NO_CELL {
-        return Move::Refused(14, seen.0 as usize);
+        return Err(Reason::CannotOccur.at(seen.0 as usize));
     }
-    Move::Entered(cell, cell_action(card, cell))
+    Ok(Entered {
+        cell,
+        action: cell_action(card, cell),
+    })
 }
 
 // Opening a checked card. It is no entry: a run checks its card once and calls this.
 pub fn start(card: &[u32], seen: Observation) -> Move
-    requires { checked card.now ≡ Checked.Fine }
+    requires { checked card.now ≡ Ok tt }
     ensures { result ≡ begun (automaton card.now) (card_observations card.now) seen.0 }
 {
     if observations(card) <= seen.0 {
-        return Move::Refused(12, seen.0 as usize);
+        return Err(Reason::NumberBeyond.at(seen.0 as usize));
     }
     enter(card, first_cell(card, seen), seen)
 }
 
 // A step on a checked card. It is no entry, as `start`.
 pub fn follow(card: &[u32], cell: Cell, seen: Observation) -> Move
-    requires { checked card.now ≡ Checked.Fine }
+    requires { checked card.now ≡ Ok tt }
     ensures { result ≡ followed (automaton card.now) (card_observations card.now) cell.0 seen.0 }
 {
     if cells(card) <= cell.0 {
-        return Move::Refused(12, cell.0 as usize);
+        return Err(Reason::NumberBeyond.at(cell.0 as usize));
     }
     if observations(card) <= seen.0 {
-        return Move::Refused(12, seen.0 as usize);
+        return Err(Reason::NumberBeyond.at(seen.0 as usize));
     }
     enter(card, next_cell(card, cell, seen), seen)
 }
@@ -314,20 +320,16 @@ pub fn follow(card: &[u32], cell: Cell, seen: Observation) -> Move
 pub fn begin(card: &[u32], seen: Observation) -> Move
     ensures { result ≡ opened card.now seen.0 }
 {
-    match check(card) {
-        Checked::Fine => start(card, seen),
-        Checked::Refused(number, place) => Move::Refused(number, place),
-    }
+    check(card)?;
+    start(card, seen)
 }
 
 // A later observation in a cell.
 pub fn step(card: &[u32], cell: Cell, seen: Observation) -> Move
     ensures { result ≡ stepped card.now cell.0 seen.0 }
 {
-    match check(card) {
-        Checked::Fine => follow(card, cell, seen),
-        Checked::Refused(number, place) => Move::Refused(number, place),
-    }
+    check(card)?;
+    follow(card, cell, seen)
 }
 
 // Where a runner stands after an answer: in the cell entered; in the one given where the answer is a refusal.
@@ -335,11 +337,11 @@ fn after(answer: Move, cell: Cell) -> Stood
     ensures { result ≡ stands_after answer cell }
 {
     match answer {
-        Move::Entered(entered, _) => Stood {
-            cell: entered,
+        Ok(entered) => Stood {
+            cell: entered.cell,
             answer,
         },
-        Move::Refused(_, _) => Stood { cell, answer },
+        Err(_) => Stood { cell, answer },
     }
 }
 

@@ -18,7 +18,7 @@ use Rattle.games.specs.Step.{safe, enabled_at, after}
 use Rattle.games.specs.Verdict.{start_set}
 use Rattle.games.specs.Automaton.{Automaton, no_cell}
 use Rattle.games.specs.Words.{game}
-use Rattle.games.specs.declared.Checked.TheVariants.{Fine, Refused}
+use Rattle.games.specs.Answers.{refused}
 use Rattle.games.proofs.Answers.{then_fine, never, found_none}
 use Rattle.games.proofs.Steps.{safe_at, enabled_at_is, after_intro}
 use Rattle.games.proofs.Starts.{start_member}
@@ -35,6 +35,8 @@ use Rattle.runner.proofs.Control.{kept_controls}
 use Rattle.certificates.specs.Certificate.{lies, first_holds, set_fits, cell_holds, next_holds, word_holds, words_certified, certified, Safe}
 use Rattle.certificates.proofs.Words.{first_word, cell_word, next_word_lem, lies_none, lies_some}
 use Rattle.certificates.proofs.Written.{Conditions}
+use Rattle.games.specs.declared.Reason.TheVariants as reason
+use Rattle.std.specs.Prelude.{Ok, Err}
 
 -- ---- a word's condition
 
@@ -61,7 +63,7 @@ module _ (A : Automaton) (s c i : ℕ) (lie : lies A s c ≡ true) (m : member s
 
 -- ---- a certified card
 
-module _ (w k : List ℕ) (fine : certified w k ≡ Fine) where
+module _ (w k : List ℕ) (fine : certified w k ≡ Ok tt) where
   abbrev g : Game
   g = game w
 
@@ -71,7 +73,7 @@ module _ (w k : List ℕ) (fine : certified w k ≡ Fine) where
   abbrev o : ℕ
   o = card_observations k
 
-  passed : (checked w k ≡ Fine) × (words_certified g k ≡ Fine)
+  passed : (checked w k ≡ Ok tt) × (words_certified g k ≡ Ok tt)
   unfolding certified
   passed = then_fine (checked w k) (words_certified g k) fine
 
@@ -79,14 +81,14 @@ module _ (w k : List ℕ) (fine : certified w k ≡ Fine) where
   pub certified_pair : Paired w k
   certified_pair = paired w k passed.0
 
-  right : card_checked k ≡ Fine
+  right : card_checked k ≡ Ok tt
   right = certified_pair.card_fine
 
   word : (p : ℕ) → p < length k → word_holds g k p ≡ true
   unfolding words_certified
   word p l =
       let wrong : ℕ → Bool = λ q. not (word_holds g k q) in
-      not-false (word_holds g k p) (first_nothing (length k) wrong (found_none (first (length k) wrong) (Refused 18) (λ i r. never 18 i r) passed.1) p l)
+      not-false (word_holds g k p) (first_nothing (length k) wrong (found_none (first (length k) wrong) (refused reason.NotSafe) (λ i r. never reason.NotSafe i r) passed.1) p l)
 
   seen : (j : ℕ) → j < g.observations → j < o
   seen j l = omega (arith, certified_pair.observations)

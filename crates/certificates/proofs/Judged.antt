@@ -13,8 +13,8 @@ use Rattle.games.specs.Step.{enabled_at, post, after}
 use Rattle.games.specs.Verdict.{start_set}
 use Rattle.games.specs.Automaton.{Automaton}
 use Rattle.games.specs.Words.{game, front_length, part_length}
-use Rattle.games.specs.declared.Checked.{Checked}
-use Rattle.games.specs.declared.Checked.TheVariants.{Fine, Refused}
+use Rattle.games.specs.Answers.{Checked}
+use Rattle.games.specs.Answers.{refused}
 use Rattle.cards.specs.Card.{cell_place, next_place, card_cells, card_observations, automaton, checked as card_checked}
 use Rattle.cards.specs.Checking.{FirstWrong}
 use Rattle.cards.proofs.Checked.{part_in, part_behind, shaped, firsts_in}
@@ -27,6 +27,9 @@ use Rattle.certificates.specs.Certificate.{lies, first_holds, set_fits, cell_hol
 use Rattle.certificates.specs.Judging.{HoldsBelow, part_holds}
 use Rattle.certificates.proofs.Words.{head_word_lem, first_word, cell_word, next_word_lem}
 use Rattle.certificates.proofs.Certified.{certified_safe}
+use Rattle.games.specs.declared.Reason.{Reason}
+use Rattle.games.specs.declared.Reason.TheVariants as reason
+use Rattle.std.specs.Prelude.{Ok, Err}
 
 -- ---- a first and a next word, by the set and the cell that the code has
 
@@ -78,7 +81,7 @@ module _ (g : Game) (k : List ℕ) (c s : ℕ) (set_is : s ≡ (automaton k).set
 
 -- ---- the words in their order
 
-module _ (g : Game) (k : List ℕ) (fine : card_checked k ≡ Fine) where
+module _ (g : Game) (k : List ℕ) (fine : card_checked k ≡ Ok tt) where
   abbrev test : ℕ → Bool
   test = word_holds g k
 
@@ -90,10 +93,10 @@ module _ (g : Game) (k : List ℕ) (fine : card_checked k ≡ Fine) where
   front_pass = record { within = omega (arith, firsts_in k (shaped k fine)); right = λ q l. head_word_lem g k q (omega arith) }
 
   module _ (r : ℕ) (ended : FirstWrong (first_holds g (automaton k)) seen r) where
-    pub firsts_stop : r < seen → Refused 18 (1 + r) ≡ words_certified g k
+    pub firsts_stop : r < seen → refused reason.NotSafe (1 + r) ≡ words_certified g k
     unfolding words_certified
     firsts_stop l =
-        ap (λ (f : Found). at_found f (Refused 18) Fine)
+        ap (λ (f : Found). at_found f (refused reason.NotSafe) (Ok tt))
         (sym (row_stop test (length k) (first_holds g (automaton k)) 1 seen r (first_word g k) (firsts_in k (shaped k fine)) front_pass ended l))
 
     pub firsts_pass : seen ≤ r → HoldsBelow g k (front_length seen)
@@ -103,10 +106,10 @@ module _ (g : Game) (k : List ℕ) (fine : card_checked k ≡ Fine) where
     inside : cell_place seen c + part_length seen ≤ length k
     inside = part_in k (shaped k fine) c (cell_place seen c) l refl
 
-    pub part_stop : r < part_length seen → Refused 18 (cell_place seen c + r) ≡ words_certified g k
+    pub part_stop : r < part_length seen → refused reason.NotSafe (cell_place seen c + r) ≡ words_certified g k
     unfolding words_certified
     part_stop b =
-        ap (λ (f : Found). at_found f (Refused 18) Fine)
+        ap (λ (f : Found). at_found f (refused reason.NotSafe) (Ok tt))
         (sym (row_stop test (length k) (part_holds g k c) (cell_place seen c) (part_length seen) r (λ j m. refl) inside below ended b))
 
     pub part_pass : part_length seen ≤ r → HoldsBelow g k (cell_place seen (c + 1))
@@ -114,24 +117,24 @@ module _ (g : Game) (k : List ℕ) (fine : card_checked k ≡ Fine) where
         subst (HoldsBelow g k) (part_behind seen c)
         (row_pass test (length k) (part_holds g k c) (cell_place seen c) (part_length seen) r (λ j m. refl) inside below ended b)
 
-  pub all_hold : (c : ℕ) → card_cells k ≤ c → c ≤ card_cells k → HoldsBelow g k (cell_place seen c) → Fine ≡ words_certified g k
+  pub all_hold : (c : ℕ) → card_cells k ≤ c → c ≤ card_cells k → HoldsBelow g k (cell_place seen c) → (Ok tt) ≡ words_certified g k
   unfolding words_certified
   all_hold c l m below =
       let e : c ≡ card_cells k = omega arith in
       let end : cell_place seen c ≡ length k = ap (cell_place seen) e ∙ sym (shaped k fine).long in
-      ap (λ (f : Found). at_found f (Refused 18) Fine) (sym (pass_all test (length k) (subst (HoldsBelow g k) end below)))
+      ap (λ (f : Found). at_found f (refused reason.NotSafe) (Ok tt)) (sym (pass_all test (length k) (subst (HoldsBelow g k) end below)))
 
 -- ---- the entry
 
 module _ (w k : List ℕ) where
-  pub pair_stops : (number place : ℕ) → checked w k ≡ Refused number place → Refused number place ≡ certified w k
+  pub pair_stops : (number : Reason) (place : ℕ) → checked w k ≡ refused number place → refused number place ≡ certified w k
   unfolding certified
   pair_stops number place e = rw e
 
-  pub words_decide : checked w k ≡ Fine → words_certified (game w) k ≡ certified w k
+  pub words_decide : checked w k ≡ Ok tt → words_certified (game w) k ≡ certified w k
   unfolding certified
   words_decide e = rw e
 
   -- accepted means safe
-  pub promised : (r : Checked) → r ≡ certified w k → (r ≡ certified w k) × (r ≡ Fine → Safe (game w) k)
+  pub promised : (r : Checked) → r ≡ certified w k → (r ≡ certified w k) × (r ≡ Ok tt → Safe (game w) k)
   promised r e = (e, λ f. certified_safe w k (sym e ∙ f))

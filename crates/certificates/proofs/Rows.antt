@@ -12,13 +12,15 @@ use Rattle.games.specs.Verdict.{start_set}
 use Rattle.games.specs.Places.{parked_words, place_at}
 use Rattle.games.specs.Words.{game}
 use Rattle.games.specs.Stations.{table_a, table_b, table_c, card_a, card_c}
-use Rattle.games.specs.declared.Checked.{Checked}
-use Rattle.games.specs.declared.Checked.TheVariants.{Fine, Refused}
+use Rattle.games.specs.Answers.{Checked}
+use Rattle.games.specs.Answers.{refused}
 use Rattle.tables.specs.Layout.{bare_word}
 use Rattle.tables.specs.Check.{limits_hold, head_right, size_checked, placed, faulty, words_checked as table_words, unseen, departs, parked_checked, sets_checked, checked as table_checked}
 use Rattle.cards.specs.Card.{head_fits, cell_named, cell_fits, part_spot, spot_at, word_fits, words_checked, automaton, checked as card_checked}
 use Rattle.pairs.specs.Pair.{agree, checked}
 use Rattle.certificates.specs.Certificate.{lies, first_holds, set_fits, cell_holds, next_holds, word_holds, words_certified, certified}
+use Rattle.games.specs.declared.Reason.TheVariants as reason
+use Rattle.std.specs.Prelude.{Ok, Err}
 
 abbrev pub Row : Type 0
 Row = record { table : List ℕ; card : List ℕ; answer : Checked }
@@ -32,17 +34,17 @@ pub data Rows : List Row → Type 0 where
 -- the card is safe
 pub rows : List Row
 rows =
-    record { table = table_a; card = card_a; answer = Fine }
-    ∷ record { table = table_c; card = card_c; answer = Fine }
-    ∷ record { table = table_c; card = card_a; answer = Refused 16 0 }
-    ∷ record { table = table_b; card = card_a; answer = Refused 18 1 }
-    ∷ record { table = table_a; card = set card_a 1 0x9000_FFFF; answer = Refused 18 1 }
-    ∷ record { table = table_a; card = set card_a 2 0xA000_0005; answer = Refused 18 2 }
-    ∷ record { table = table_a; card = set card_a 2 0xA000_0009; answer = Refused 18 2 }
-    ∷ record { table = table_a; card = set card_a 2 0xA010_0001; answer = Refused 18 3 }
-    ∷ record { table = table_a; card = set card_a 3 0xB000_FFFF; answer = Refused 18 3 }
-    ∷ record { table = table_a; card = set card_a 4 0xA000_0002; answer = Refused 18 4 }
-    ∷ record { table = table_a; card = set card_a 4 0xA010_0000; answer = Refused 18 3 }
+    record { table = table_a; card = card_a; answer = Ok tt }
+    ∷ record { table = table_c; card = card_c; answer = Ok tt }
+    ∷ record { table = table_c; card = card_a; answer = refused reason.Disagree 0 }
+    ∷ record { table = table_b; card = card_a; answer = refused reason.NotSafe 1 }
+    ∷ record { table = table_a; card = set card_a 1 0x9000_FFFF; answer = refused reason.NotSafe 1 }
+    ∷ record { table = table_a; card = set card_a 2 0xA000_0005; answer = refused reason.NotSafe 2 }
+    ∷ record { table = table_a; card = set card_a 2 0xA000_0009; answer = refused reason.NotSafe 2 }
+    ∷ record { table = table_a; card = set card_a 2 0xA010_0001; answer = refused reason.NotSafe 3 }
+    ∷ record { table = table_a; card = set card_a 3 0xB000_FFFF; answer = refused reason.NotSafe 3 }
+    ∷ record { table = table_a; card = set card_a 4 0xA000_0002; answer = refused reason.NotSafe 4 }
+    ∷ record { table = table_a; card = set card_a 4 0xA010_0000; answer = refused reason.NotSafe 3 }
     ∷ []
 
 pub every_row : Rows rows

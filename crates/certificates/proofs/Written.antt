@@ -17,8 +17,8 @@ use Rattle.games.specs.Step.{after}
 use Rattle.games.specs.Verdict.{start_set}
 use Rattle.games.specs.Automaton.{Automaton, no_cell}
 use Rattle.games.specs.Words.{game, card_words}
-use Rattle.games.specs.declared.Checked.{Checked}
-use Rattle.games.specs.declared.Checked.TheVariants.{Fine, Refused}
+use Rattle.games.specs.Answers.{Checked}
+use Rattle.games.specs.Answers.{refused}
 use Rattle.tables.specs.Check.{checked as table_checked}
 use Rattle.cards.specs.Card.{first_place, cell_place, next_place, Spot, at_head, at_first, at_cell, at_next, spot_at, automaton, Named, Fitting}
 use Rattle.cards.proofs.Spots.{spot_head, spot_first, spot_cell, spot_next, every_place}
@@ -28,6 +28,8 @@ use Rattle.pairs.specs.Pair.{agree}
 use Rattle.pairs.proofs.Pairing.{fine_pair}
 use Rattle.certificates.specs.Certificate.{lies, first_holds, cell_holds, next_holds, spot_holds, word_holds, words_certified, certified}
 use Rattle.certificates.proofs.Words.{lies_none}
+use Rattle.games.specs.declared.Reason.TheVariants as reason
+use Rattle.std.specs.Prelude.{Ok, Err}
 
 -- the conditions, over an automaton
 pub record Conditions (g : Game) (A : Automaton) : Type 0 where
@@ -66,7 +68,7 @@ module _ (g : Game) (A B : Automaton) (E : Agree B A g.observations) where
 
 -- ---- the words of an automaton
 
-module _ (w : List ℕ) (fine : table_checked w ≡ Fine) (A : Automaton) (F : Fitting A (game w).actions (game w).observations) (C : Conditions (game w) A) where
+module _ (w : List ℕ) (fine : table_checked w ≡ Ok tt) (A : Automaton) (F : Fitting A (game w).actions (game w).observations) (C : Conditions (game w) A) where
   abbrev g : Game
   g = game w
 
@@ -93,16 +95,16 @@ module _ (w : List ℕ) (fine : table_checked w ≡ Fine) (A : Automaton) (F : F
       (λ c j b m. at_spot (next_place o c j) (at_next c j) (spot_next o c j m) (same_next g A (automaton words) E c j b m (F.next_named c j b m) (C.nexts c j b m)))
       p (omega (arith, card_long A g.actions o))
 
-  words_fine : words_certified g words ≡ Fine
+  words_fine : words_certified g words ≡ Ok tt
   unfolding words_certified
   words_fine =
-      ap (λ (f : Found). at_found f (Refused 18) Fine) (pass_all (word_holds g words) (length words) (record { within = omega arith; right = every }))
+      ap (λ (f : Found). at_found f (refused reason.NotSafe) (Ok tt)) (pass_all (word_holds g words) (length words) (record { within = omega arith; right = every }))
 
   same_numbers : agree w words ≡ true
   unfolding agree
   same_numbers = rw (eq-eqb _ _ (written_actions A g.actions o F), eq-eqb _ _ (written_observations A g.actions o F))
 
-  pub written_certified : certified w words ≡ Fine
+  pub written_certified : certified w words ≡ Ok tt
   unfolding certified
   written_certified =
       ap (λ (c : Checked). unless c Refused (words_certified g words)) (sym (fine_pair w words fine (written_checked A g.actions o F) same_numbers)) ∙ words_fine

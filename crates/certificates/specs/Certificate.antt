@@ -10,12 +10,14 @@ use Rattle.games.specs.Step.{safe, enabled_at, after}
 use Rattle.games.specs.Verdict.{start_set}
 use Rattle.games.specs.Automaton.{Automaton, no_cell}
 use Rattle.games.specs.Words.{game}
-use Rattle.games.specs.declared.Checked.{Checked}
-use Rattle.games.specs.declared.Checked.TheVariants.{Fine, Refused}
+use Rattle.games.specs.Answers.{Checked}
+use Rattle.games.specs.Answers.{refused}
 use Rattle.cards.specs.Card.{Spot, at_head, at_first, at_cell, at_next, spot_at, card_observations, automaton}
 use Rattle.cards.specs.Kept.{Kept}
 use Rattle.pairs.specs.Pair.{checked}
 use Rattle.runner.specs.Control.{Controls}
+use Rattle.games.specs.declared.Reason.TheVariants as reason
+use Rattle.std.specs.Prelude.{Ok, Err}
 
 -- the states of s lie in the set of the cell named; there are none where the word says "cannot occur"
 unfoldable pub lies : Automaton → (s cell : ℕ) → Bool
@@ -49,11 +51,11 @@ word_holds g k p = spot_holds g (automaton k) (spot_at (card_observations k) p)
 
 -- the lowest word at fault
 unfoldable pub words_certified : Game → (card : List ℕ) → Checked
-words_certified g k = at_found (first (length k) (λ p. not (word_holds g k p))) (Refused 18) Fine
+words_certified g k = at_found (first (length k) (λ p. not (word_holds g k p))) (refused reason.NotSafe) (Ok tt)
 
 -- the table checks, 13, 16, 18
 unfoldable pub certified : (table card : List ℕ) → Checked
-certified w k = unless (checked w k) Refused (words_certified (game w) k)
+certified w k = unless (checked w k) Err (words_certified (game w) k)
 
 -- what is promised of a card that is accepted: it keeps every play clear, and on every play under the actions it gives it is in a cell
 -- whose set holds the state and is never refused by 12, 13 or 14; nor is it in a runner

@@ -2,12 +2,12 @@
 -- Assumes nothing.
 use Rattle.std.specs.Prelude.{◌≡◌, Bool, List, ℕ, ◌+◌, ◌<◌, length}
 use Rattle.games.specs.Game.{Game}
-use Rattle.games.specs.declared.Checked.TheVariants.{Fine}
 use Rattle.cards.specs.Card.{cell_place, card_observations}
 use Rattle.cards.specs.Checking.{Pass}
 use Rattle.moves.specs.Halves.{Ready}
 use Rattle.pairs.specs.Pair.{checked}
 use Rattle.certificates.specs.Certificate.{word_holds}
+use Rattle.std.specs.Prelude.{Ok}
 
 -- where there are half tables, they are those of the table's moves
 abbrev pub Halves : (table low high : List ℕ) → Type 0
@@ -15,7 +15,7 @@ Halves w low high = 0 < length low → Ready w low high
 
 -- a table and a card that go together, and the half tables, if any
 pub record Prepared (table low high card : List ℕ) : Type 0 where
-  pub fine : checked table card ≡ Fine
+  pub fine : checked table card ≡ Ok tt
   pub halves : Halves table low high
 
 -- the words below place p hold

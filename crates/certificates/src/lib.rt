@@ -12,7 +12,7 @@ ghost use Rattle.pairs.specs.Pair.{checked};
 ghost use Rattle.certificates.specs.Certificate.{lies, first_holds, set_fits, next_holds, words_certified, certified, Safe};
 ghost use Rattle.certificates.specs.Judging.{Halves, Prepared, HoldsBelow, part_holds};
 
-use games::{Action, Cell, Checked, Observation};
+use games::{Action, Cell, Observation, Reason, Refusal};
 use moves::Posted;
 use walk::Walked;
 
@@ -21,7 +21,7 @@ const MANY_CELLS: u32 = 48;
 
 // The states of s lie in the set of the cell named; there are none where the card says "cannot occur".
 fn lie(card: &[u32], s: u32, cell: Cell) -> bool
-    requires { (card_checked card.now ≡ Checked.Fine) × Named (automaton card.now) cell.0 }
+    requires { (card_checked card.now ≡ Ok tt) × Named (automaton card.now) cell.0 }
     ensures { result ≡ lies (automaton card.now) s cell.0 }
 {
     if cell.0 == games::NO_CELL {
@@ -32,7 +32,7 @@ fn lie(card: &[u32], s: u32, cell: Cell) -> bool
 
 // How many first words hold, in their order, before one that doesn't.
 fn firsts_hold(table: &[u32], card: &[u32]) -> u32
-    requires { checked table.now card.now ≡ Checked.Fine }
+    requires { checked table.now card.now ≡ Ok tt }
     ensures { FirstWrong (first_holds (game table.now) (automaton card.now))
         (card_observations card.now) result }
 {
@@ -73,7 +73,7 @@ fn post(table: &[u32], low: &[u32], high: &[u32], s: u32, a: Action) -> Posted
 
 // How many next words of a cell hold, in their order, before one that doesn't; u has the successors of the cell's set.
 fn nexts_hold(table: &[u32], card: &[u32], cell: Cell, u: u32) -> u32
-    requires { (checked table.now card.now ≡ Checked.Fine) × (cell.0 < card_cells card.now)
+    requires { (checked table.now card.now ≡ Ok tt) × (cell.0 < card_cells card.now)
         × (u ≡ post_of (game table.now) ((automaton card.now).set cell.0) ((automaton card.now).action cell.0)) }
     ensures { FirstWrong (next_holds (game table.now) (automaton card.now) cell.0)
         (card_observations card.now) result }
@@ -108,7 +108,7 @@ fn part_holds(table: &[u32], low: &[u32], high: &[u32], card: &[u32], cell: Cell
 }
 
 // The parts of the cells in their order: the lowest word at fault stops the judge.
-fn judge_parts(table: &[u32], low: &[u32], high: &[u32], card: &[u32]) -> Checked
+fn judge_parts(table: &[u32], low: &[u32], high: &[u32], card: &[u32]) -> Result<(), Refusal>
     requires { Prepared table.now low.now high.now card.now
         × HoldsBelow (game table.now) card.now (front_length (card_observations card.now)) }
     ensures { result ≡ words_certified (game table.now) card.now }
@@ -119,16 +119,16 @@ fn judge_parts(table: &[u32], low: &[u32], high: &[u32], card: &[u32]) -> Checke
     while c < m {
         let held = part_holds(table, low, high, card, Cell(c)) as usize;
         if held < games::part_length(o) {
-            return Checked::Refused(18, cards::cell_place(o, Cell(c)) + held);
+            return Err(Reason::NotSafe.at(cards::cell_place(o, Cell(c)) + held));
         }
         c += 1;
     }
-    Checked::Fine
+    Ok(())
 }
 
 // The same with the half tables of the moves at hand.
-fn judge_many(table: &[u32], card: &[u32]) -> Checked
-    requires { (checked table.now card.now ≡ Checked.Fine)
+fn judge_many(table: &[u32], card: &[u32]) -> Result<(), Refusal>
+    requires { (checked table.now card.now ≡ Ok tt)
         × HoldsBelow (game table.now) card.now (front_length (card_observations card.now)) }
     ensures { result ≡ words_certified (game table.now) card.now }
 {
@@ -139,13 +139,13 @@ fn judge_many(table: &[u32], card: &[u32]) -> Checked
 }
 
 // Refusal 18: the first words, then the cells' parts.
-fn judge_words(table: &[u32], card: &[u32]) -> Checked
-    requires { checked table.now card.now ≡ Checked.Fine }
+fn judge_words(table: &[u32], card: &[u32]) -> Result<(), Refusal>
+    requires { checked table.now card.now ≡ Ok tt }
     ensures { result ≡ words_certified (game table.now) card.now }
 {
     let held = firsts_hold(table, card);
     if held < cards::observations(card) {
-        return Checked::Refused(18, 1 + held as usize);
+        return Err(Reason::NotSafe.at(1 + held as usize));
     }
     if cards::cells(card) < MANY_CELLS {
         return judge_parts(table, &[], &[], card);
@@ -154,12 +154,10 @@ fn judge_words(table: &[u32], card: &[u32]) -> Checked
 }
 
 // The judge of cards: the table checks, 13, 16, 18. An accepted card is safe, whoever drew it.
-pub fn judge_card(table: &[u32], card: &[u32]) -> Checked
+pub fn judge_card(table: &[u32], card: &[u32]) -> Result<(), Refusal>
     ensures determined { result ≡ certified table.now card.now }
-    ensures safe { result ≡ Checked.Fine → Safe (game table.now) card.now }
+    ensures safe { result ≡ Ok tt → Safe (game table.now) card.now }
 {
-    match pairs::check(table, card) {
-        Checked::Refused(number, place) => Checked::Refused(number, place),
-        Checked::Fine => judge_words(table, card),
-    }
+    pairs::check(table, card)?;
+    judge_words(table, card)
 }

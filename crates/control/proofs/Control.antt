@@ -7,7 +7,6 @@ use Prim.Native.Nat.{ℕ}
 use Rattle.games.specs.Answers.{leaves}
 use Rattle.games.specs.Automaton.{card}
 use Rattle.games.specs.Words.{game}
-use Rattle.games.specs.declared.Checked.TheVariants.{Fine}
 use Rattle.tables.proofs.Checks.{accepted}
 use Rattle.runner.proofs.Control.{kept_controls}
 use Rattle.certificates.specs.Certificate.{certified}
@@ -20,6 +19,7 @@ use Rattle.solver.specs.Solve.{buffers, solved, written, Promise}
 use Rattle.solver.specs.declared.Answer.{Answer}
 use Rattle.solver.proofs.Promises.{card_fits, promised, yes_given}
 use Rattle.control.specs.Control.{Controlled, Certified, TrimmedSafe, TrimmedCertified}
+use Rattle.std.specs.Prelude.{Ok}
 
 module _ (w work d : List ℕ) (r : Answer) (e : List ℕ) where
   -- on solve's promise
@@ -41,7 +41,7 @@ module _ (w work d : List ℕ) (r : Answer) (e : List ℕ) where
     solved_certified settled m says =
         let y = yes_given w work d r e settled m left is says in
         let F = card_fits w y.fine in
-        subst (λ (k : List ℕ). certified w k ≡ Fine) (sym y.front)
+        subst (λ (k : List ℕ). certified w k ≡ Ok tt) (sym y.front)
         (written_certified w y.fine (card (game w)) F (card_conditions (game w) (accepted w y.fine) F.cells y.won))
 
     pub solved_trimmed_safe : TrimmedSafe w r e

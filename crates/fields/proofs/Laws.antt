@@ -23,9 +23,7 @@ use Rattle.games.specs.declared.Observation.{Observation}
 use Rattle.games.specs.declared.Shape.{Shape}
 use Rattle.games.specs.declared.Place.{Place}
 use Rattle.games.specs.declared.Place.TheVariants.{Shown, Move}
-use Rattle.games.specs.declared.Checked.TheVariants.{Fine, Refused}
-use Rattle.games.specs.declared.Written.TheVariants.{Words}
-use Rattle.games.specs.declared.Written.TheVariants as written
+use Rattle.games.specs.Answers.{refused}
 use Rattle.games.proofs.Answers.{never, cond_passed, found_none, then_fine}
 use Rattle.games.proofs.Places.{place_from, place_below, place_there}
 use Rattle.tables.specs.Layout.{head_word, bare_word}
@@ -36,13 +34,16 @@ use Rattle.tables.proofs.Bounds.{slot_inside}
 use Rattle.tables.proofs.Checks.{limits_hold_lem, by_words}
 use Rattle.fields.specs.Read.{no_fields, read_of}
 use Rattle.fields.specs.Write.{mask_of, words_length, slot_clean, unused_zero, slots_clean, wide_at, slots_checked, masks_checked, fields_checked, word_at, written_to, write_of}
+use Rattle.games.specs.declared.Reason.{Reason}
+use Rattle.games.specs.declared.Reason.TheVariants as reason
+use Rattle.std.specs.Prelude.{Ok, Err}
 
 module _ (w : List ℕ) where
-  pub read_fine : (f : Fields) → checked w ≡ Fine → f ≡ fields_of w → record { answer = Fine; fields = f } ≡ read_of w
+  pub read_fine : (f : Fields) → checked w ≡ Ok tt → f ≡ fields_of w → record { answer = Ok tt; fields = f } ≡ read_of w
   unfolding read_of
   read_fine f e g = rw (e, g)
 
-  pub read_refused : (k p : ℕ) (f : Fields) → checked w ≡ Refused k p → f ≡ no_fields → record { answer = Refused k p; fields = f } ≡ read_of w
+  pub read_refused : (k : Reason) (p : ℕ) (f : Fields) → checked w ≡ refused k p → f ≡ no_fields → record { answer = refused k p; fields = f } ≡ read_of w
   unfolding read_of
   read_refused k p f e g = rw (e, g)
 
@@ -83,23 +84,23 @@ module _ (f : Fields) where
   unfolding wide_at
   narrow_at p e = and_false_right (ltb 0 p) (lt-leb (2 ^ f.states) (mask_of f p) e)
 
-  pub masks_wide : (p : ℕ) → p < words_length f → first p (wide_at f) ≡ nothing → wide_at f p ≡ true → masks_checked f ≡ Refused 5 p
+  pub masks_wide : (p : ℕ) → p < words_length f → first p (wide_at f) ≡ nothing → wide_at f p ≡ true → masks_checked f ≡ refused reason.StateBeyond p
   unfolding masks_checked
   masks_wide p l e t = rw (first_stop (words_length f) (wide_at f) p l e t)
 
-  pub masks_fine : first (words_length f) (wide_at f) ≡ nothing → masks_checked f ≡ Fine
+  pub masks_fine : first (words_length f) (wide_at f) ≡ nothing → masks_checked f ≡ Ok tt
   unfolding masks_checked
   masks_fine e = rw e
 
-  pub mask_low : masks_checked f ≡ Fine → (p : ℕ) → 1 ≤ p → p < words_length f → mask_of f p < 2 ^ f.states
+  pub mask_low : masks_checked f ≡ Ok tt → (p : ℕ) → 1 ≤ p → p < words_length f → mask_of f p < 2 ^ f.states
   unfolding masks_checked wide_at
   mask_low e p l k =
-      let none = found_none (first (words_length f) (wide_at f)) (λ p. Refused 5 p) (λ p h. never 5 p h) e in
+      let none = found_none (first (words_length f) (wide_at f)) (λ p. refused reason.StateBeyond p) (λ p h. never reason.StateBeyond p h) e in
       let wide : (ltb 0 p && too_wide f.states (mask_of f p)) ≡ false = first_nothing (words_length f) (wide_at f) none p k in
       leb-false (2 ^ f.states) (mask_of f p) (rw (lt-ltb 0 p l) at wide)
 
   -- a move's mask is as it stands, without a kind
-  pub move_low : Limited (fields_shape f) → masks_checked f ≡ Fine → (a i : ℕ) → a < f.actions → i < f.states → low_field (get_or f.moves (0 + (a * f.states + i)) 0) ≡ get_or f.moves (a * f.states + i) 0
+  pub move_low : Limited (fields_shape f) → masks_checked f ≡ Ok tt → (a i : ℕ) → a < f.actions → i < f.states → low_field (get_or f.moves (0 + (a * f.states + i)) 0) ≡ get_or f.moves (a * f.states + i) 0
   move_low l e a i p q =
       let s = fields_shape f in
       let x = move a i in
@@ -110,7 +111,7 @@ module _ (f : Fields) where
       ap (λ (j : ℕ). low_field (get_or f.moves j 0)) slot ∙ mod-eq_of_lt (omega (arith, mask, pow_mono {j = max_states} l.most_states))
 
   -- the moves as the code has them
-  pub moves_parked : Limited (fields_shape f) → masks_checked f ≡ Fine → (s : Shape) → s ≡ fields_shape f → parked_from f.moves 0 s f.parked ≡ parked_checked (game_of f)
+  pub moves_parked : Limited (fields_shape f) → masks_checked f ≡ Ok tt → (s : Shape) → s ≡ fields_shape f → parked_from f.moves 0 s f.parked ≡ parked_checked (game_of f)
   unfolding game_of
   moves_parked l e s same =
       ap (λ (t : Shape). parked_from f.moves 0 t f.parked) same
@@ -118,63 +119,63 @@ module _ (f : Fields) where
 
   -- ---- 2 and 11
 
-  pub slots_limits : limits_hold (fields_shape f) ≡ false → slots_checked f ≡ Refused 2 0
+  pub slots_limits : limits_hold (fields_shape f) ≡ false → slots_checked f ≡ refused reason.BadHead 0
   unfolding slots_checked
   slots_limits e = rw e
 
   module _ (within : limits_hold (fields_shape f) ≡ true) where
-    pub slots_dirty : slots_clean f ≡ false → slots_checked f ≡ Refused 11 0
+    pub slots_dirty : slots_clean f ≡ false → slots_checked f ≡ refused reason.SlotUsed 0
     unfolding slots_checked
     slots_dirty e = rw (within, e)
 
-    pub slots_fine : slots_clean f ≡ true → slots_checked f ≡ Fine
+    pub slots_fine : slots_clean f ≡ true → slots_checked f ≡ Ok tt
     unfolding slots_checked
     slots_fine e = rw (within, e)
 
-  pub slots_passed : slots_checked f ≡ Fine → (limits_hold (fields_shape f) ≡ true) × (slots_clean f ≡ true)
+  pub slots_passed : slots_checked f ≡ Ok tt → (limits_hold (fields_shape f) ≡ true) × (slots_clean f ≡ true)
   unfolding slots_checked
   slots_passed e =
       let within = limits_hold (fields_shape f) in
-      let a = cond_passed (not within) 2 0 (cond (not (slots_clean f)) (Refused 11 0) Fine) e in
-      let b = cond_passed (not (slots_clean f)) 11 0 Fine a.1 in
+      let a = cond_passed (not within) reason.BadHead 0 (cond (not (slots_clean f)) (refused reason.SlotUsed 0) (Ok tt)) e in
+      let b = cond_passed (not (slots_clean f)) reason.SlotUsed 0 (Ok tt) a.1 in
       (not-false within a.0, not-false (slots_clean f) b.0)
 
-  pub slots_limited : slots_checked f ≡ Fine → Limited (fields_shape f)
+  pub slots_limited : slots_checked f ≡ Ok tt → Limited (fields_shape f)
   slots_limited e = limits_hold_lem (fields_shape f) (slots_passed e).0
 
   -- ---- one after the other
 
-  pub slots_stop : (k p : ℕ) → slots_checked f ≡ Refused k p → fields_checked f ≡ Refused k p
+  pub slots_stop : (k : Reason) (p : ℕ) → slots_checked f ≡ refused k p → fields_checked f ≡ refused k p
   unfolding fields_checked
   slots_stop k p e = rw e
 
-  pub masks_stop : (k p : ℕ) → slots_checked f ≡ Fine → masks_checked f ≡ Refused k p → fields_checked f ≡ Refused k p
+  pub masks_stop : (k : Reason) (p : ℕ) → slots_checked f ≡ Ok tt → masks_checked f ≡ refused k p → fields_checked f ≡ refused k p
   unfolding fields_checked
   masks_stop k p e d = rw (e, d)
 
-  module _ (slots : slots_checked f ≡ Fine) (masks : masks_checked f ≡ Fine) where
-    pub sets_stop : (k p : ℕ) → sets_checked (game_of f) ≡ Refused k p → fields_checked f ≡ Refused k p
+  module _ (slots : slots_checked f ≡ Ok tt) (masks : masks_checked f ≡ Ok tt) where
+    pub sets_stop : (k : Reason) (p : ℕ) → sets_checked (game_of f) ≡ refused k p → fields_checked f ≡ refused k p
     unfolding fields_checked
     sets_stop k p e = rw (slots, masks, e)
 
-    pub parked_end : sets_checked (game_of f) ≡ Fine → fields_checked f ≡ parked_checked (game_of f)
+    pub parked_end : sets_checked (game_of f) ≡ Ok tt → fields_checked f ≡ parked_checked (game_of f)
     unfolding fields_checked
     parked_end e = rw (slots, masks, e)
 
-  pub fields_passed : fields_checked f ≡ Fine → (slots_checked f ≡ Fine) × (masks_checked f ≡ Fine) × (sets_checked (game_of f) ≡ Fine) × (parked_checked (game_of f) ≡ Fine)
+  pub fields_passed : fields_checked f ≡ Ok tt → (slots_checked f ≡ Ok tt) × (masks_checked f ≡ Ok tt) × (sets_checked (game_of f) ≡ Ok tt) × (parked_checked (game_of f) ≡ Ok tt)
   unfolding fields_checked
   fields_passed e =
-      let sets = unless (sets_checked (game_of f)) Refused (parked_checked (game_of f)) in
-      let a = then_fine (slots_checked f) (unless (masks_checked f) Refused sets) e in
+      let sets = unless (sets_checked (game_of f)) Err (parked_checked (game_of f)) in
+      let a = then_fine (slots_checked f) (unless (masks_checked f) Err sets) e in
       let d = then_fine (masks_checked f) sets a.1 in
       let h = then_fine (sets_checked (game_of f)) (parked_checked (game_of f)) d.1 in
       (a.0, d.0, h.0, h.1)
 
-  pub write_refused : (k p : ℕ) (d : List ℕ) → fields_checked f ≡ Refused k p → leaves (written.Refused k p) d ≡ write_of f d
+  pub write_refused : (k : Reason) (p : ℕ) (d : List ℕ) → fields_checked f ≡ refused k p → leaves (refused k p) d ≡ write_of f d
   unfolding write_of
   write_refused k p d e = rw e
 
-  pub write_fine : (d : List ℕ) → fields_checked f ≡ Fine → write_of f d ≡ written_to f d
+  pub write_fine : (d : List ℕ) → fields_checked f ≡ Ok tt → write_of f d ≡ written_to f d
   unfolding write_of
   write_fine d e = rw e
 
@@ -188,19 +189,19 @@ module _ (f : Fields) where
   unfolding word_at
   word_place p e = rw (ne_eqb p 0 e)
 
-  pub written_full : (d : List ℕ) → words_length f ≤ length d → written_to f d ≡ leaves (Words (words_length f)) (filled_by (words_length f) (word_at f) d)
+  pub written_full : (d : List ℕ) → words_length f ≤ length d → written_to f d ≡ leaves (Ok (words_length f)) (filled_by (words_length f) (word_at f) d)
   unfolding written_to
   written_full d l = rw (le-ltb (length d) (words_length f) l)
 
-  pub written_short : (d : List ℕ) → length d < words_length f → written_to f d ≡ leaves (written.Refused 10 (words_length f)) d
+  pub written_short : (d : List ℕ) → length d < words_length f → written_to f d ≡ leaves (refused reason.ShortTable (words_length f)) d
   unfolding written_to
   written_short d l = rw (lt-ltb (length d) (words_length f) l)
 
   -- as the code has it
-  pub written_none : (d : List ℕ) (words : ℕ) → words ≡ words_length f → length d < words → leaves (written.Refused 10 words) d ≡ written_to f d
+  pub written_none : (d : List ℕ) (words : ℕ) → words ≡ words_length f → length d < words → leaves (refused reason.ShortTable words) d ≡ written_to f d
   written_none d words e l = rw e (sym (written_short d (rw e at l)))
 
-  pub written_done : (d out : List ℕ) (words : ℕ) → words ≡ words_length f → words ≤ length d → out ≡ filled_by words (word_at f) d → leaves (Words words) out ≡ written_to f d
+  pub written_done : (d out : List ℕ) (words : ℕ) → words ≡ words_length f → words ≤ length d → out ≡ filled_by words (word_at f) d → leaves (Ok words) out ≡ written_to f d
   written_done d out words e l h =
       let k : out ≡ filled_by (words_length f) (word_at f) d = h ∙ ap (λ (n : ℕ). filled_by n (word_at f) d) e in
       rw (e, k) (sym (written_full d (rw e at l)))

@@ -25,10 +25,9 @@ use Rattle.games.specs.Words.{mask_at, parked_in, game}
 use Rattle.games.specs.declared.Shape.{Shape}
 use Rattle.games.specs.declared.Place.{Place}
 use Rattle.games.specs.declared.Place.TheVariants.{Start, Bad, Parked}
-use Rattle.games.specs.declared.Checked.{Checked}
-use Rattle.games.specs.declared.Checked.TheVariants.{Fine, Refused}
-use Rattle.games.specs.declared.Written.{Written}
-use Rattle.games.specs.declared.Written.TheVariants.{Words}
+use Rattle.games.specs.Answers.{Checked}
+use Rattle.games.specs.Answers.{refused}
+use Rattle.games.specs.Answers.{Written}
 use Rattle.games.proofs.Limits.{moves_below}
 use Rattle.games.proofs.Places.{place_back, place_within, place_from, place_below, place_there, slot_within}
 use Rattle.tables.specs.Layout.{shape_in, head_word, head_top, bare_word}
@@ -43,6 +42,7 @@ use Rattle.fields.specs.Write.{mask_of, word_at, words_length, slot_clean, unuse
 use Rattle.fields.specs.RoundTrip.{WritesBack, ReadsBack}
 use Rattle.fields.specs.declared.ReadFields.{ReadFields}
 use Rattle.fields.proofs.Laws.{slots_passed, slots_limited, fields_passed, mask_low, read_fine, masks_fine, narrow_at, slots_fine, parked_end, write_fine, write_refused, word_head, word_place, written_short, written_full}
+use Rattle.std.specs.Prelude.{Ok, Err}
 
 -- ---- slots
 
@@ -90,7 +90,7 @@ slots_back used size v l n u e h =
 
 -- ---- an accepted table, read and written
 
-module _ (w : List ℕ) (fine : checked w ≡ Fine) where
+module _ (w : List ℕ) (fine : checked w ≡ Ok tt) where
   shape_kept : fields_shape (fields_of w) ≡ shape_in w
   unfolding fields_of
   shape_kept = refl
@@ -135,7 +135,7 @@ module _ (w : List ℕ) (fine : checked w ≡ Fine) where
       (rw (mask_kept (suc p) (omega arith) k, ap (λ (s : Shape). s.states) shape_kept) (word_below w (fine_words w fine) (suc p) (omega arith) k))
 
   -- write refuses no field of an accepted table
-  fields_fine : fields_checked (fields_of w) ≡ Fine
+  fields_fine : fields_checked (fields_of w) ≡ Ok tt
   unfolding fields_of
   fields_fine =
       let f = fields_of w in
@@ -149,14 +149,14 @@ module _ (w : List ℕ) (fine : checked w ≡ Fine) where
       parked_end f slots masks (sets_same w ∙ fine_sets w fine) ∙ parked_same w ∙ fine_parked w fine
 
   -- read, then write: the same words
-  pub read_then_write : (d : List ℕ) → length w ≤ length d → write_of (read_of w).fields d ≡ leaves (Words (length w)) (w ++ drop (length w) d)
+  pub read_then_write : (d : List ℕ) → length w ≤ length d → write_of (read_of w).fields d ≡ leaves (Ok (length w)) (w ++ drop (length w) d)
   unfolding read_of
   read_then_write d l =
       ap (λ (f : Fields). write_of f d) (rw fine)
       ∙ write_fine (fields_of w) d fields_fine
       ∙ written_full (fields_of w) d (omega (arith, long))
-      ∙ ap (λ (k : ℕ). leaves (Words k) (filled_by k (word_at (fields_of w)) d)) long
-      ∙ ap (λ (v : List ℕ). leaves (Words (length w)) (v ++ drop (length w) d)) words_are
+      ∙ ap (λ (k : ℕ). leaves (Ok k) (filled_by k (word_at (fields_of w)) d)) long
+      ∙ ap (λ (v : List ℕ). leaves (Ok (length w)) (v ++ drop (length w) d)) words_are
 
 -- what read answers is written back
 pub writes_back : (w : List ℕ) {r : ReadFields} → r ≡ read_of w → WritesBack w r
@@ -172,7 +172,7 @@ words_of f = gather (words_length f) (λ p. word_at f p ∷ [])
 length_same : (f : Fields) → length (words_of f) ≡ words_length f
 length_same f = length_values (word_at f) (words_length f)
 
-module _ (f : Fields) (fine : fields_checked f ≡ Fine) where
+module _ (f : Fields) (fine : fields_checked f ≡ Ok tt) where
   limited : Limited (fields_shape f)
   limited = slots_limited f (fields_passed f fine).0
 
@@ -244,21 +244,21 @@ module _ (f : Fields) (fine : fields_checked f ≡ Fine) where
       (λ (e : f.marked ≡ false). ap (λ (b : Bool). cond b (mask_at (words_of f) Parked) 0) e ∙ sym (unmarked_parked e))
       (decided f.marked)
 
-  sets_back : sets_checked (game (words_of f)) ≡ Fine
+  sets_back : sets_checked (game (words_of f)) ≡ Ok tt
   unfolding game game_of
   sets_back =
       sets_ext (game (words_of f)) (game_of f) (ap (λ (s : Shape). s.states) shape_same) (ap (λ (s : Shape). s.observations) shape_same) (mask_same Start tt)
       (λ j l. mask_same (shown j) (subst (λ (s : Shape). j < s.observations) shape_same l))
       ∙ (fields_passed f fine).2
 
-  parked_fine : parked_checked (game (words_of f)) ≡ Fine
+  parked_fine : parked_checked (game (words_of f)) ≡ Ok tt
   unfolding game game_of
   parked_fine =
       parked_ext (game (words_of f)) (game_of f) (ap (λ (s : Shape). s.states) shape_same) (ap (λ (s : Shape). s.actions) shape_same) parked_back
       (λ a i l m. mask_same (move a i) (subst (λ (s : Shape). (a < s.actions) × (i < s.states)) shape_same (l, m)))
       ∙ (fields_passed f fine).3
 
-  written_fine : checked (words_of f) ≡ Fine
+  written_fine : checked (words_of f) ≡ Ok tt
   written_fine =
       let w = words_of f in
       let long : length w ≡ table_length (shape_in w) = length_same f ∙ ap table_length (sym shape_same) in
@@ -303,12 +303,12 @@ module _ (f : Fields) (fine : fields_checked f ≡ Fine) where
           moves = moved i;
         }
 
-    read_back : read_of (words_of f) ≡ record { answer = Fine; fields = f }
+    read_back : read_of (words_of f) ≡ record { answer = Ok tt; fields = f }
     read_back = sym (read_fine (words_of f) f written_fine fields_back)
 
 -- what a success of write says
 module _ (f : Fields) (d : List ℕ) (k : ℕ) where
-  done_at : (b : Bool) → b ≡ ltb (length d) (words_length f) → (written_to f d).answer ≡ Words k → (k ≡ words_length f) × ((written_to f d).left ≡ words_of f ++ drop k d)
+  done_at : (b : Bool) → b ≡ ltb (length d) (words_length f) → (written_to f d).answer ≡ Ok k → (k ≡ words_length f) × ((written_to f d).left ≡ words_of f ++ drop k d)
   done_at true b e =
       let z : ◌≡◌ {A = ℕ} 0 1 = cc (ap (λ (o : Leaves Written (List ℕ)). o.answer) (written_short f d (ltb-true (length d) (words_length f) (sym b)))) in
       absurd (omega arith)
@@ -317,17 +317,17 @@ module _ (f : Fields) (d : List ℕ) (k : ℕ) where
       let same : k ≡ words_length f = cc (ap (λ (o : Leaves Written (List ℕ)). o.answer) full) in
       (same, ap (λ (o : Leaves Written (List ℕ)). o.left) full ∙ ap (λ (n : ℕ). words_of f ++ drop n d) (sym same))
 
-  gave_at : (c : Checked) → fields_checked f ≡ c → (write_of f d).answer ≡ Words k → (fields_checked f ≡ Fine) × (k ≡ words_length f) × ((write_of f d).left ≡ words_of f ++ drop k d)
-  gave_at Fine c e =
+  gave_at : (c : Checked) → fields_checked f ≡ c → (write_of f d).answer ≡ Ok k → (fields_checked f ≡ Ok tt) × (k ≡ words_length f) × ((write_of f d).left ≡ words_of f ++ drop k d)
+  gave_at (Ok tt) c e =
       let w = write_fine f d c in
       let h = done_at (ltb (length d) (words_length f)) refl (ap (λ (o : Leaves Written (List ℕ)). o.answer) (sym w) ∙ e) in
       (c, h.0, ap (λ (o : Leaves Written (List ℕ)). o.left) w ∙ h.1)
-  gave_at (Refused n p) c e =
-      let z : ◌≡◌ {A = ℕ} 0 1 = cc (ap (λ (o : Leaves Written (List ℕ)). o.answer) (write_refused f n p d c)) in
+  gave_at (Err stop) c e =
+      let z : ◌≡◌ {A = ℕ} 0 1 = cc (ap (λ (o : Leaves Written (List ℕ)). o.answer) (write_refused f stop.reason stop.place d c)) in
       absurd (omega arith)
 
   -- write, then read what was written: the same fields
-  write_then_read : length f.shown ≡ max_observations → length f.moves ≡ max_moves → (write_of f d).answer ≡ Words k → read_of (take k (write_of f d).left) ≡ record { answer = Fine; fields = f }
+  write_then_read : length f.shown ≡ max_observations → length f.moves ≡ max_moves → (write_of f d).answer ≡ Ok k → read_of (take k (write_of f d).left) ≡ record { answer = Ok tt; fields = f }
   write_then_read shown-slots move-slots e =
       let h = gave_at (fields_checked f) refl e in
       ap (λ (v : List ℕ). read_of (take k v)) h.2

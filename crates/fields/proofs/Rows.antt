@@ -12,13 +12,14 @@ use Rattle.games.specs.Answers.{leaves}
 use Rattle.games.specs.Places.{parked_words, place_at}
 use Rattle.games.specs.Game.{has_successor}
 use Rattle.games.specs.Stations.{table_a}
-use Rattle.games.specs.declared.Written.TheVariants.{Words}
-use Rattle.games.specs.declared.Written.TheVariants as written
 use Rattle.tables.specs.Layout.{bare_word}
 use Rattle.tables.specs.Check.{limits_hold, unseen, departs, parked_checked, sets_checked}
 use Rattle.tables.specs.Fields.{fields_of, game_of}
 use Rattle.fields.specs.Write.{word_at, unused_zero, wide_at, slots_checked, masks_checked, fields_checked, written_to, write_of}
 use Rattle.tables.specs.declared.Fields.{Fields}
+use Rattle.games.specs.declared.Reason.TheVariants as reason
+use Rattle.games.specs.Answers.{refused}
+use Rattle.std.specs.Prelude.{Ok}
 
 -- station A's fields
 abbrev fields_a : Fields
@@ -33,12 +34,12 @@ unfolding write_of fields_checked slots_checked masks_checked sets_checked parke
 writes_a = refl
 
 -- 10
-pub writes_short : write_of fields_a (replicate 9 9) ≡ leaves (written.Refused 10 10) (replicate 9 9)
+pub writes_short : write_of fields_a (replicate 9 9) ≡ leaves (refused reason.ShortTable 10) (replicate 9 9)
 unfolding write_of fields_checked slots_checked masks_checked sets_checked parked_checked departs has_successor limits_hold unused_zero wide_at parked_words place_at word_at bare_word game_of unseen written_to first any all gather
 writes_short = refl
 
 -- 11: reading slot 1 is 1
-pub writes_unused : write_of (record { states = 3; actions = 2; observations = 1; start = 1; bad = 4; marked = false; parked = 0; shown = 7 ∷ 1 ∷ replicate (max_observations - 2) 0; moves = 2 ∷ 0 ∷ 4 ∷ 4 ∷ 1 ∷ 4 ∷ replicate (max_moves - 6) 0 }) (replicate 10 9) ≡ leaves (written.Refused 11 0) (replicate 10 9)
+pub writes_unused : write_of (record { states = 3; actions = 2; observations = 1; start = 1; bad = 4; marked = false; parked = 0; shown = 7 ∷ 1 ∷ replicate (max_observations - 2) 0; moves = 2 ∷ 0 ∷ 4 ∷ 4 ∷ 1 ∷ 4 ∷ replicate (max_moves - 6) 0 }) (replicate 10 9) ≡ leaves (refused reason.SlotUsed 0) (replicate 10 9)
 unfolding write_of fields_checked slots_checked masks_checked sets_checked parked_checked departs has_successor limits_hold unused_zero wide_at parked_words place_at word_at bare_word game_of unseen written_to first any all gather
 writes_unused = refl
 
@@ -51,11 +52,11 @@ unfolding write_of fields_checked slots_checked masks_checked sets_checked parke
 writes_parked = refl
 
 -- 11: the bit isn't set
-pub writes_unmarked : write_of (fields_e false 0) (replicate 7 9) ≡ leaves (written.Refused 11 0) (replicate 7 9)
+pub writes_unmarked : write_of (fields_e false 0) (replicate 7 9) ≡ leaves (refused reason.SlotUsed 0) (replicate 7 9)
 unfolding write_of fields_checked slots_checked masks_checked sets_checked parked_checked departs has_successor limits_hold unused_zero wide_at parked_words place_at word_at bare_word game_of unseen written_to first any all gather
 writes_unmarked = refl
 
 -- 19 before 10: the parked state has a successor, and there is no room
-pub writes_departing : write_of (fields_e true 1) [] ≡ leaves (written.Refused 19 0) []
+pub writes_departing : write_of (fields_e true 1) [] ≡ leaves (refused reason.ParkedMoves 0) []
 unfolding write_of fields_checked slots_checked masks_checked sets_checked parked_checked departs has_successor limits_hold unused_zero wide_at parked_words place_at word_at bare_word game_of unseen written_to first any all gather
 writes_departing = refl

@@ -4,15 +4,15 @@ use Rattle.std.specs.Prelude.{Bool, cond, not, ◌&&◌, ◌||◌, List, ℕ, �
 use Rattle.sets.specs.Bounded.{all, first, at_found, filled_by}
 use Rattle.games.specs.Answers.{unless, Leaves, leaves}
 use Rattle.games.specs.Places.{place_at, table_length}
-use Rattle.games.specs.declared.Checked.{Checked}
-use Rattle.games.specs.declared.Checked.TheVariants.{Fine, Refused}
-use Rattle.games.specs.declared.Written.{Written}
-use Rattle.games.specs.declared.Written.TheVariants.{Words}
-use Rattle.games.specs.declared.Written.TheVariants as written
+use Rattle.games.specs.Answers.{Checked}
+use Rattle.games.specs.Answers.{refused}
+use Rattle.games.specs.Answers.{Written}
 use Rattle.tables.specs.Layout.{head_word, bare_word}
 use Rattle.tables.specs.Check.{limits_hold, too_wide, sets_checked, parked_checked}
 use Rattle.tables.specs.Fields.{fields_shape, field_at, game_of}
 use Rattle.tables.specs.declared.Fields.{Fields}
+use Rattle.games.specs.declared.Reason.TheVariants as reason
+use Rattle.std.specs.Prelude.{Ok, Err}
 
 -- the mask of the word at a place from 1 up
 abbrev pub mask_of : Fields → ℕ → ℕ
@@ -48,30 +48,30 @@ wide_at f p = ltb 0 p && too_wide f.states (mask_of f p)
 -- 2 and 11
 unfoldable pub slots_checked : Fields → Checked
 slots_checked f =
-    cond (not (limits_hold (fields_shape f))) (Refused 2 0)
-    (cond (not (slots_clean f)) (Refused 11 0)
-    Fine)
+    cond (not (limits_hold (fields_shape f))) (refused reason.BadHead 0)
+    (cond (not (slots_clean f)) (refused reason.SlotUsed 0)
+    (Ok tt))
 
 -- 5
 unfoldable pub masks_checked : Fields → Checked
-masks_checked f = at_found (first (words_length f) (wide_at f)) (λ p. Refused 5 p) Fine
+masks_checked f = at_found (first (words_length f) (wide_at f)) (λ p. refused reason.StateBeyond p) (Ok tt)
 
 -- 2, 11, 5, 6, 7 and 19
 unfoldable pub fields_checked : Fields → Checked
 fields_checked f =
-    unless (slots_checked f) Refused
-    (unless (masks_checked f) Refused
-    (unless (sets_checked (game_of f)) Refused
+    unless (slots_checked f) Err
+    (unless (masks_checked f) Err
+    (unless (sets_checked (game_of f)) Err
     (parked_checked (game_of f))))
 
 -- 10, or the table's words in front
 unfoldable pub written_to : Fields → List ℕ → Leaves Written (List ℕ)
 written_to f d =
-    cond (ltb (length d) (words_length f)) (leaves (written.Refused 10 (words_length f)) d)
-    (leaves (Words (words_length f)) (filled_by (words_length f) (word_at f) d))
+    cond (ltb (length d) (words_length f)) (leaves (refused reason.ShortTable (words_length f)) d)
+    (leaves (Ok (words_length f)) (filled_by (words_length f) (word_at f) d))
 
 -- write: 2, 11, 5, 6, 7, 19, 10; a refusal leaves the buffer as it was
 unfoldable pub write_of : Fields → List ℕ → Leaves Written (List ℕ)
 write_of f d =
-    unless (fields_checked f) (λ number place. leaves (written.Refused number place) d)
+    unless (fields_checked f) (λ e. leaves (Err e) d)
     (written_to f d)

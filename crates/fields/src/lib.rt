@@ -6,51 +6,20 @@ ghost use Rattle.games.specs.Answers.{leaves};
 ghost use Rattle.games.specs.Places.{Limited};
 ghost use Rattle.tables.specs.Check.{parked_checked};
 ghost use Rattle.tables.specs.Fields.{fields_shape, game_of};
-ghost use Rattle.fields.specs.Read.{no_fields, read_of};
+ghost use Rattle.fields.specs.Read.{read_of};
 ghost use Rattle.fields.specs.RoundTrip.{WritesBack, ReadsBack};
 ghost use Rattle.fields.specs.Write.{mask_of, word_at, unused_zero, slots_checked, masks_checked, fields_checked, words_length, written_to, write_of};
 
-use games::{Checked, Place, Written};
+use games::{Place, Reason, Refusal};
 use tables::Fields;
 
-// The answer of reading, with the fields beside it.
-#[derive(Clone, Copy)]
-pub struct ReadFields {
-    pub answer: Checked,
-    pub fields: Fields,
-}
-
-fn no_fields() -> Fields
-    ensures { result ≡ no_fields }
-{
-    Fields {
-        states: 0,
-        actions: 0,
-        observations: 0,
-        start: 0,
-        bad: 0,
-        marked: false,
-        parked: 0,
-        shown: [0u32; tables::SHOWN_SLOTS],
-        moves: [0u32; tables::MOVE_SLOTS],
-    }
-}
-
 // Checks a table and reads it into fields.
-pub fn read(table: &[u32]) -> ReadFields
+pub fn read(table: &[u32]) -> Result<Fields, Refusal>
     ensures answers { result ≡ read_of table.now }
     ensures written_back { WritesBack table.now result }
 {
-    match tables::check(table) {
-        Checked::Refused(number, place) => ReadFields {
-            answer: Checked::Refused(number, place),
-            fields: no_fields(),
-        },
-        Checked::Fine => ReadFields {
-            answer: Checked::Fine,
-            fields: tables::fields_of(table),
-        },
-    }
+    tables::check(table)?;
+    Ok(tables::fields_of(table))
 }
 
 // The slots from `used` up are 0.
@@ -89,7 +58,7 @@ fn mask_at(f: Fields, p: usize) -> u32
 }
 
 // Every used mask names states below n only, or the lowest place of a word whose mask doesn't.
-fn check_masks(f: Fields) -> Checked
+fn check_masks(f: Fields) -> Result<(), Refusal>
     requires { Limited (fields_shape f) }
     ensures { result ≡ masks_checked f }
 {
@@ -98,19 +67,19 @@ fn check_masks(f: Fields) -> Checked
     let mut p: usize = 1;
     while p < words {
         if full <= mask_at(f, p) {
-            return Checked::Refused(5, p);
+            return Err(Reason::StateBeyond.at(p));
         }
         p += 1;
     }
-    Checked::Fine
+    Ok(())
 }
 
 // Refusals 2 and 11.
-fn check_slots(f: Fields) -> Checked
+fn check_slots(f: Fields) -> Result<(), Refusal>
     ensures { result ≡ slots_checked f }
 {
     if !tables::limits_hold(tables::fields_shape(f)) {
-        return Checked::Refused(2, 0);
+        return Err(Reason::BadHead.at(0));
     }
     let shown = f.shown;
     let moves = f.moves;
@@ -118,14 +87,14 @@ fn check_slots(f: Fields) -> Checked
         & (unused_zero(&shown, f.observations as usize)
             & unused_zero(&moves, (f.actions * f.states) as usize));
     if !clean {
-        return Checked::Refused(11, 0);
+        return Err(Reason::SlotUsed.at(0));
     }
-    Checked::Fine
+    Ok(())
 }
 
 // Refusal 19, by the moves, which are masks without a kind.
-fn check_departures(f: Fields) -> Checked
-    requires { Limited (fields_shape f) × (masks_checked f ≡ Checked.Fine) }
+fn check_departures(f: Fields) -> Result<(), Refusal>
+    requires { Limited (fields_shape f) × (masks_checked f ≡ Ok tt) }
     ensures { result ≡ parked_checked (game_of f) }
 {
     let moves = f.moves;
@@ -133,24 +102,18 @@ fn check_departures(f: Fields) -> Checked
 }
 
 // Refusals 2, 11, 5, 6, 7 and 19.
-fn check_fields(f: Fields) -> Checked
+fn check_fields(f: Fields) -> Result<(), Refusal>
     ensures { result ≡ fields_checked f }
 {
-    match check_slots(f) {
-        Checked::Refused(number, place) => Checked::Refused(number, place),
-        Checked::Fine => match check_masks(f) {
-            Checked::Refused(number, place) => Checked::Refused(number, place),
-            Checked::Fine => match tables::check_sets(f) {
-                Checked::Refused(number, place) => Checked::Refused(number, place),
-                Checked::Fine => check_departures(f),
-            },
-        },
-    }
+    check_slots(f)?;
+    check_masks(f)?;
+    tables::check_sets(f)?;
+    check_departures(f)
 }
 
 // The word at a place, for fields whose masks are in order.
 fn word_at(f: Fields, p: usize) -> u32
-    requires { Limited (fields_shape f) × (masks_checked f ≡ Checked.Fine) × (p < words_length f) }
+    requires { Limited (fields_shape f) × (masks_checked f ≡ Ok tt) × (p < words_length f) }
     ensures { result ≡ word_at f p }
 {
     let s = tables::fields_shape(f);
@@ -161,29 +124,27 @@ fn word_at(f: Fields, p: usize) -> u32
 }
 
 // Refusal 10, or the words in front of `out`.
-fn write_words(f: Fields, out: &mut [u32]) -> Written
-    requires { Limited (fields_shape f) × (masks_checked f ≡ Checked.Fine) }
+fn write_words(f: Fields, out: &mut [u32]) -> Result<usize, Refusal>
+    requires { Limited (fields_shape f) × (masks_checked f ≡ Ok tt) }
     ensures { leaves result out.new ≡ written_to f out.old }
 {
     let words = games::table_length(tables::fields_shape(f));
     if out.len() < words {
-        return Written::Refused(10, words);
+        return Err(Reason::ShortTable.at(words));
     }
     let mut p: usize = 0;
     while p < words {
         out[p] = word_at(f, p);
         p += 1;
     }
-    Written::Words(words)
+    Ok(words)
 }
 
 // Writes the fields as a table's words into the front of `out`; a refusal leaves `out` as it was.
-pub fn write(f: Fields, out: &mut [u32]) -> Written
+pub fn write(f: Fields, out: &mut [u32]) -> Result<usize, Refusal>
     ensures answers { leaves result out.new ≡ write_of f out.old }
     ensures read_back { ReadsBack f result out.new }
 {
-    match check_fields(f) {
-        Checked::Refused(number, place) => Written::Refused(number, place),
-        Checked::Fine => write_words(f, out),
-    }
+    check_fields(f)?;
+    write_words(f, out)
 }

@@ -1,30 +1,33 @@
--- What a check that answers `Fine` tells of its parts.
+-- What a check that answers `Ok` tells of its parts.
 -- Assumes nothing.
 use mathlib.Core.Path.{◌≡◌, refl}
 use mathlib.Core.Bool.{Bool, true, false, cond}
 use Prim.Native.Nat.{ℕ}
-use native.Mathlib.Omega.{arith}
+use Rattle.std.specs.Prelude.{Ok, Err}
 use Rattle.sets.specs.Bounded.{Found, nothing, found, at_found}
-use Rattle.games.specs.Answers.{unless}
-use Rattle.games.specs.declared.Checked.{Checked}
-use Rattle.games.specs.declared.Checked.TheVariants.{Fine, Refused}
+use Rattle.games.specs.Answers.{Checked, refused, unless}
+use Rattle.games.specs.declared.Reason.{Reason}
+use Rattle.games.specs.declared.Refusal.{Refusal}
 
--- a refusal is no `Fine`
-pub never : {A : Type 0} (k p : ℕ) → Refused k p ≡ Fine → A
-never k p e = let z : ◌≡◌ {A = ℕ} 0 1 = cc in absurd (omega arith)
+-- a refusal is not `Ok`
+pub never_err : {A : Type 0} (r : Refusal) → ◌≡◌ {A = Checked} (Err r) (Ok tt) → A
+never_err r e = cc
 
-pub then_fine : (c d : Checked) → unless c Refused d ≡ Fine → (c ≡ Fine) × (d ≡ Fine)
-then_fine Fine d e = (refl, e)
-then_fine (Refused k p) d e = never k p e
+pub never : {A : Type 0} (k : Reason) (p : ℕ) → ◌≡◌ {A = Checked} (refused k p) (Ok tt) → A
+never k p e = cc
 
-pub cond_fine : (b : Bool) (c : Checked) (k p : ℕ) → cond b c (Refused k p) ≡ Fine → (b ≡ true) × (c ≡ Fine)
+pub then_fine : (c d : Checked) → unless c Err d ≡ Ok tt → (c ≡ Ok tt) × (d ≡ Ok tt)
+then_fine (Ok tt) d e = (refl, e)
+then_fine (Err r) d e = never_err r e
+
+pub cond_fine : (b : Bool) (c : Checked) (k : Reason) (p : ℕ) → cond b c (refused k p) ≡ Ok tt → (b ≡ true) × (c ≡ Ok tt)
 cond_fine true c k p e = (refl, e)
 cond_fine false c k p e = never k p e
 
-pub cond_passed : (b : Bool) (k p : ℕ) (c : Checked) → cond b (Refused k p) c ≡ Fine → (b ≡ false) × (c ≡ Fine)
+pub cond_passed : (b : Bool) (k : Reason) (p : ℕ) (c : Checked) → cond b (refused k p) c ≡ Ok tt → (b ≡ false) × (c ≡ Ok tt)
 cond_passed true k p c e = never k p e
 cond_passed false k p c e = (refl, e)
 
-pub found_none : (f : Found) (r : ℕ → Checked) → ((i : ℕ) → r i ≡ Fine → ⊥) → at_found f r Fine ≡ Fine → f ≡ nothing
+pub found_none : (f : Found) (r : ℕ → Checked) → ((i : ℕ) → r i ≡ Ok tt → ⊥) → at_found f r (Ok tt) ≡ Ok tt → f ≡ nothing
 found_none nothing r h e = refl
 found_none (found i) r h e = absurd (h i e)

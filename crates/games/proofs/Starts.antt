@@ -11,8 +11,8 @@ use Rattle.sets.proofs.Bounded.{all_at, all_intro, all_fails, all_refuted, all_e
 use Rattle.sets.proofs.Mask.{member_and, common_lt_left}
 use Rattle.games.specs.Game.{Game, Accepted, Shows}
 use Rattle.games.specs.Verdict.{start_sets, start_set, starts_in}
+
 -- the stations come first, so that a wrong definition is refused by the station that it breaks
-use Rattle.games.proofs.Stations.{every_station}
 
 module _ (g : Game) where
   pub start_below : Accepted g → (o : ℕ) → start_set g o < 2 ^ g.states

@@ -1,4 +1,4 @@
-// What document 01's tables and cards have in common: its four columns of numbers, the answers of checks and writers, its limits, the
+// What document 01's tables and cards have in common: its four columns of numbers, refusals, its limits, the
 // fields of a word, the places of a table's words and the lengths of a card's parts.
 // Limits, bit positions and kinds stand here alone, and for the definitions in specs/Format.antt.
 #![tactic(auto)]
@@ -8,32 +8,82 @@ ghost use Rattle.games.specs.Format.{within as is_within, low_values, number_val
 ghost use Rattle.games.specs.Fields.{low_field, number_field, action_field, word as word_of};
 ghost use Rattle.games.specs.Places.{max_place, shape_of, place_at, place_of, parked_words, shown_place, moves_place, table_length};
 ghost use Rattle.games.specs.Words.{front_length, part_length, card_length};
+ghost use Rattle.games.specs.Answers.{number_of};
 
 // Document 01's four columns: state, action, reading and cell numbers. One can't be passed as another.
-#[derive(Clone, Copy)]
+#[derive(Clone, Copy, PartialEq, Eq, Debug)]
 pub struct State(pub u32);
 
-#[derive(Clone, Copy)]
+#[derive(Clone, Copy, PartialEq, Eq, Debug)]
 pub struct Action(pub u32);
 
-#[derive(Clone, Copy)]
+#[derive(Clone, Copy, PartialEq, Eq, Debug)]
 pub struct Observation(pub u32);
 
-#[derive(Clone, Copy)]
+#[derive(Clone, Copy, PartialEq, Eq, Debug)]
 pub struct Cell(pub u32);
 
-// What a check answers: fine, or a refusal's number and place.
-#[derive(Clone, Copy)]
-pub enum Checked {
-    Fine,
-    Refused(u32, usize),
+// Why an entry refuses. The number is what callers and people see; docs/ENTRIES.md says what each means and what to do.
+#[derive(Clone, Copy, PartialEq, Eq, Debug)]
+pub enum Reason {
+    // of a table: no word; its head; its length; a word's kind, spare bits or index; a mask with a state from n up
+    NoWords = 1,
+    BadHead = 2,
+    BadLength = 3,
+    Misplaced = 4,
+    StateBeyond = 5,
+    // no start state; a state that shows no observation
+    NoStart = 6,
+    Unseen = 7,
+    // too little work; too little room for a card or a text, for a table
+    ShortWork = 8,
+    ShortRoom = 9,
+    ShortTable = 10,
+    // an unused slot of fields that is not 0
+    SlotUsed = 11,
+    // a cell or an observation that a card doesn't have; words that are no card; an observation that cannot occur
+    NumberBeyond = 12,
+    NoCard = 13,
+    CannotOccur = 14,
+    // too little room for a list
+    ShortList = 15,
+    // a table and a card that don't go together
+    Disagree = 16,
+    // more rounds than the plain judge asks
+    RoundsBeyond = 17,
+    // a card that is not safe for a table
+    NotSafe = 18,
+    // a parked state with a successor
+    ParkedMoves = 19,
+    // a cell that no sequence of observations leads to
+    IdleCell = 20,
+    // a text that departs from its profile
+    Departs = 21,
 }
 
-// What a writer answers: how many words stand in front of the buffer, or a refusal's number and place.
-#[derive(Clone, Copy)]
-pub enum Written {
-    Words(usize),
-    Refused(u32, usize),
+impl Reason {
+    pub fn number(self) -> u32
+        ensures { result ≡ number_of self }
+    {
+        self as u32
+    }
+
+    // The refusal for this reason, at a place.
+    pub fn at(self, place: usize) -> Refusal
+        ensures { result ≡ record { reason = self; place = place } }
+    {
+        Refusal {
+            reason: self,
+            place,
+        }
+    }
+}
+
+// A refusal: why, and at which word, state, cell or byte.
+#[derive(Clone, Copy, PartialEq, Eq, Debug)]
+pub struct Refusal {
+    pub reason: Reason,
+    pub place: usize,
 }
 
 // The most states, actions and observations.

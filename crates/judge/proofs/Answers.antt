@@ -10,22 +10,25 @@ use Rattle.sets.specs.Mask.{single}
 use Rattle.games.specs.Step.{good}
 use Rattle.games.specs.Words.{game}
 use Rattle.tables.specs.Check.{too_wide, checked}
-use Rattle.games.specs.declared.Checked.TheVariants.{Fine, Refused as Stopped}
+use Rattle.games.specs.Answers.{refused}
 use Rattle.judge.specs.Judge.{most_rounds, answered, judged}
 use Rattle.judge.specs.declared.Judged.TheVariants.{Good, NotGood, Refused}
+use Rattle.games.specs.declared.Reason.{Reason}
+use Rattle.games.specs.declared.Reason.TheVariants as reason
+use Rattle.std.specs.Prelude.{Ok, Err}
 
 module _ (w : List ℕ) (s k : ℕ) where
   -- the table checks come first
-  pub table_refused : (number place : ℕ) → checked w ≡ Stopped number place → Refused number place ≡ judged w s k
+  pub table_refused : (number : Reason) (place : ℕ) → checked w ≡ Stopped number place → refused number place ≡ judged w s k
   unfolding judged
   table_refused number place e = rw e
 
-  pub table_fine : checked w ≡ Fine → answered w s k ≡ judged w s k
+  pub table_fine : checked w ≡ Ok tt → answered w s k ≡ judged w s k
   unfolding judged
   table_fine e = rw e
 
   -- then 17
-  pub too_many_rounds : most_rounds < k → Refused 17 k ≡ answered w s k
+  pub too_many_rounds : most_rounds < k → refused reason.RoundsBeyond k ≡ answered w s k
   unfolding answered
   too_many_rounds l = rw (lt-ltb most_rounds k l)
 
@@ -36,7 +39,7 @@ module _ (w : List ℕ) (s k : ℕ) where
     wide e = ap (λ (m : ℕ). too_wide m s) (sym states) ∙ e
 
     -- then 5
-    pub names_no_state : v ≤ s → Refused 5 (length w) ≡ answered w s k
+    pub names_no_state : v ≤ s → refused reason.StateBeyond (length w) ≡ answered w s k
     unfolding answered
     names_no_state l = rw (le-ltb most_rounds k few, wide (le-leb (single n) s (rw first at l)))
 

@@ -7,24 +7,16 @@ ghost use Rattle.games.specs.Words.{game};
 ghost use Rattle.tables.specs.Check.{checked};
 ghost use Rattle.judge.specs.Judge.{answered, judged};
 
-use games::{Action, Checked, Observation};
+use games::{Action, Observation, Reason, Refusal};
 use walk::Walked;
 
 // Document 01: k up to 4.
 const MOST_ROUNDS: u32 = 4;
 
-#[derive(Clone, Copy)]
-pub enum Judged {
-    Good,
-    NotGood,
-    // number and place
-    Refused(u32, usize),
-}
-
 // The set is good for k rounds: one action meets the step.
 #[cycle(action_turn_observation_turn)]
 fn action_turn(table: &[u32], s: u32, k: u32) -> bool
-    requires { checked table.now ≡ Checked.Fine }
+    requires { checked table.now ≡ Ok tt }
     ensures { result ≡ good (game table.now) k s }
 {
     if k == 0 {
@@ -50,7 +42,7 @@ fn action_turn(table: &[u32], s: u32, k: u32) -> bool
 // The action is enabled at all members and, for every observation, the successors that show it are good for k rounds.
 #[cycle(action_turn_observation_turn)]
 fn observation_turn(table: &[u32], s: u32, a: Action, k: u32) -> bool
-    requires { (checked table.now ≡ Checked.Fine) × (a.0 < (game table.now).actions) }
+    requires { (checked table.now ≡ Ok tt) × (a.0 < (game table.now).actions) }
     ensures { result ≡ meets (game table.now) (good (game table.now) k) s a.0 }
 {
     let Walked::Post(u, _) = walk::walk(table, s, a) else {
@@ -72,29 +64,23 @@ fn observation_turn(table: &[u32], s: u32, a: Action, k: u32) -> bool
 }
 
 // Refusals 17 and 5, else the answer.
-fn answer(table: &[u32], mask: u32, k: u32) -> Judged
-    requires { checked table.now ≡ Checked.Fine }
+fn answer(table: &[u32], mask: u32, k: u32) -> Result<bool, Refusal>
+    requires { checked table.now ≡ Ok tt }
     ensures { result ≡ answered table.now mask k }
 {
     if MOST_ROUNDS < k {
-        return Judged::Refused(17, k as usize);
+        return Err(Reason::RoundsBeyond.at(k as usize));
     }
     if sets::single(tables::states(table)) <= mask {
-        return Judged::Refused(5, table.len());
+        return Err(Reason::StateBeyond.at(table.len()));
     }
-    if action_turn(table, mask, k) {
-        Judged::Good
-    } else {
-        Judged::NotGood
-    }
+    Ok(action_turn(table, mask, k))
 }
 
 // Is the set good for k rounds? The table checks come first.
-pub fn judge(table: &[u32], mask: u32, k: u32) -> Judged
+pub fn judge(table: &[u32], mask: u32, k: u32) -> Result<bool, Refusal>
     ensures { result ≡ judged table.now mask k }
 {
-    match tables::check(table) {
-        Checked::Refused(number, place) => Judged::Refused(number, place),
-        Checked::Fine => answer(table, mask, k),
-    }
+    tables::check(table)?;
+    answer(table, mask, k)
 }

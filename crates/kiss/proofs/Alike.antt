@@ -13,7 +13,6 @@ use Rattle.sets.proofs.Logic.{lt_or_le, or_left, or_right, true_not}
 use Rattle.sets.proofs.Bounded.{any_intro, first_nothing, first_none}
 use Rattle.games.specs.Format.{max_sets}
 use Rattle.games.specs.Automaton.{Automaton, no_cell}
-use Rattle.games.specs.declared.Checked.TheVariants.{Fine}
 use Rattle.cards.specs.declared.Move.{Move}
 use Rattle.cards.specs.declared.Move.TheVariants.{Entered, Refused}
 use Rattle.cards.specs.Card.{automaton, card_cells, card_actions, card_observations, checked, Named, Fitting}
@@ -26,6 +25,7 @@ use Rattle.trimming.proofs.Reaching.{first_names_lem, next_names_lem}
 use Rattle.kiss.specs.Idle.{Led, at_first, later, led, idle}
 use Rattle.kiss.specs.Legible.{named, legible, legible_card, empty_sets, emptied}
 use Rattle.kiss.proofs.Idling.{led_sound, led_complete}
+use Rattle.std.specs.Prelude.{Ok, Err}
 
 -- ---- the cells that lines enter
 
@@ -81,7 +81,7 @@ module _ (A : Automaton) (o : ℕ) where
 
 -- ---- they run alike
 
-module _ (w : List ℕ) (e : checked w ≡ Fine) where
+module _ (w : List ℕ) (e : checked w ≡ Ok tt) where
   abbrev A : Automaton
   A = automaton w
 
@@ -97,7 +97,7 @@ module _ (w : List ℕ) (e : checked w ≡ Fine) where
   fits : Fitting (legible A o) (card_actions w) o
   fits = legible_fits A o (card_actions w) (fitting w e)
 
-  pub legible_checked : checked (legible_card w) ≡ Fine
+  pub legible_checked : checked (legible_card w) ≡ Ok tt
   unfolding legible_card
   legible_checked = written_checked (legible A o) (card_actions w) o fits
 
@@ -165,7 +165,7 @@ module _ (w : List ℕ) (e : checked w ≡ Fine) where
   moved_same : (r : Move) (j : ℕ) → moved (legible_card w) r j ≡ moved w r j
   unfolding moved
   moved_same (Entered c a) j = stepped_same c.0 j
-  moved_same (Refused n p) j = refl
+  moved_same (Err stop) j = refl
 
   ran_from_same : (h : List ℕ) (r s : Move) → r ≡ s → ran_from (legible_card w) r h ≡ ran_from w s h
   unfolding ran_from

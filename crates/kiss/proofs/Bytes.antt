@@ -14,7 +14,6 @@ use Rattle.sets.specs.Bounded.{gather}
 use Rattle.sets.proofs.Logic.{decided, and_left, and_right}
 use Rattle.games.specs.Format.{max_actions, max_observations, max_cells}
 use Rattle.games.specs.Automaton.{Automaton, no_cell}
-use Rattle.games.specs.declared.Checked.TheVariants.{Fine}
 use Rattle.cards.specs.Card.{automaton, card_actions, card_observations, checked, Fitting}
 use Rattle.cards.proofs.Checked.{fitting}
 use Rattle.cards.proofs.Running.{named_cell}
@@ -24,6 +23,7 @@ use Rattle.form.proofs.Spelled.{Small, small_append, small_digits}
 use Rattle.kiss.specs.Text.{bits, cell_name, state_name, target, newline, line_text, slot_text, state_text, head_text, machine_text, kiss_text}
 use Rattle.kiss.proofs.Widths.{bits_enough, bits_few}
 use Rattle.kiss.proofs.Machines.{target_named, slot_none, slot_line}
+use Rattle.std.specs.Prelude.{Ok}
 
 -- the same as a test, for words that are written out
 abbrev pub each_byte : List ℕ → Bool
@@ -111,6 +111,6 @@ module _ (A : Automaton) (a o : ℕ) (fits : Fitting A a o) where
       (gather_small (suc A.size) (state_text A a o) (λ q l. gather_small o (slot_text A a o q) (λ j k. slot_small q j (omega arith) k))))
       (bytes_small (bytes ".e\n") refl)
 
-pub text_small : (w : List ℕ) → checked w ≡ Fine → Small (kiss_text w)
+pub text_small : (w : List ℕ) → checked w ≡ Ok tt → Small (kiss_text w)
 unfolding kiss_text
 text_small w e = machine_small (automaton w) (card_actions w) (card_observations w) (fitting w e)

@@ -11,7 +11,6 @@ use Rattle.sets.specs.Bounded.{gather}
 use Rattle.sets.proofs.Fills.{gather_ext}
 use Rattle.games.specs.Automaton.{Automaton, no_cell}
 use Rattle.games.specs.Words.{card_words}
-use Rattle.games.specs.declared.Checked.TheVariants.{Fine}
 use Rattle.cards.specs.Card.{automaton, card_actions, card_observations, checked, Fitting}
 use Rattle.cards.proofs.Checked.{fitting}
 use Rattle.cards.proofs.Running.{named_cell}
@@ -29,6 +28,7 @@ use Rattle.kiss.proofs.Said.{same_or_not, free_blank, told_blank, keeps_blank}
 use Rattle.kiss.proofs.Head.{head_in, head_out, head_live}
 use Rattle.kiss.proofs.Bytes.{text_small}
 use Rattle.kiss.proofs.Lines.{slot, closing, MachineIs, lines_in, lines_out, lines_live}
+use Rattle.std.specs.Prelude.{Ok}
 
 -- ---- the text of a machine
 
@@ -103,14 +103,14 @@ module _ (A : Automaton) (a o : ℕ) (F : Fitting A a o) where
       (omega (arith, ap (λ (x : ℕ). suc x * o) size)) (omega arith))))
 
 -- the text of a card, and what it says of it
-pub profile_in : (w : List ℕ) → checked w ≡ Fine
+pub profile_in : (w : List ℕ) → checked w ≡ Ok tt
     → Has profile (kiss_text w ++ (ending ∷ [])) (card_words (legible (automaton w) (card_observations w)) (card_actions w) (card_observations w))
 unfolding kiss_text
 profile_in w e = machine_in (automaton w) (card_actions w) (card_observations w) (fitting w e)
 
 -- a text of the profile is that of a card, whose words it says
 pub record TextIs (t us : List ℕ) : Type 0 where
-  pub fine : checked us ≡ Fine
+  pub fine : checked us ≡ Ok tt
   pub text : t ≡ kiss_text us ++ (ending ∷ [])
 
 -- what is written of a machine is a card, with the machine's text
@@ -155,7 +155,7 @@ profile_live =
 -- ---- reading and writing
 
 -- reading what is written of a card: the words of what its text says
-pub read_written : (w : List ℕ) → checked w ≡ Fine
+pub read_written : (w : List ℕ) → checked w ≡ Ok tt
     → reading (kiss_text w) ≡ read (card_words (legible (automaton w) (card_observations w)) (card_actions w) (card_observations w))
 unfolding reading
 read_written w e =
@@ -163,7 +163,7 @@ read_written w e =
     (profile_in w e) (spells_self (kiss_text w))
 
 -- what is read is a card, and was written of it
-pub written_read : (t x : List ℕ) → Small t → reading t ≡ read x → (checked x ≡ Fine) × (t ≡ kiss_text x)
+pub written_read : (t x : List ℕ) → Small t → reading t ≡ read x → (checked x ≡ Ok tt) × (t ≡ kiss_text x)
 unfolding reading
 written_read t x s e =
     let k = taken profile (byte_at t) 0 x e in
@@ -180,7 +180,7 @@ not_both : (t us : List ℕ) (q : ℕ) → reading t ≡ read us → reading t �
 not_both t us q f g = let z : ◌≡◌ {A = ℕ} 0 1 = cc in omega arith
 
 -- so a card's text with one byte changed is refused at that byte or later, if at all
-pub change_refused : (w : List ℕ) (i b q : ℕ) → checked w ≡ Fine → reading (set (kiss_text w) i b) ≡ departs q → i ≤ q
+pub change_refused : (w : List ℕ) (i b q : ℕ) → checked w ≡ Ok tt → reading (set (kiss_text w) i b) ≡ departs q → i ≤ q
 change_refused w i b q v e =
     let h : i < suc q = not-le (suc q) i (λ l. not_both (kiss_text w) _ q (read_written w v) (change_later (kiss_text w) i b q e (omega arith))) in
     omega arith
@@ -188,7 +188,7 @@ change_refused w i b q v e =
 -- where a text departs: some card's text begins with the bytes before the place, and goes on there
 pub record Place (t : List ℕ) (q : ℕ) : Type 0 where
   pub card : List ℕ
-  pub fine : checked card ≡ Fine
+  pub fine : checked card ≡ Ok tt
   pub front : List ℕ
   pub next : ℕ
   pub back : List ℕ
@@ -235,6 +235,6 @@ place_within t q e =
     omega (arith, d.place, simp length-append at (ap length d.given))
 
 -- and none goes on as the text does there
-pub no_further : (t w : List ℕ) (q : ℕ) → checked w ≡ Fine → reading t ≡ departs q → ((j : ℕ) → j ≤ q → byte_at t j ≡ byte_at (kiss_text w) j) → ⊥
+pub no_further : (t w : List ℕ) (q : ℕ) → checked w ≡ Ok tt → reading t ≡ departs q → ((j : ℕ) → j ≤ q → byte_at t j ≡ byte_at (kiss_text w) j) → ⊥
 unfolding reading
 no_further t w q v e a = not_both (kiss_text w) _ q (read_written w v) (local profile (byte_at t) (byte_at (kiss_text w)) 0 q e a)

@@ -13,7 +13,6 @@ use Rattle.sets.proofs.Logic.{true_not, false_not, and_left, and_right, and_intr
 use Rattle.sets.proofs.Bounded.{first_ext, first_is, first_found, any_intro, any_found, any_refuted, first_stop}
 use Rattle.games.specs.Format.{max_cells}
 use Rattle.games.specs.Automaton.{Automaton, no_cell}
-use Rattle.games.specs.declared.Checked.TheVariants.{Fine}
 use Rattle.cards.specs.Card.{automaton, card_cells, card_observations, checked}
 use Rattle.cards.proofs.Checked.{fitting}
 use Rattle.cards.proofs.Running.{size_of}
@@ -23,6 +22,7 @@ use Rattle.trimming.proofs.Reaching.{all_found, just_found}
 use Rattle.trimmer.specs.Halves.{lower_half, marked}
 use Rattle.trimmer.specs.Marking.{Marked}
 use Rattle.kiss.specs.Idle.{Led, at_first, later, led, idle}
+use Rattle.std.specs.Prelude.{Ok}
 
 -- ---- whether a first word names a cell
 
@@ -48,7 +48,7 @@ module _ (A : Automaton) (o : ℕ) where
 
 -- ---- as the code has it
 
-module _ (w : List ℕ) (e : checked w ≡ Fine) where
+module _ (w : List ℕ) (e : checked w ≡ Ok tt) where
   abbrev A : Automaton
   A = automaton w
 

@@ -12,7 +12,6 @@ use Rattle.sets.specs.Bounded.{found}
 use Rattle.sets.proofs.Logic.{lt_or_le, clash}
 use Rattle.sets.proofs.Bounded.{first_found}
 use Rattle.games.specs.Automaton.{Automaton, no_cell}
-use Rattle.games.specs.declared.Checked.TheVariants.{Fine}
 use Rattle.cards.specs.declared.Move.{Move}
 use Rattle.cards.specs.declared.Move.TheVariants.{Entered, Refused}
 use Rattle.cards.specs.Card.{automaton, card_cells, card_observations, checked, Named}
@@ -22,8 +21,9 @@ use Rattle.cards.proofs.Running.{size_of, cannot_occur, enters_cell, begun_late,
 use Rattle.cards.proofs.Runs.{moved_entered, ran_one, ran_more, ran_none, not_entered, same_entered}
 use Rattle.kiss.specs.Idle.{Led, at_first, later, led, idle, LowestIdle}
 use Rattle.kiss.proofs.Idling.{led_sound, led_complete}
+use Rattle.std.specs.Prelude.{Ok, Err}
 
-module _ (w : List ℕ) (e : checked w ≡ Fine) where
+module _ (w : List ℕ) (e : checked w ≡ Ok tt) where
   abbrev A : Automaton
   A = automaton w
 
@@ -97,7 +97,7 @@ module _ (w : List ℕ) (e : checked w ≡ Fine) where
   moved_led : (m : Move) (j : ℕ) → Leads m → Leads (moved w m j)
   unfolding moved
   moved_led (Entered d b) j h c a f = stepped_led d.0 j (h d.0 b.0 refl) c a f
-  moved_led (Refused n p) j h c a f = h c a f
+  moved_led (Err stop) j h c a f = h c a f
 
   ran_from_led : (h : List ℕ) (m : Move) → Leads m → Leads (ran_from w m h)
   unfolding ran_from

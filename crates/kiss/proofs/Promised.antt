@@ -7,7 +7,6 @@ use native.Mathlib.Omega.{arith}
 use lib.ListN.{take, set}
 use lib.Seq.{take_at}
 use Rattle.sets.specs.Bounded.{nothing}
-use Rattle.games.specs.declared.Checked.TheVariants.{Fine}
 use Rattle.cards.specs.Card.{checked}
 use Rattle.cards.specs.Run.{ran}
 use Rattle.form.specs.Form.{ending, read, departs}
@@ -20,21 +19,22 @@ use Rattle.kiss.specs.Promise.{ReadsBack, Says, Departing, OfText}
 use Rattle.kiss.proofs.Bytes.{text_small}
 use Rattle.kiss.proofs.Alike.{legible_checked, ran_same, legible_emptied, legible_idle}
 use Rattle.kiss.proofs.Final.{read_written, written_read, departure, place_within, no_further, change_later, change_refused}
+use Rattle.std.specs.Prelude.{Ok}
 
 same_read : (x y : List ℕ) → read x ≡ read y → x ≡ y
 same_read x y e = cc
 
-read_legible : (w : List ℕ) → checked w ≡ Fine → reading (kiss_text w) ≡ read (legible_card w)
+read_legible : (w : List ℕ) → checked w ≡ Ok tt → reading (kiss_text w) ≡ read (legible_card w)
 unfolding legible_card
 read_legible w e = read_written w e
 
-pub reads_back : (w : List ℕ) → checked w ≡ Fine → idle w ≡ nothing → ReadsBack w
+pub reads_back : (w : List ℕ) → checked w ≡ Ok tt → idle w ≡ nothing → ReadsBack w
 reads_back w e i =
     let is = legible_emptied w e i in
     let back : reading (kiss_text w) ≡ read (emptied w) = read_legible w e ∙ ap read is in
     record {
       reads_back = back;
-      right = subst (λ (x : List ℕ). checked x ≡ Fine) is (legible_checked w e);
+      right = subst (λ (x : List ℕ). checked x ≡ Ok tt) is (legible_checked w e);
       no_idle = subst (λ (x : List ℕ). idle x ≡ nothing) is (legible_idle w e i);
       same_runs = λ h. subst (λ (x : List ℕ). ran x h ≡ ran w h) is (ran_same w e h);
       same_text = sym (written_read (kiss_text w) (emptied w) (text_small w e) back).1;

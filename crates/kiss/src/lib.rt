@@ -5,7 +5,6 @@
 ghost use Rattle.std.specs.Prelude.{◌≡◌, false, not, ◌≤◌, length};
 ghost use Rattle.sets.specs.Bounded.{first, or_else};
 ghost use Rattle.games.specs.Format.{max_actions, max_cells};
-ghost use Rattle.games.specs.declared.Checked.TheVariants.{Fine};
 ghost use Rattle.cards.specs.Card.{automaton, card_cells, card_observations, checked};
 ghost use Rattle.trimming.specs.Trim.{no_first};
 ghost use Rattle.trimmer.specs.Halves.{marked};
@@ -30,7 +29,7 @@ pub fn bits(n: u32) -> u32
 
 // Whether no first word names a cell.
 fn no_first(card: &[u32]) -> bool
-    requires { checked card.now ≡ Fine }
+    requires { checked card.now ≡ Ok tt }
     ensures { result ≡ no_first (automaton card.now) (card_observations card.now) }
 {
     let o = cards::observations(card);
@@ -61,7 +60,7 @@ fn lowest_unmarked(marks: &[u32]) -> u32
 
 // The lowest cell that is not reached, where a first word names a cell; a mark for each cell is lent.
 fn lowest_unreached(card: &[u32], marks: &mut [u32]) -> u32
-    requires { (checked card.now ≡ Fine) × (length marks.old ≡ card_cells card.now)
+    requires { (checked card.now ≡ Ok tt) × (length marks.old ≡ card_cells card.now)
         × (no_first (automaton card.now) (card_observations card.now) ≡ false) }
     ensures { result ≡ or_else (idle card.now) (card_cells card.now) }
 {
@@ -71,7 +70,7 @@ fn lowest_unreached(card: &[u32], marks: &mut [u32]) -> u32
 
 // The lowest cell that no sequence of observations leads to; the number of cells where there is none.
 fn idle_by(card: &[u32], marks: &mut [u32]) -> u32
-    requires { (checked card.now ≡ Fine) × (max_cells ≤ length marks.old) }
+    requires { (checked card.now ≡ Ok tt) × (max_cells ≤ length marks.old) }
     ensures { result ≡ or_else (idle card.now) (card_cells card.now) }
 {
     if no_first(card) {
@@ -83,7 +82,7 @@ fn idle_by(card: &[u32], marks: &mut [u32]) -> u32
 
 // The same with the marks on the stack.
 pub fn lowest_idle(card: &[u32]) -> u32
-    requires { checked card.now ≡ Fine }
+    requires { checked card.now ≡ Ok tt }
     ensures { result ≡ or_else (idle card.now) (card_cells card.now) }
 {
     let mut marks = [0u32; games::MAX_CELLS as usize];

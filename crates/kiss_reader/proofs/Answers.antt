@@ -28,6 +28,8 @@ use Rattle.kiss_reader.specs.declared.Carded.{Carded}
 use Rattle.kiss_reader.specs.Read.{by_room, of_card, told, read_into}
 use Rattle.kiss_reader.specs.Reading.{HeadRead, all_lines, LinesRead, CardRead}
 use Rattle.kiss_reader.proofs.Lines.{says_long}
+use Rattle.games.specs.declared.Reason.TheVariants as reason
+use Rattle.games.specs.Answers.{refused}
 
 -- ---- what the text reads as
 
@@ -76,15 +78,15 @@ module _ (t : List ℕ) (h : Head) (g : HeadRead t h) where
 -- ---- the answer for a card
 
 module _ (w d : List ℕ) where
-  pub tell_idle : (c : ℕ) → idle w ≡ found c → leaves (Refused 20 c) d ≡ of_card w d
+  pub tell_idle : (c : ℕ) → idle w ≡ found c → leaves (refused reason.IdleCell c) d ≡ of_card w d
   unfolding of_card
-  tell_idle c e = sym (ap (λ (x : Found). at_found x (λ i. leaves (Refused 20 i) d) (by_room w d)) e)
+  tell_idle c e = sym (ap (λ (x : Found). at_found x (λ i. leaves (refused reason.IdleCell i) d) (by_room w d)) e)
 
   of_room : idle w ≡ nothing → of_card w d ≡ by_room w d
   unfolding of_card
-  of_room e = ap (λ (x : Found). at_found x (λ i. leaves (Refused 20 i) d) (by_room w d)) e
+  of_room e = ap (λ (x : Found). at_found x (λ i. leaves (refused reason.IdleCell i) d) (by_room w d)) e
 
-  pub tell_short : idle w ≡ nothing → length d < length w → leaves (Refused 9 (length w)) d ≡ of_card w d
+  pub tell_short : idle w ≡ nothing → length d < length w → leaves (refused reason.ShortRoom (length w)) d ≡ of_card w d
   unfolding by_room
   tell_short e l = sym (of_room e ∙ rw (lt-ltb (length d) (length w) l))
 
@@ -97,7 +99,7 @@ module _ (w d : List ℕ) where
 -- ---- the answer for a text
 
 module _ (t d : List ℕ) (r : Carded) (w : List ℕ) (k : CardRead t r w) where
-  pub read_departs : r.cursor.ok ≡ false → leaves (Refused 21 r.cursor.at) d ≡ read_into t d
+  pub read_departs : r.cursor.ok ≡ false → leaves (refused reason.Departs r.cursor.at) d ≡ read_into t d
   unfolding read_into told
   read_departs e = sym (ap (λ (x : Outcome). told x d) (k.reads ∙ run_stopped (stop (take r.words w)) (byte_at t) r.cursor e))
 

@@ -22,6 +22,9 @@ use Rattle.kiss.proofs.Promised.{of_text}
 use Rattle.kiss_reader.specs.Read.{by_room, of_card, told, read_into, Reads}
 use Rattle.kiss_reader.specs.declared.Answer.{Answer}
 use Rattle.kiss_reader.specs.declared.Answer.TheVariants.{Read, Refused}
+use Rattle.games.specs.declared.Reason.{Reason}
+use Rattle.games.specs.declared.Reason.TheVariants as reason
+use Rattle.games.specs.Answers.{refused}
 
 -- a text whose elements are bytes
 pub small_text : (t : List ℕ) → ((i : ℕ) → get_or t i 0 < 256) → Small t
@@ -29,17 +32,17 @@ unfolding Small
 small_text [] f = tt
 small_text (b ∷ t) f = (f 0, small_text t (λ i. f (suc i)))
 
-other : {X : Type 0} (n p m k : ℕ) → Refused n p ≡ Read m k → X
+other : {X : Type 0} (n : Reason) (p m k : ℕ) → refused n p ≡ Read m k → X
 other n p m k e = let z : ◌≡◌ {A = ℕ} 0 1 = cc in absurd (omega arith)
 
-same_refusal : (n p m q : ℕ) → Refused n p ≡ Refused m q → (n ≡ m) × (p ≡ q)
+same_refusal : (n : Reason) (p m q : ℕ) → refused n p ≡ refused m q → (n ≡ m) × (p ≡ q)
 same_refusal n p m q e = (cc, cc)
 
 same_count : (n k m l : ℕ) → Read n k ≡ Read m l → n ≡ m
 same_count n k m l e = cc
 
 module _ (t d : List ℕ) (s : Small t) (r : Answer) (left : List ℕ) where
-  refused_reads : (n p : ℕ) → r ≡ Refused n p → (n ≡ 21 → reading t ≡ departs p) → (n ≡ 20 → (x : List ℕ) × (reading t ≡ read x) × LowestIdle x p) → Reads t r left
+  refused_reads : (n : Reason) (p : ℕ) → r ≡ refused n p → (n ≡ 21 → reading t ≡ departs p) → (n ≡ 20 → (x : List ℕ) × (reading t ≡ read x) × LowestIdle x p) → Reads t r left
   refused_reads n p e f g =
       record {
         promise = of_text t s;
@@ -51,7 +54,7 @@ module _ (t d : List ℕ) (s : Small t) (r : Answer) (left : List ℕ) where
 
   module _ (x : List ℕ) (is : reading t ≡ read x) where
     by_room_lem : idle x ≡ nothing → (b : Bool)
-        → leaves r left ≡ cond b (leaves (Refused 9 (length x)) d) (leaves (Read (length x) (card_cells x)) (x ++ drop (length x) d)) → Reads t r left
+        → leaves r left ≡ cond b (leaves (refused reason.ShortRoom (length x)) d) (leaves (Read (length x) (card_cells x)) (x ++ drop (length x) d)) → Reads t r left
     by_room_lem i true h = refused_reads 9 (length x) (ap (λ (y : Leaves Answer (List ℕ)). y.answer) h) (λ z. absurd (omega arith)) (λ z. absurd (omega arith))
     by_room_lem i false h =
         let a : r ≡ Read (length x) (card_cells x) = ap (λ (y : Leaves Answer (List ℕ)). y.answer) h in
@@ -66,7 +69,7 @@ module _ (t d : List ℕ) (s : Small t) (r : Answer) (left : List ℕ) where
           lowest = λ c g. other 20 c (length x) (card_cells x) (sym g ∙ a);
         }
 
-    by_idle : (f : Found) → idle x ≡ f → leaves r left ≡ at_found f (λ c. leaves (Refused 20 c) d) (by_room x d) → Reads t r left
+    by_idle : (f : Found) → idle x ≡ f → leaves r left ≡ at_found f (λ c. leaves (refused reason.IdleCell c) d) (by_room x d) → Reads t r left
     unfolding by_room
     by_idle (found c) i h =
         refused_reads 20 c (ap (λ (y : Leaves Answer (List ℕ)). y.answer) h) (λ z. absurd (omega arith)) (λ z. (x, is, lowest_idle x (written_read t x s is).0 c i))

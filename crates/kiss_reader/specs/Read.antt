@@ -8,22 +8,32 @@ use Rattle.form.specs.Form.{Outcome, read, departs}
 use Rattle.kiss.specs.Profile.{reading}
 use Rattle.kiss.specs.Idle.{idle, LowestIdle}
 use Rattle.kiss.specs.Promise.{OfText}
-use Rattle.kiss_reader.specs.declared.Answer.{Answer}
-use Rattle.kiss_reader.specs.declared.Answer.TheVariants.{Read, Refused}
+use Rattle.games.specs.declared.Refusal.{Refusal}
+use Rattle.kiss_reader.specs.declared.Read.{Read}
+use Rattle.std.specs.Prelude.{Result, Ok}
+use Rattle.games.specs.declared.Reason.TheVariants as reason
+use Rattle.games.specs.Answers.{refused}
+
+-- what reading answers: the words of the card and its cells, or a refusal
+abbrev pub Answer : Type 0
+Answer = Result Read Refusal
+
+abbrev pub read_as : (words cells : ℕ) → Answer
+read_as words cells = Ok (record { words = words; cells = cells })
 
 -- the card fills the front of its room if that has room (9)
 unfoldable pub by_room : (card out : List ℕ) → Leaves Answer (List ℕ)
 by_room x d =
     let need = length x in
-    cond (ltb (length d) need) (leaves (Refused 9 need) d) (leaves (Read need (card_cells x)) (x ++ drop need d))
+    cond (ltb (length d) need) (leaves (refused reason.ShortRoom need) d) (leaves (read_as need (card_cells x)) (x ++ drop need d))
 
 -- before that the lowest idle cell (20)
 unfoldable pub of_card : (card out : List ℕ) → Leaves Answer (List ℕ)
-of_card x d = at_found (idle x) (λ c. leaves (Refused 20 c) d) (by_room x d)
+of_card x d = at_found (idle x) (λ c. leaves (refused reason.IdleCell c) d) (by_room x d)
 
 -- by what the text reads as; where it departs from the profile, that place (21)
 unfoldable pub told : Outcome → (out : List ℕ) → Leaves Answer (List ℕ)
-told (departs p) d = leaves (Refused 21 p) d
+told (departs p) d = leaves (refused reason.Departs p) d
 told (read x) d = of_card x d
 
 unfoldable pub read_into : (text out : List ℕ) → Leaves Answer (List ℕ)
@@ -33,7 +43,7 @@ read_into t d = told (reading t) d
 -- departs; 20 names the lowest cell that the card said by the text enters on no list of observations
 pub record Reads (t : List ℕ) (r : Answer) (left : List ℕ) : Type 0 where
   pub promise : OfText t
-  pub stands : (n m : ℕ) → r ≡ Read n m → reading t ≡ read (take n left)
-  pub no_idle : (n m : ℕ) → r ≡ Read n m → idle (take n left) ≡ nothing
-  pub departed : (p : ℕ) → r ≡ Refused 21 p → reading t ≡ departs p
-  pub lowest : (c : ℕ) → r ≡ Refused 20 c → (x : List ℕ) × (reading t ≡ read x) × LowestIdle x c
+  pub stands : (n m : ℕ) → r ≡ read_as n m → reading t ≡ read (take n left)
+  pub no_idle : (n m : ℕ) → r ≡ read_as n m → idle (take n left) ≡ nothing
+  pub departed : (p : ℕ) → r ≡ refused reason.Departs p → reading t ≡ departs p
+  pub lowest : (c : ℕ) → r ≡ refused reason.IdleCell c → (x : List ℕ) × (reading t ≡ read x) × LowestIdle x c

@@ -5,7 +5,6 @@ use Rattle.games.specs.Format.{max_actions, max_observations, max_cells}
 use Rattle.games.specs.Automaton.{Automaton}
 use Rattle.games.specs.Fields.{low_field, action_field}
 use Rattle.games.specs.Words.{card_words}
-use Rattle.games.specs.declared.Checked.TheVariants.{Fine}
 use Rattle.cards.specs.Card.{Fitting, checked}
 use Rattle.text.specs.Text.{bytes}
 use Rattle.form.specs.Form.{Form, stop, reads, byte_at, word, number}
@@ -21,6 +20,7 @@ use Rattle.kiss_reader.specs.declared.Entry.{Entry}
 use Rattle.kiss_reader.specs.declared.Line.{Line}
 use Rattle.kiss_reader.specs.declared.Range.{Range}
 use Rattle.kiss_reader.specs.declared.Carded.{Carded}
+use Rattle.std.specs.Prelude.{Ok}
 
 -- ---- parts in general
 
@@ -170,4 +170,4 @@ pub record LinesRead (t : List ℕ) (z : Sizes) (start r : Cursor) (w : List ℕ
 pub record CardRead (t : List ℕ) (r : Carded) (w : List ℕ) : Type 0 where
   pub few : r.words ≤ length w
   pub reads : reading t ≡ runs (stop (take r.words w)) (byte_at t) r.cursor
-  pub fine : r.cursor.ok ≡ true → checked (take r.words w) ≡ Fine
+  pub fine : r.cursor.ok ≡ true → checked (take r.words w) ≡ Ok tt

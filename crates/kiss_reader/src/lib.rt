@@ -6,7 +6,6 @@ ghost use Rattle.std.specs.Prelude.{◌≡◌, ◌+◌, ◌*◌, ◌<◌, ◌≤
 ghost use Rattle.games.specs.Answers.{leaves};
 ghost use Rattle.games.specs.Format.{max_actions, max_observations, max_cells, number_values, kind_values};
 ghost use Rattle.games.specs.Words.{card_length, card_words};
-ghost use Rattle.games.specs.declared.Checked.TheVariants.{Fine};
 ghost use Rattle.cards.specs.Card.{cell_place, checked};
 ghost use Rattle.form.specs.Form.{byte_at};
 ghost use Rattle.kiss.specs.Text.{bits};
@@ -16,13 +15,13 @@ ghost use Rattle.kiss_reader.specs.Storing.{most_words, blank_row, slot_kind, st
 ghost use Rattle.kiss_reader.specs.Read.{of_card, read_into, Reads};
 
 use form::Cursor;
-use games::{Action, Cell, Observation};
+use games::{Action, Cell, Observation, Reason, Refusal};
 
-// What reading answers: the words of the card and its cells, or a refusal's number and place.
-#[derive(Clone, Copy)]
-pub enum Answer {
-    Read(usize, u32),
-    Refused(u32, usize),
+// A card that was read: its words and its cells.
+#[derive(Clone, Copy, PartialEq, Eq, Debug)]
+pub struct Read {
+    pub words: usize,
+    pub cells: u32,
 }
 
 // Actions and observations, and the cursor behind them.
@@ -442,25 +441,25 @@ fn read_card(t: &[u8], words: &mut [u32]) -> Carded
 // ---- the answer
 
 // 20 for a cell that nothing leads to, then 9, then the card.
-fn tell(card: &[u32], out: &mut [u32]) -> Answer
-    requires { checked card.now ≡ Fine }
+fn tell(card: &[u32], out: &mut [u32]) -> Result<Read, Refusal>
+    requires { checked card.now ≡ Ok tt }
     ensures { leaves result out.new ≡ of_card card.now out.old }
 {
     let cells = cards::cells(card);
     let idle = kiss::lowest_idle(card);
     if idle < cells {
-        return Answer::Refused(20, idle as usize);
+        return Err(Reason::IdleCell.at(idle as usize));
     }
     let need = card.len();
     if out.len() < need {
-        return Answer::Refused(9, need);
+        return Err(Reason::ShortRoom.at(need));
     }
     trimmer::copy_card(card, out);
-    Answer::Read(need, cells)
+    Ok(Read { words: need, cells })
 }
 
 // Reading KISS2 text: the card that it says.
-pub fn read(text: &[u8], out: &mut [u32]) -> Answer
+pub fn read(text: &[u8], out: &mut [u32]) -> Result<Read, Refusal>
     ensures determined { leaves result out.new ≡ read_into text.now out.old }
     ensures promised { Reads text.now result out.new }
 {
@@ -468,7 +467,7 @@ pub fn read(text: &[u8], out: &mut [u32]) -> Answer
     let r = read_card(text, &mut words);
     let end = r.cursor;
     if !end.ok {
-        return Answer::Refused(21, end.at);
+        return Err(Reason::Departs.at(end.at));
     }
     tell(&words[..r.words], out)
 }

@@ -9,7 +9,6 @@ use lib.ListN.{length, length-append}
 use Rattle.sets.specs.Bounded.{gather}
 use Rattle.games.specs.Automaton.{no_cell}
 use Rattle.games.specs.Format.{max_actions, max_cells}
-use Rattle.games.specs.declared.Checked.TheVariants.{Fine}
 use Rattle.cards.specs.Card.{automaton, card_cells, card_actions, card_observations, checked, Named}
 use Rattle.cards.proofs.Checked.{fitting}
 use Rattle.text.specs.Text.{bytes}
@@ -19,6 +18,7 @@ use Rattle.kiss.proofs.Machines.{slot_none as no_line, slot_line as some-line}
 use Rattle.kiss_writer.specs.Lines.{line_front, line_of, head_front, head_of, card_head_text, Narrow, Wide, slot_of, lines_of, name_bytes, line_bytes, most_bytes, head_bytes, LineLong}
 use Rattle.kiss_writer.specs.declared.Bits.{Bits}
 use Rattle.kiss_writer.proofs.Digits.{digits_long}
+use Rattle.std.specs.Prelude.{Ok}
 
 -- ---- how long a line is
 
@@ -88,7 +88,7 @@ module _ (w : List ℕ) where
 
 -- ---- of a checked card
 
-module _ (w : List ℕ) (fine : checked w ≡ Fine) where
+module _ (w : List ℕ) (fine : checked w ≡ Ok tt) where
   pub narrow : (bs : Bits) → Wide w bs → Narrow bs
   narrow bs b =
       let f = fitting w fine in

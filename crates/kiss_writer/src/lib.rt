@@ -13,14 +13,7 @@ ghost use Rattle.kiss_writer.specs.Lines.{line_front, line_of, head_front, head_
 ghost use Rattle.kiss_writer.specs.Lines.{cell_bytes, most_bytes, front_bytes, head_bytes, lines_bytes};
 ghost use Rattle.kiss_writer.specs.Write.{by_room, written_to, Writes};
 
-use games::{Action, Cell, Checked, Observation};
-
-// What writing answers: the bytes of the text, or a refusal's number and place.
-#[derive(Clone, Copy)]
-pub enum Answer {
-    Written(usize),
-    Refused(u32, usize),
-}
+use games::{Action, Cell, Observation, Reason, Refusal};
 
 // The bits of input and output.
 #[derive(Clone, Copy)]
@@ -153,7 +146,7 @@ fn put_line(
 
 // The cell that a state goes to on an observation; none where that cannot occur.
 fn entered(card: &[u32], state: u32, seen: Observation) -> Cell
-    requires { (checked card.now ≡ Checked.Fine) × (state ≤ card_cells card.now) × (seen.0 < card_observations card.now) }
+    requires { (checked card.now ≡ Ok tt) × (state ≤ card_cells card.now) × (seen.0 < card_observations card.now) }
     ensures { result.0 ≡ target (automaton card.now) state seen.0 }
 {
     if state == 0 {
@@ -171,7 +164,7 @@ fn put_slot(
     state: u32,
     seen: Observation,
 ) -> usize
-    requires { (checked card.now ≡ Checked.Fine) × Wide card.now widths × (state ≤ card_cells card.now)
+    requires { (checked card.now ≡ Ok tt) × Wide card.now widths × (state ≤ card_cells card.now)
         × (seen.0 < card_observations card.now) × (at + most_bytes < room) }
     ensures { Wrote (slot_of card.now state seen.0) at out.old result out.new
         × (result ≤ at + most_bytes) }
@@ -186,7 +179,7 @@ fn put_slot(
 
 // The lines of a state.
 fn put_state_lines(out: &mut [u8], at: usize, card: &[u32], widths: Bits, state: u32) -> usize
-    requires { (checked card.now ≡ Checked.Fine) × Wide card.now widths × (state ≤ card_cells card.now)
+    requires { (checked card.now ≡ Ok tt) × Wide card.now widths × (state ≤ card_cells card.now)
         × (at + card_observations card.now * most_bytes < room) }
     ensures { Wrote (lines_of card.now state) at out.old result out.new
         × (result ≤ at + card_observations card.now * most_bytes) }
@@ -203,7 +196,7 @@ fn put_state_lines(out: &mut [u8], at: usize, card: &[u32], widths: Bits, state:
 
 // The lines of the reset state and of all cells.
 fn put_lines(out: &mut [u8], at: usize, card: &[u32], widths: Bits) -> usize
-    requires { (checked card.now ≡ Checked.Fine) × Wide card.now widths × (at + lines_bytes < room) }
+    requires { (checked card.now ≡ Ok tt) × Wide card.now widths × (at + lines_bytes < room) }
     ensures { Wrote (gather (suc (card_cells card.now)) (lines_of card.now)) at out.old result out.new
         × (result ≤ at + lines_bytes) }
 {
@@ -245,7 +238,7 @@ fn put_head(out: &mut [u8], at: usize, a: u32, o: u32, states: u32, widths: Bits
 
 // The bits of a card.
 fn widths(card: &[u32]) -> Bits
-    requires { checked card.now ≡ Checked.Fine }
+    requires { checked card.now ≡ Ok tt }
     ensures { Wide card.now result }
 {
     Bits {
@@ -256,7 +249,7 @@ fn widths(card: &[u32]) -> Bits
 
 // The head of a card's text.
 fn put_card_head(out: &mut [u8], card: &[u32], widths: Bits) -> usize
-    requires { (checked card.now ≡ Checked.Fine) × Wide card.now widths }
+    requires { (checked card.now ≡ Ok tt) × Wide card.now widths }
     ensures { Wrote (card_head_text card.now) 0 out.old result out.new × (result ≤ head_bytes) }
 {
     let a = cards::actions(card);
@@ -267,7 +260,7 @@ fn put_card_head(out: &mut [u8], card: &[u32], widths: Bits) -> usize
 
 // The text of a card from the first byte on: the head, the lines, the end.
 fn put_text(out: &mut [u8], card: &[u32], widths: Bits) -> usize
-    requires { (checked card.now ≡ Checked.Fine) × Wide card.now widths }
+    requires { (checked card.now ≡ Ok tt) × Wide card.now widths }
     ensures { Wrote (kiss_text card.now) 0 out.old result out.new }
 {
     let next = put_card_head(out, card, widths);
@@ -277,7 +270,7 @@ fn put_text(out: &mut [u8], card: &[u32], widths: Bits) -> usize
 
 // How many bytes the lines of a state have, where a line of it has so many: each word that names a cell is a line.
 fn state_length(card: &[u32], state: u32, line: usize) -> usize
-    requires { (checked card.now ≡ Checked.Fine) × (state ≤ card_cells card.now) × LineLong card.now state line }
+    requires { (checked card.now ≡ Ok tt) × (state ≤ card_cells card.now) × LineLong card.now state line }
     ensures { (result ≡ length (lines_of card.now state)) × (result ≤ max_observations * most_bytes) }
 {
     let o = cards::observations(card);
@@ -294,7 +287,7 @@ fn state_length(card: &[u32], state: u32, line: usize) -> usize
 
 // How many bytes the lines have. A line of the reset state is one byte shorter than the others, as its name is.
 fn lines_length(card: &[u32], widths: Bits) -> usize
-    requires { (checked card.now ≡ Checked.Fine) × Wide card.now widths }
+    requires { (checked card.now ≡ Ok tt) × Wide card.now widths }
     ensures { (result ≡ length (gather (suc (card_cells card.now)) (lines_of card.now))) × (result ≤ lines_bytes) }
 {
     let line = (widths.input + widths.output) as usize + LINE_BYTES;
@@ -310,38 +303,35 @@ fn lines_length(card: &[u32], widths: Bits) -> usize
 
 // How many bytes the text of a card has.
 fn text_length(card: &[u32], widths: Bits) -> usize
-    requires { (checked card.now ≡ Checked.Fine) × Wide card.now widths }
+    requires { (checked card.now ≡ Ok tt) × Wide card.now widths }
     ensures { result ≡ length (kiss_text card.now) }
 {
     HEAD_BYTES + lines_length(card, widths) + END_BYTES
 }
 
 // For a card without idle cells: 9 or the text.
-fn write_text(card: &[u32], out: &mut [u8]) -> Answer
-    requires { checked card.now ≡ Checked.Fine }
+fn write_text(card: &[u32], out: &mut [u8]) -> Result<usize, Refusal>
+    requires { checked card.now ≡ Ok tt }
     ensures { leaves result out.new ≡ by_room card.now out.old }
 {
     let widths = widths(card);
     let need = text_length(card, widths);
     if out.len() < need {
-        return Answer::Refused(9, need);
+        return Err(Reason::ShortRoom.at(need));
     }
     put_text(out, card, widths);
-    Answer::Written(need)
+    Ok(need)
 }
 
 // Writing a card as KISS2 text.
-pub fn write(card: &[u32], out: &mut [u8]) -> Answer
+pub fn write(card: &[u32], out: &mut [u8]) -> Result<usize, Refusal>
     ensures determined { leaves result out.new ≡ written_to card.now out.old }
     ensures promised { Writes card.now result out.new }
 {
-    let checked = cards::check(card);
-    if let Checked::Refused(number, place) = checked {
-        return Answer::Refused(number, place);
-    }
+    cards::check(card)?;
     let idle = kiss::lowest_idle(card);
     if idle < cards::cells(card) {
-        return Answer::Refused(20, idle as usize);
+        return Err(Reason::IdleCell.at(idle as usize));
     }
     write_text(card, out)
 }

@@ -15,11 +15,13 @@ use Rattle.sets.proofs.Logic.{or_cases, or_left, or_right}
 use Rattle.sets.proofs.Mask.{common_lt}
 use Rattle.sets.proofs.Family.{Within, mem_maximal, maximal_is, maximal_ascending, maximal_antichain, above, listed_mem, mem_listed, cuts_found, cuts_intro}
 use Rattle.games.specs.Answers.{Leaves, leaves}
-use Rattle.games.specs.declared.Written.{Written}
-use Rattle.games.specs.declared.Written.TheVariants.{Words, Refused}
+use Rattle.games.specs.Answers.{Written}
+use Rattle.games.specs.Answers.{refused}
 use Rattle.lists.specs.Lists.{is_width, foreign, fitted, outcome}
 use Rattle.lists.specs.Plain.{OfEither, OfBoth, MaximalOf}
 use Rattle.lists.proofs.Checks.{reaches_within, clean_first, clean_second}
+use Rattle.games.specs.declared.Reason.TheVariants as reason
+use Rattle.std.specs.Prelude.{Ok, Err}
 
 -- ---- the definitions
 
@@ -53,27 +55,27 @@ module _ (n : ℕ) (k l : List ℕ) (bk : Within n k) (bl : Within n l) where
 -- ---- what the entries leave
 
 -- where the answer is a length, no mask was foreign and the result stands in front
-fitted_words : (r d : List ℕ) (b : Bool) (w : ℕ) → (cond b (leaves (Refused 15 (length r)) d) (leaves (Words (length r)) (r ++ drop (length r) d))).answer ≡ Words w → take w (cond b (leaves (Refused 15 (length r)) d) (leaves (Words (length r)) (r ++ drop (length r) d))).left ≡ r
+fitted_words : (r d : List ℕ) (b : Bool) (w : ℕ) → (cond b (leaves (refused reason.ShortList (length r)) d) (leaves (Ok (length r)) (r ++ drop (length r) d))).answer ≡ Ok w → take w (cond b (leaves (refused reason.ShortList (length r)) d) (leaves (Ok (length r)) (r ++ drop (length r) d))).left ≡ r
 fitted_words r d true w e = let z : ◌≡◌ {A = ℕ} 0 1 = cc in absurd (omega arith)
 fitted_words r d false w e =
     let q : length r ≡ w = cc in
     subst (λ (x : ℕ). take x (r ++ drop (length r) d) ≡ r) q (take-append_seam r (drop (length r) d))
 
-found_words : (f : Found) (r d : List ℕ) (w : ℕ) → (at_found f (λ i. leaves (Refused 5 i) d) (fitted r d)).answer ≡ Words w → (f ≡ nothing) × (take w (at_found f (λ i. leaves (Refused 5 i) d) (fitted r d)).left ≡ r)
+found_words : (f : Found) (r d : List ℕ) (w : ℕ) → (at_found f (λ i. leaves (refused reason.StateBeyond i) d) (fitted r d)).answer ≡ Ok w → (f ≡ nothing) × (take w (at_found f (λ i. leaves (refused reason.StateBeyond i) d) (fitted r d)).left ≡ r)
 found_words nothing r d w e = (refl, fitted_words r d (ltb (length d) (length r)) w e)
 found_words (found i) r d w e = let z : ◌≡◌ {A = ℕ} 0 1 = cc in absurd (omega arith)
 
-width_words : (b : Bool) (f : Found) (r d : List ℕ) (w : ℕ) → (cond b (leaves (Refused 2 0) d) (at_found f (λ i. leaves (Refused 5 i) d) (fitted r d))).answer ≡ Words w → (f ≡ nothing) × (take w (cond b (leaves (Refused 2 0) d) (at_found f (λ i. leaves (Refused 5 i) d) (fitted r d))).left ≡ r)
+width_words : (b : Bool) (f : Found) (r d : List ℕ) (w : ℕ) → (cond b (leaves (refused reason.BadHead 0) d) (at_found f (λ i. leaves (refused reason.StateBeyond i) d) (fitted r d))).answer ≡ Ok w → (f ≡ nothing) × (take w (cond b (leaves (refused reason.BadHead 0) d) (at_found f (λ i. leaves (refused reason.StateBeyond i) d) (fitted r d))).left ≡ r)
 width_words true f r d w e = let z : ◌≡◌ {A = ℕ} 0 1 = cc in absurd (omega arith)
 width_words false f r d w e = found_words f r d w e
 
-outcome_words : (op : List ℕ → List ℕ → List ℕ) (n : ℕ) (k l d : List ℕ) (w : ℕ) → (outcome op n k l d).answer ≡ Words w → (foreign n (k ++ l) ≡ nothing) × (take w (outcome op n k l d).left ≡ op k l)
+outcome_words : (op : List ℕ → List ℕ → List ℕ) (n : ℕ) (k l d : List ℕ) (w : ℕ) → (outcome op n k l d).answer ≡ Ok w → (foreign n (k ++ l) ≡ nothing) × (take w (outcome op n k l d).left ≡ op k l)
 unfolding outcome
 outcome_words op n k l d w e = width_words (not (is_width n)) (foreign n (k ++ l)) (op k l) d w e
 
 module _ (op : List ℕ → List ℕ → List ℕ) (P : List ℕ → List ℕ → ℕ → Type 0) (n : ℕ) (k l d : List ℕ) (plain : Within n k → Within n l → MaximalOf (P k l) (op k l)) where
   -- whatever the entry leaves in front is the list of the maximal sets
-  pub left_plain : (r : Written) (x : List ℕ) → leaves r x ≡ outcome op n k l d → (w : ℕ) → r ≡ Words w → MaximalOf (P k l) (take w x)
+  pub left_plain : (r : Written) (x : List ℕ) → leaves r x ≡ outcome op n k l d → (w : ℕ) → r ≡ Ok w → MaximalOf (P k l) (take w x)
   left_plain r x e w q =
       let v = outcome_words op n k l d w (sym (ap (λ (o : Leaves Written (List ℕ)). o.answer) e) ∙ q) in
       subst (MaximalOf (P k l)) (sym (ap (λ (o : Leaves Written (List ℕ)). take w o.left) e ∙ v.1))

@@ -4,12 +4,11 @@
 ghost use Rattle.std.specs.Prelude.{◌≡◌, ℕ, ◌≤◌, length, take};
 ghost use Rattle.families.specs.Bits.{max_lanes, lanes, sets, Bits};
 ghost use Rattle.games.specs.Answers.{leaves};
-ghost use Rattle.games.specs.declared.Written.TheVariants.{Words};
 ghost use Rattle.lists.specs.Lists.{fitted, outcome, joined, met};
 ghost use Rattle.lists.specs.Plain.{OfEither, OfBoth, MaximalOf};
 ghost use Rattle.lists.specs.Merging.{gathered, Merged, held, combined, Masks};
 
-use games::{MAX_STATES, Written};
+use games::{MAX_STATES, Reason, Refusal};
 
 // The common part for meet, the union for join.
 fn gather(meet: bool, a: u64, b: u64) -> u64
@@ -41,15 +40,15 @@ fn hold(meet: bool, n: u32, first: &[u32], second: &[u32], a: &mut [u64], b: &mu
 }
 
 // The sets in front of `out`, ascending; refused where there are more than places.
-fn fit(bits: &[u64], out: &mut [u32]) -> Written
+fn fit(bits: &[u64], out: &mut [u32]) -> Result<usize, Refusal>
     requires { length bits.now ≤ max_lanes }
     ensures { leaves result out.new ≡ fitted (sets bits.now) out.old }
 {
     let words = families::size(bits);
     if out.len() < words {
-        return Written::Refused(15, words);
+        return Err(Reason::ShortList.at(words));
     }
-    Written::Words(families::write(bits, out))
+    Ok(families::write(bits, out))
 }
 
 // The result in front of `out`, where it fits. `a` and `b` are work room.
@@ -61,7 +60,7 @@ fn find(
     a: &mut [u64],
     b: &mut [u64],
     out: &mut [u32],
-) -> Written
+) -> Result<usize, Refusal>
     requires { Masks n first.now second.now × (length a.old ≡ lanes n) × (length b.old ≡ lanes n) }
     ensures { leaves result out.new ≡ fitted (combined meet n first.now second.now) out.old }
 {
@@ -71,7 +70,7 @@ fn find(
 }
 
 // The same, with its work room.
-fn deliver(meet: bool, n: u32, first: &[u32], second: &[u32], out: &mut [u32]) -> Written
+fn deliver(meet: bool, n: u32, first: &[u32], second: &[u32], out: &mut [u32]) -> Result<usize, Refusal>
     requires { Masks n first.now second.now }
     ensures { leaves result out.new ≡ fitted (combined meet n first.now second.now) out.old }
 {
@@ -82,37 +81,37 @@ fn deliver(meet: bool, n: u32, first: &[u32], second: &[u32], out: &mut [u32]) -
 }
 
 // Join or meet: checks, then the result.
-fn combine(meet: bool, n: u32, first: &[u32], second: &[u32], out: &mut [u32]) -> Written
+fn combine(meet: bool, n: u32, first: &[u32], second: &[u32], out: &mut [u32]) -> Result<usize, Refusal>
     ensures { leaves result out.new ≡ outcome (combined meet n) n first.now second.now out.old }
 {
     if !games::within(n, MAX_STATES) {
-        return Written::Refused(2, 0);
+        return Err(Reason::BadHead.at(0));
     }
     let end = sets::single(n);
     let i = sets::first_from(first, 0, end);
     if i < first.len() {
-        return Written::Refused(5, i);
+        return Err(Reason::StateBeyond.at(i));
     }
     let j = sets::first_from(second, 0, end);
     if j < second.len() {
-        return Written::Refused(5, first.len() + j);
+        return Err(Reason::StateBeyond.at(first.len() + j));
     }
     deliver(meet, n, first, second, out)
 }
 
 // The maximal sets of both lists.
-pub fn join(n: u32, first: &[u32], second: &[u32], out: &mut [u32]) -> Written
+pub fn join(n: u32, first: &[u32], second: &[u32], out: &mut [u32]) -> Result<usize, Refusal>
     ensures out_after { leaves result out.new ≡ joined n first.now second.now out.old }
-    ensures plain { (w : ℕ) → result ≡ Words w
+    ensures plain { (w : ℕ) → result ≡ Ok w
         → MaximalOf (OfEither first.now second.now) (take w out.new) }
 {
     combine(false, n, first, second, out)
 }
 
 // The maximal common parts of one set from each list.
-pub fn meet(n: u32, first: &[u32], second: &[u32], out: &mut [u32]) -> Written
+pub fn meet(n: u32, first: &[u32], second: &[u32], out: &mut [u32]) -> Result<usize, Refusal>
     ensures out_after { leaves result out.new ≡ met n first.now second.now out.old }
-    ensures plain { (w : ℕ) → result ≡ Words w
+    ensures plain { (w : ℕ) → result ≡ Ok w
         → MaximalOf (OfBoth first.now second.now) (take w out.new) }
 {
     combine(true, n, first, second, out)

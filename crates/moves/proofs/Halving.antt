@@ -24,12 +24,12 @@ use Rattle.games.specs.Step.{enabled_at, post}
 use Rattle.games.proofs.Steps.{enabled_at_is, enabled_fails}
 use Rattle.games.specs.Words.{game}
 use Rattle.tables.specs.Check.{checked}
-use Rattle.games.specs.declared.Checked.TheVariants.{Fine}
 use Rattle.tables.proofs.Checks.{sized}
 use Rattle.tables.proofs.Bounds.{few_states}
 use Rattle.moves.specs.declared.Posted.TheVariants.{Blocked, Post}
 use Rattle.walk.proofs.Moves.{moved_enabled, moved_blocked}
 use Rattle.moves.specs.Halves.{posted, half_states, half_sets, side_words, blocked_mark, mark_of, mark, Doubled, Halved, Sided, Tabled}
+use Rattle.std.specs.Prelude.{Ok}
 
 -- the union sees only the members below the bound
 members_same : (n s t : ℕ) (f : ℕ → ℕ) → ((i : ℕ) → i < n → member s i ≡ member t i) → union_over n s f ≡ union_over n t f
@@ -281,7 +281,7 @@ module _ (g : Game) (first count : ℕ) where
       before : (b x : ℕ) → b < a → x < half_sets → b * half_sets + x < a * half_sets
       before b x c y = omega arith
 
-pub high_small : (w : List ℕ) → checked w ≡ Fine → (s : ℕ) → s < 2 ^ (game w).states → s / half_sets < half_sets
+pub high_small : (w : List ℕ) → checked w ≡ Ok tt → (s : ℕ) → s < 2 ^ (game w).states → s / half_sets < half_sets
 high_small w h s l =
     let p = pow_mono {i = (game w).states} {j = max_states} (few_states w (sized w h)) in
     omega arith

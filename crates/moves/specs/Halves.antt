@@ -9,7 +9,6 @@ use Rattle.games.specs.Game.{Game}
 use Rattle.games.specs.Step.{enabled_at, post}
 use Rattle.games.specs.Words.{game}
 use Rattle.tables.specs.Check.{checked}
-use Rattle.games.specs.declared.Checked.TheVariants.{Fine}
 use Rattle.walk.specs.Walk.{moved, walked}
 use Rattle.walk.specs.declared.Moved.{Moved}
 use Rattle.walk.specs.declared.Moved.TheVariants as one
@@ -17,6 +16,7 @@ use Rattle.walk.specs.declared.Walked.{Walked}
 use Rattle.walk.specs.declared.Walked.TheVariants as walk
 use Rattle.moves.specs.declared.Posted.{Posted}
 use Rattle.moves.specs.declared.Posted.TheVariants.{Blocked, Post}
+use Rattle.std.specs.Prelude.{Ok}
 
 -- what a set comes to under an action: the successors of the whole set, where the action is enabled at all its members
 unfoldable pub posted : Game → ℕ → ℕ → Posted
@@ -61,7 +61,7 @@ mark g a i = mark_of (moved g a i)
 
 -- an accepted table, an action of it, and the states from `first` on, no more than a half has
 pub record InHalf (table : List ℕ) (a first count : ℕ) : Type 0 where
-  pub fine : checked table ≡ Fine
+  pub fine : checked table ≡ Ok tt
   pub action : a < (game table).actions
   pub states : first + count ≤ (game table).states
   pub few : count ≤ half_states
@@ -91,5 +91,5 @@ pub record Tabled (g : Game) (low high : List ℕ) : Type 0 where
 
 -- an accepted table and the two tables of its moves
 pub record Ready (table low high : List ℕ) : Type 0 where
-  pub fine : checked table ≡ Fine
+  pub fine : checked table ≡ Ok tt
   pub tabled : Tabled (game table) low high

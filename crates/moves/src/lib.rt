@@ -6,7 +6,6 @@ ghost use Rattle.std.specs.Prelude.{◌≡◌, ◌+◌, ◌*◌, ◌^◌, ◌<�
 ghost use Rattle.games.specs.Words.{game};
 ghost use Rattle.tables.specs.Check.{checked};
 ghost use Rattle.tables.specs.Layout.{Sized};
-ghost use Rattle.games.specs.declared.Checked.TheVariants.{Fine};
 ghost use Rattle.moves.specs.Halves.{posted, half_states, half_sets, side_words, mark as marked, InHalf, Doubled, Halved, Sided, Tabled, Ready};
 
 use games::{Action, State};
@@ -65,7 +64,7 @@ fn fill_half(table: &[u32], a: Action, first: u32, count: u32, half: &mut [u32])
 
 // The same for each action; `HALF_WORDS` for each.
 fn fill_side(table: &[u32], first: u32, count: u32, side: &mut [u32])
-    requires { (checked table.now ≡ Fine) × (length side.old ≡ side_words)
+    requires { (checked table.now ≡ Ok tt) × (length side.old ≡ side_words)
         × (first + count ≤ (game table.now).states) × (count ≤ half_states) }
     ensures { Sided (game table.now) first count (game table.now).actions side.new }
 {
@@ -94,7 +93,7 @@ pub fn side() -> [u32; SIDE_WORDS]
 
 // Fills both tables.
 pub fn fill(table: &[u32], low: &mut [u32], high: &mut [u32])
-    requires { (checked table.now ≡ Fine) × (length low.old ≡ side_words) × (length high.old ≡ side_words) }
+    requires { (checked table.now ≡ Ok tt) × (length low.old ≡ side_words) × (length high.old ≡ side_words) }
     ensures { Tabled (game table.now) low.new high.new }
 {
     let n = tables::states(table);

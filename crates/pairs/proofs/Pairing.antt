@@ -1,4 +1,4 @@
--- The check's answers in their order, and what `Fine` tells.
+-- The check's answers in their order, and what `Ok` tells.
 -- Assumes nothing.
 use mathlib.Core.Path.{◌≡◌, sym, subst}
 use mathlib.Core.Bool.{true, false, cond, not}
@@ -9,42 +9,45 @@ use borrow.Author.Tests.{eqb-true, not-false}
 use Rattle.sets.proofs.Logic.{and_left, and_right}
 use Rattle.games.specs.Answers.{unless}
 use Rattle.games.specs.Words.{game}
-use Rattle.games.specs.declared.Checked.TheVariants.{Fine, Refused}
+use Rattle.games.specs.Answers.{refused}
 use Rattle.games.proofs.Answers.{then_fine, cond_passed}
 use Rattle.tables.specs.Check.{checked as table_checked}
 use Rattle.cards.specs.Card.{card_cells, card_actions, card_observations, automaton, checked as card_checked}
 use Rattle.cards.proofs.Checked.{fitting}
 use Rattle.cards.proofs.Running.{size_of}
 use Rattle.pairs.specs.Pair.{agree, checked, Paired}
+use Rattle.games.specs.declared.Reason.{Reason}
+use Rattle.games.specs.declared.Reason.TheVariants as reason
+use Rattle.std.specs.Prelude.{Ok, Err}
 
 module _ (w k : List ℕ) where
   -- the table checks come first
-  pub table_stops : (number place : ℕ) → table_checked w ≡ Refused number place → Refused number place ≡ checked w k
+  pub table_stops : (number : Reason) (place : ℕ) → table_checked w ≡ refused number place → refused number place ≡ checked w k
   unfolding checked
   table_stops number place e = rw e
 
-  module _ (table : table_checked w ≡ Fine) where
+  module _ (table : table_checked w ≡ Ok tt) where
     -- then 13
-    pub card_stops : (number place : ℕ) → card_checked k ≡ Refused number place → Refused number place ≡ checked w k
+    pub card_stops : (number : Reason) (place : ℕ) → card_checked k ≡ refused number place → refused number place ≡ checked w k
     unfolding checked
     card_stops number place e = rw (table, e)
 
     -- then 16
-    pub differ : card_checked k ≡ Fine → agree w k ≡ false → Refused 16 0 ≡ checked w k
+    pub differ : card_checked k ≡ Ok tt → agree w k ≡ false → refused reason.Disagree 0 ≡ checked w k
     unfolding checked
     differ card e = rw (table, card, e)
 
-    pub fine_pair : card_checked k ≡ Fine → agree w k ≡ true → Fine ≡ checked w k
+    pub fine_pair : card_checked k ≡ Ok tt → agree w k ≡ true → (Ok tt) ≡ checked w k
     unfolding checked
     fine_pair card e = rw (table, card, e)
 
-  -- what `Fine` tells
-  pub paired : checked w k ≡ Fine → Paired w k
+  -- what `Ok` tells
+  pub paired : checked w k ≡ Ok tt → Paired w k
   unfolding checked agree
   paired fine =
-      let a = then_fine (table_checked w) (unless (card_checked k) Refused (cond (not (agree w k)) (Refused 16 0) Fine)) fine in
-      let b = then_fine (card_checked k) (cond (not (agree w k)) (Refused 16 0) Fine) a.1 in
-      let c = not-false (agree w k) (cond_passed (not (agree w k)) 16 0 Fine b.1).0 in
+      let a = then_fine (table_checked w) (unless (card_checked k) Err (cond (not (agree w k)) (refused reason.Disagree 0) (Ok tt))) fine in
+      let b = then_fine (card_checked k) (cond (not (agree w k)) (refused reason.Disagree 0) (Ok tt)) a.1 in
+      let c = not-false (agree w k) (cond_passed (not (agree w k)) reason.Disagree 0 (Ok tt) b.1).0 in
       let x = eqb (card_actions k) (game w).actions in
       let y = eqb (card_observations k) (game w).observations in
       record {

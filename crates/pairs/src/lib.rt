@@ -6,11 +6,11 @@ ghost use Rattle.tables.specs.Check.{checked as table_checked};
 ghost use Rattle.cards.specs.Card.{checked as card_checked};
 ghost use Rattle.pairs.specs.Pair.{agree, checked};
 
-use games::Checked;
+use games::{Reason, Refusal};
 
 // The card's actions and observations are the table's in number.
 fn numbers_agree(table: &[u32], card: &[u32]) -> bool
-    requires { (table_checked table.now ≡ Checked.Fine) × (card_checked card.now ≡ Checked.Fine) }
+    requires { (table_checked table.now ≡ Ok tt) × (card_checked card.now ≡ Ok tt) }
     ensures { result ≡ agree table.now card.now }
 {
     (cards::actions(card) == tables::actions(table))
@@ -18,20 +18,13 @@ fn numbers_agree(table: &[u32], card: &[u32]) -> bool
 }
 
 // The table checks, 13, and 16 where the two don't go together.
-pub fn check(table: &[u32], card: &[u32]) -> Checked
+pub fn check(table: &[u32], card: &[u32]) -> Result<(), Refusal>
     ensures { result ≡ checked table.now card.now }
 {
-    match tables::check(table) {
-        Checked::Refused(number, place) => Checked::Refused(number, place),
-        Checked::Fine => match cards::check(card) {
-            Checked::Refused(number, place) => Checked::Refused(number, place),
-            Checked::Fine => {
-                if numbers_agree(table, card) {
-                    Checked::Fine
-                } else {
-                    Checked::Refused(16, 0)
-                }
-            }
-        },
+    tables::check(table)?;
+    cards::check(card)?;
+    if !numbers_agree(table, card) {
+        return Err(Reason::Disagree.at(0));
     }
+    Ok(())
 }

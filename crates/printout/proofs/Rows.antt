@@ -10,6 +10,8 @@ use Rattle.text.specs.Text.{bytes}
 use Rattle.text.specs.Decimal.{last_digits, decimal}
 use Rattle.printout.specs.Lines.{field, cell_text, cell_field, yes_line, first_line, cell_line, next_line, no_line, refused_line}
 use Rattle.printout.specs.Lines.{front_text, part_text, card_text, answer_text}
+use Rattle.games.specs.declared.Reason.TheVariants as reason
+use Rattle.games.specs.Answers.{refused}
 
 station_a : answer_text (Yes 2 2) card_a
     ≡ bytes "yes 2 2\n" ++ bytes "first 0 0\n"
@@ -29,6 +31,6 @@ station_c : answer_text (Yes 2 2) card_c
 unfolding gather automaton last_digits decimal field cell_text cell_field yes_line first_line cell_line next_line front_text part_text card_text answer_text
 station_c = refl
 
-long_input : answer_text (Refused 3 1025) [] ≡ bytes "refused 3 1025\n"
+long_input : answer_text (refused reason.BadLength 1025) [] ≡ bytes "refused 3 1025\n"
 unfolding last_digits decimal field refused_line answer_text
 long_input = refl

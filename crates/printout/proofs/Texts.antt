@@ -12,13 +12,13 @@ use lib.Seq.{take-append_seam}
 use Rattle.sets.specs.Bounded.{gather}
 use Rattle.games.specs.Automaton.{no_cell}
 use Rattle.games.specs.Words.{part_length}
-use Rattle.games.specs.declared.Checked.TheVariants.{Fine}
 use Rattle.cards.specs.Card.{card_cells, card_observations, checked}
 use Rattle.cards.proofs.Checked.{sound}
 use Rattle.text.specs.Text.{bytes, Wrote}
 use Rattle.text.specs.Decimal.{decimal}
 use Rattle.text.proofs.Writing.{wrote_gathered_none, wrote_gathered_more, wrote_front}
 use Rattle.printout.specs.Lines.{cell_text, cell_field, line_bytes}
+use Rattle.std.specs.Prelude.{Ok}
 
 -- no cell, and a cell
 pub field_none : (c : ℕ) → c ≡ no_cell → cell_field c ≡ bytes " " ++ bytes "-"
@@ -69,7 +69,7 @@ module _ (piece : ℕ → List ℕ) (width n : ℕ) where
 -- ---- how many bytes a card takes
 
 -- a line for each of its words but the head
-pub card_bytes : (w : List ℕ) → checked w ≡ Fine
+pub card_bytes : (w : List ℕ) → checked w ≡ Ok tt
     → card_observations w * line_bytes + card_cells w * (part_length (card_observations w) * line_bytes) + line_bytes ≡ length w * line_bytes
 card_bytes w k =
     let o = card_observations w in

@@ -6,8 +6,11 @@ use Rattle.games.specs.Automaton.{no_cell}
 use Rattle.cards.specs.Card.{automaton, card_cells, card_observations}
 use Rattle.text.specs.Text.{bytes}
 use Rattle.text.specs.Decimal.{decimal}
-use Rattle.solver.specs.declared.Answer.{Answer}
-use Rattle.solver.specs.declared.Answer.TheVariants.{Yes, No, Refused}
+use Rattle.std.specs.Prelude.{Ok, Err}
+use Rattle.games.specs.Answers.{number_of}
+use Rattle.solver.specs.Solve.{Answer}
+use Rattle.solver.specs.declared.Verdict.TheVariants.{Yes, No}
+use Rattle.std.specs.Prelude.{Err}
 
 -- ---- lines
 
@@ -71,9 +74,9 @@ card_text w = front_text w ++ gather (card_cells w) (part_text w)
 -- ---- what is printed for an answer: after a yes its card, which the other answers don't look at
 
 unfoldable pub answer_text : Answer → (card : List ℕ) → List ℕ
-answer_text (Yes settled cells) w = yes_line settled cells ++ card_text w
-answer_text (No round) w = no_line round
-answer_text (Refused number place) w = refused_line number place
+answer_text (Ok (Yes settled cells)) w = yes_line settled cells ++ card_text w
+answer_text (Ok (No round)) w = no_line round
+answer_text (Err e) w = refused_line (number_of e.reason) e.place
 
 -- ---- what is printed where there is no answer: the program could not read, or not write
 

@@ -2,13 +2,14 @@
 #![tactic(auto)]
 
 ghost use Rattle.std.specs.Prelude.{◌≡◌, ◌++◌, ◌+◌, ◌*◌, ◌≤◌, ◌<◌, length};
+ghost use Rattle.games.specs.Answers.{number_of};
 ghost use Rattle.games.specs.Words.{part_length};
 ghost use Rattle.cards.specs.Card.{card_cells, card_observations, checked};
 ghost use Rattle.text.specs.Text.{room, Wrote};
 ghost use Rattle.printout.specs.Lines.{newline, field, cell_field, yes_line, first_line, cell_line, next_line, no_line, refused_line};
 ghost use Rattle.printout.specs.Lines.{front_text, own_text, part_text, card_text, unread_line, unwritten_line, field_bytes, line_bytes};
 
-use games::{Action, Cell, Checked, Observation};
+use games::{Action, Cell, Observation, Refusal};
 
 // The most bytes of a field: a space and the digits of a 64-bit number.
 const FIELD_BYTES: usize = 1 + 20;
@@ -76,11 +77,12 @@ pub fn put_no(out: &mut [u8], at: usize, round: u32) -> usize
 }
 
 // The line of a refusal: its number and place.
-pub fn put_refused(out: &mut [u8], at: usize, number: u32, place: usize) -> usize
+pub fn put_refused(out: &mut [u8], at: usize, refusal: Refusal) -> usize
     requires { at + line_bytes < room }
-    ensures { Wrote (refused_line number place) at out.old result out.new × (result ≤ at + line_bytes) }
+    ensures { Wrote (refused_line (number_of refusal.reason) refusal.place) at out.old result out.new × (result ≤ at + line_bytes) }
 {
-    put_numbers(out, at, b"refused", number as u64, place as u64)
+    let number = refusal.reason.number();
+    put_numbers(out, at, b"refused", number as u64, refusal.place as u64)
 }
 
 // The line of an observation's first cell.
@@ -120,7 +122,7 @@ fn put_next(out: &mut [u8], at: usize, from: Cell, seen: Observation, to: Cell) 
 
 // The first lines of a card.
 fn put_front(out: &mut [u8], at: usize, card: &[u32]) -> usize
-    requires { (checked card.now ≡ Checked.Fine) × (at + card_observations card.now * line_bytes < room) }
+    requires { (checked card.now ≡ Ok tt) × (at + card_observations card.now * line_bytes < room) }
     ensures { Wrote (front_text card.now) at out.old result out.new
         × (result ≤ at + card_observations card.now * line_bytes) }
 {
@@ -137,7 +139,7 @@ fn put_front(out: &mut [u8], at: usize, card: &[u32]) -> usize
 
 // A cell's own line.
 fn put_own(out: &mut [u8], at: usize, card: &[u32], cell: Cell) -> usize
-    requires { (checked card.now ≡ Checked.Fine) × (cell.0 < card_cells card.now) × (at + line_bytes < room) }
+    requires { (checked card.now ≡ Ok tt) × (cell.0 < card_cells card.now) × (at + line_bytes < room) }
     ensures { Wrote (own_text card.now cell.0) at out.old result out.new × (result ≤ at + line_bytes) }
 {
     let set = cards::cell_set(card, cell);
@@ -147,7 +149,7 @@ fn put_own(out: &mut [u8], at: usize, card: &[u32], cell: Cell) -> usize
 
 // A cell's part: its own line and its next lines.
 fn put_part(out: &mut [u8], at: usize, card: &[u32], cell: Cell) -> usize
-    requires { (checked card.now ≡ Checked.Fine) × (cell.0 < card_cells card.now)
+    requires { (checked card.now ≡ Ok tt) × (cell.0 < card_cells card.now)
         × (at + part_length (card_observations card.now) * line_bytes < room) }
     ensures { Wrote (part_text card.now cell.0) at out.old result out.new
         × (result ≤ at + part_length (card_observations card.now) * line_bytes) }
@@ -165,7 +167,7 @@ fn put_part(out: &mut [u8], at: usize, card: &[u32], cell: Cell) -> usize
 
 // The lines of a card: its first lines, then its cells' parts. No word of it takes more than a line, and the head none.
 pub fn put_card(out: &mut [u8], at: usize, card: &[u32]) -> usize
-    requires { (checked card.now ≡ Checked.Fine) × (at + length card.now * line_bytes < room) }
+    requires { (checked card.now ≡ Ok tt) × (at + length card.now * line_bytes < room) }
     ensures { Wrote (card_text card.now) at out.old result out.new
         × (result + line_bytes ≤ at + length card.now * line_bytes) }
 {

@@ -12,7 +12,6 @@ use Rattle.games.specs.Answers.{leaves}
 use Rattle.games.specs.Game.{Game}
 use Rattle.games.specs.Play.{Play, begin, more, PlayOf, seen, rounds}
 use Rattle.games.specs.Demands.{UnderCard}
-use Rattle.games.specs.declared.Checked.TheVariants.{Fine}
 use Rattle.games.proofs.Plays.{rounds_from_one, rounds_seen, some_seen}
 use Rattle.cards.specs.Card.{automaton, checked}
 use Rattle.cards.specs.Run.{entered, moved, ran, as_observation, advances}
@@ -24,6 +23,7 @@ use Rattle.runner.specs.Runs.{ran_into}
 use Rattle.runner.specs.Control.{cell, action, Enters, Controls}
 use Rattle.runner.specs.declared.Ran.TheVariants.{Done}
 use Rattle.runner.proofs.Plays.{standing_one, standing_more, runner_goes, run_goes}
+use Rattle.std.specs.Prelude.{Ok}
 
 module _ (g : Game) (k : List ℕ) where
   -- the card enters a cell on every play under it
@@ -31,7 +31,7 @@ module _ (g : Game) (k : List ℕ) where
   Runs = (p : Play) → PlayOf g p → UnderCard (automaton k) p → ran k (seen p) ≡ entered (cell k (seen p)) (action k (seen p))
 
   -- a card that is right and does so controls the station, whoever drew it
-  pub runs_controls : checked k ≡ Fine → Runs → Controls g k
+  pub runs_controls : checked k ≡ Ok tt → Runs → Controls g k
   runs_controls right runs =
       let A = automaton k in
       record {

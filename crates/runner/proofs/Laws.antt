@@ -16,7 +16,7 @@ use Rattle.games.specs.declared.Action.{Action}
 use Rattle.sets.proofs.Fills.{filled_none, filled_more, length_filled}
 use Rattle.cards.specs.declared.Move.{Move}
 use Rattle.cards.specs.declared.Move.TheVariants.{Entered, Refused}
-use Rattle.games.specs.declared.Checked.TheVariants.{Fine, Refused as Wrong}
+use Rattle.games.specs.Answers.{refused}
 use Rattle.cards.specs.Card.{automaton, card_observations, checked}
 use Rattle.cards.specs.Run.{entered, begun, followed, opened, stepped, moved, ran}
 use Rattle.cards.proofs.Running.{opened_fine, stepped_fine}
@@ -24,6 +24,9 @@ use Rattle.cards.proofs.Runs.{moved_entered, ran_take_one, ran_take_more}
 use Rattle.runner.specs.declared.Ran.{Ran}
 use Rattle.runner.specs.declared.Ran.TheVariants.{Done, Refused as Stopped}
 use Rattle.runner.specs.Runs.{move_at, move_on, action_of, further, ran_up_to, with_actions, Writable, written, writes, ran_into}
+use Rattle.games.specs.declared.Reason.{Reason}
+use Rattle.games.specs.declared.Reason.TheVariants as reason
+use Rattle.std.specs.Prelude.{Ok, Err}
 
 -- ---- the next move, by the observations taken
 
@@ -34,7 +37,7 @@ steps : (w : List ℕ) (i c j : ℕ) {m : Move} → (i ≡ 0 → ⊥) → m ≡ 
 steps w i c j n f = rw (ne_eqb i 0 n) f
 
 -- the same on a checked card
-module _ (w : List ℕ) (i c j : ℕ) {m : Move} (fine : checked w ≡ Fine) where
+module _ (w : List ℕ) (i c j : ℕ) {m : Move} (fine : checked w ≡ Ok tt) where
   pub opens_fine : i ≡ 0 → m ≡ begun (automaton w) (card_observations w) j → m ≡ move_on w i c j
   opens_fine e f = opens w i c j e (f ∙ sym (opened_fine w j fine))
 
@@ -43,7 +46,7 @@ module _ (w : List ℕ) (i c j : ℕ) {m : Move} (fine : checked w ≡ Fine) whe
 
 further_done : (r : Ran) (m : Move) (j : ℕ) → further r m ≡ Done j → (i : ℕ) × (r ≡ Done i) × (j ≡ i + 1)
 further_done (Done i) (Entered c a) j e = (i, refl, (cc))
-further_done (Done i) (Refused n p) j e = absurd (let z : ◌≡◌ {A = ℕ} 0 1 = cc in omega arith)
+further_done (Done i) (Err stop) j e = absurd (let z : ◌≡◌ {A = ℕ} 0 1 = cc in omega arith)
 further_done (Stopped n p i) m j e = absurd (let z : ◌≡◌ {A = ℕ} 0 1 = cc in omega arith)
 
 module _ (w h : List ℕ) where
@@ -95,7 +98,7 @@ module _ (w h : List ℕ) where
       action_is = ap action_of (sym e ∙ move_is)
 
     -- the move is refused: so is the run
-    module _ (number place : ℕ) (e : move_on w i c (get_or h i 0) ≡ Refused number place) where
+    module _ (number : Reason) (place : ℕ) (e : move_on w i c (get_or h i 0) ≡ refused number place) where
       hit : ran_up_to w h (suc i) ≡ Stopped number place i
       hit = up_to_more i ∙ ap₂ further at.taken (sym move_is ∙ e)
 
@@ -151,15 +154,15 @@ module _ (w h : List ℕ) where
   -- ---- the outcome
 
   module _ (d : List ℕ) where
-    pub run_refused : (number place i : ℕ) → ran_up_to w h (length h) ≡ Stopped number place i → leaves (Stopped number place i) d ≡ writes w h d
+    pub run_refused : (number : Reason) (place i : ℕ) → ran_up_to w h (length h) ≡ Stopped number place i → leaves (Stopped number place i) d ≡ writes w h d
     unfolding writes
     run_refused number place i e = sym (ap (written w h d) e)
 
     -- a run that took k observations, by whether there is room
     room_for : ℕ → Bool → Leaves Ran (List ℕ)
-    room_for k b = cond b (leaves (Stopped 15 k k) d) (leaves (Done k) (with_actions w h k d))
+    room_for k b = cond b (leaves (refused reason.ShortList k k) d) (leaves (Done k) (with_actions w h k d))
 
-    pub run_short : (k : ℕ) → ran_up_to w h (length h) ≡ Done k → length d < k → leaves (Stopped 15 k k) d ≡ writes w h d
+    pub run_short : (k : ℕ) → ran_up_to w h (length h) ≡ Done k → length d < k → leaves (refused reason.ShortList k k) d ≡ writes w h d
     unfolding writes room_for
     run_short k e l = sym (ap (written w h d) e ∙ ap (room_for k) (lt-ltb (length d) k l))
 
@@ -171,7 +174,7 @@ module _ (w h : List ℕ) where
         ∙ ap (leaves (Done k)) (sym f))
 
     -- the pass that writes may come
-    pub writable : (k : ℕ) → checked w ≡ Fine → ran_up_to w h (length h) ≡ Done k → k ≤ length d → Writable w h d
+    pub writable : (k : ℕ) → checked w ≡ Ok tt → ran_up_to w h (length h) ≡ Done k → k ≤ length d → Writable w h d
     writable k c e l = record {
       right = c;
       taken = e ∙ ap Done (done_all (length h) k e);
@@ -179,10 +182,10 @@ module _ (w h : List ℕ) where
     }
 
     -- the card is checked first
-    pub into_wrong : (number place : ℕ) → checked w ≡ Wrong number place → ran_into w h d ≡ leaves (Stopped number place 0) d
+    pub into_wrong : (number : Reason) (place : ℕ) → checked w ≡ refused number place → ran_into w h d ≡ leaves (Stopped number place 0) d
     unfolding ran_into
     into_wrong number place e = rw (ran_into, e)
 
-    pub into_fine : checked w ≡ Fine → ran_into w h d ≡ writes w h d
+    pub into_fine : checked w ≡ Ok tt → ran_into w h d ≡ writes w h d
     unfolding ran_into
     into_fine e = rw (ran_into, e)

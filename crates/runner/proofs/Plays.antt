@@ -1,4 +1,4 @@
--- Words that enter a cell on every play of a game under a card are never refused there: not where a runner is opened on them and moved
+-- Ok that enter a cell on every play of a game under a card are never refused there: not where a runner is opened on them and moved
 -- by the play's observations, and not where they are run over these.
 -- Assumes nothing.
 use mathlib.Core.Path.{◌≡◌, refl, sym, ap, ap₂, subst, ◌∙◌}
@@ -18,7 +18,6 @@ use Rattle.games.proofs.Plays.{some_seen}
 use Rattle.sets.specs.Bounded.{filled_by}
 use Rattle.sets.proofs.Fills.{filled_ext}
 use Rattle.games.specs.Answers.{leaves}
-use Rattle.games.specs.declared.Checked.TheVariants.{Fine}
 use Rattle.cards.specs.Card.{checked}
 use Rattle.cards.specs.Run.{entered, opened, stepped, moved, ran, as_cell, as_observation, stands, starts, advances}
 use Rattle.cards.specs.declared.Move.{Move}
@@ -27,6 +26,7 @@ use Rattle.cards.proofs.Runs.{moved_entered, ran_one, ran_more}
 use Rattle.runner.specs.declared.Ran.TheVariants.{Done}
 use Rattle.runner.specs.Runs.{standing_from, standing, move_at, action_of, further, ran_up_to, with_actions, ran_into}
 use Rattle.runner.proofs.Laws.{run_done, into_fine}
+use Rattle.std.specs.Prelude.{Ok}
 
 -- ---- one observation more moves the runner
 
@@ -77,7 +77,7 @@ module _ (w : List ℕ) (c a : List ℕ → ℕ) where
       (sym (ran_more w h j l ∙ ap (λ (m : Move). moved w m j) e ∙ moved_entered w (c h) (a h) j) ∙ f)
 
   -- the card enters a cell on each of them: the run takes them all and writes the actions
-  module _ (h : List ℕ) (fine : checked w ≡ Fine) (each : (k : ℕ) → 0 < k → k ≤ length h → Enters (take k h)) where
+  module _ (h : List ℕ) (fine : checked w ≡ Ok tt) (each : (k : ℕ) → 0 < k → k ≤ length h → Enters (take k h)) where
     taken : (k : ℕ) → k ≤ length h → ran_up_to w h k ≡ Done k
     unfolding ran_up_to
     taken zero l = refl
@@ -128,6 +128,6 @@ module _ (g : Game) (A : Automaton) (w : List ℕ) (enters : (p : Play) → Play
   runner_goes = beginning Standing stands_last
 
   -- and where the words are a card, the run over the play's observations takes them all
-  pub run_goes : checked w ≡ Fine → (p : Play) → PlayOf g p → UnderCard A p → (d : List ℕ) → length (seen p) ≤ length d
+  pub run_goes : checked w ≡ Ok tt → (p : Play) → PlayOf g p → UnderCard A p → (d : List ℕ) → length (seen p) ≤ length d
       → ran_into w (seen p) d ≡ leaves (Done (length (seen p))) (filled_by (length (seen p)) (λ i. action_after A (take (suc i) (seen p))) d)
   run_goes fine p m u d l = run_enters w (cell_after A) (action_after A) (seen p) fine (beginning InCell enters p m u) d l

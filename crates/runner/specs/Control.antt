@@ -11,7 +11,7 @@ use Rattle.games.specs.Demands.{UnderCard}
 use Rattle.cards.specs.Card.{automaton}
 use Rattle.cards.specs.Run.{entered, as_cell, stands}
 use Rattle.runner.specs.Runs.{standing, ran_into}
-use Rattle.runner.specs.declared.Ran.TheVariants.{Done}
+use Rattle.std.specs.Prelude.{Ok}
 
 -- the cell that the card is in after the observations, and the action that it gives there
 abbrev pub cell : (card seen : List ℕ) → ℕ
@@ -30,4 +30,4 @@ Enters k h = standing k h ≡ stands (as_cell (cell k h)) (entered (cell k h) (a
 pub record Controls (g : Game) (k : List ℕ) : Type 0 where
   pub each_move : (p : Play) → PlayOf g p → UnderCard (automaton k) p → (i : ℕ) → 1 ≤ i → i ≤ rounds p → Enters k (take i (seen p))
   pub whole_run : (p : Play) → PlayOf g p → UnderCard (automaton k) p → (d : List ℕ) → rounds p ≤ length d →
-      ran_into k (seen p) d ≡ leaves (Done (rounds p)) (filled_by (rounds p) (λ i. action k (take (suc i) (seen p))) d)
+      ran_into k (seen p) d ≡ leaves (Ok (rounds p)) (filled_by (rounds p) (λ i. action k (take (suc i) (seen p))) d)

@@ -3,15 +3,14 @@
 use Rattle.std.specs.Prelude.{◌≡◌, cond, List, [], ◌∷◌, ℕ, zero, suc, ◌+◌, ◌≤◌, eqb, ltb, length, take}
 use Rattle.sets.specs.Bounded.{filled_by}
 use Rattle.games.specs.Answers.{unless, Leaves, leaves}
-use Rattle.games.specs.declared.Checked.TheVariants.{Fine}
 use Rattle.games.specs.Automaton.{no_cell}
 use Rattle.cards.specs.Card.{checked}
-use Rattle.cards.specs.Run.{opened, stepped, ran, as_cell, as_observation, stands, starts, advances}
+use Rattle.cards.specs.Run.{Move, opened, stepped, ran, as_cell, as_observation, stands, starts, advances}
 use Rattle.cards.specs.declared.Stood.{Stood}
-use Rattle.cards.specs.declared.Move.{Move}
-use Rattle.cards.specs.declared.Move.TheVariants.{Entered, Refused}
-use Rattle.runner.specs.declared.Ran.{Ran}
-use Rattle.runner.specs.declared.Ran.TheVariants.{Done, Refused as Stopped}
+use Rattle.runner.specs.declared.Stopped.{Stopped}
+use Rattle.games.specs.declared.Reason.TheVariants as reason
+use Rattle.std.specs.Prelude.{Result, Ok, Err}
+use Rattle.std.specs.Prelude.{Ok, Err}
 
 -- ---- the runner
 
@@ -37,18 +36,22 @@ move_on w i c j = cond (eqb i 0) (opened w j) (stepped w c j)
 
 -- the action that a move gives
 abbrev pub action_of : Move → ℕ
-action_of (Entered c a) = a.0
-action_of (Refused number place) = 0
+action_of (Ok m) = m.action.0
+action_of (Err e) = 0
+
+-- what a run comes to: how many observations were taken, all of them, or where it stopped
+abbrev pub Ran : Type 0
+Ran = Result ℕ Stopped
 
 -- one observation more: it is taken, or refused with the number of those taken before it; a refusal stays
 abbrev pub further : Ran → Move → Ran
-further (Done i) (Entered c a) = Done (i + 1)
-further (Done i) (Refused number place) = Stopped number place i
-further (Stopped number place i) m = Stopped number place i
+further (Ok i) (Ok m) = Ok (i + 1)
+further (Ok i) (Err e) = Err (record { refusal = e; taken = i })
+further (Err s) m = Err s
 
 -- what the run comes to on the first k observations
 unfoldable pub ran_up_to : (card seen : List ℕ) → ℕ → Ran
-ran_up_to w h zero = Done 0
+ran_up_to w h zero = Ok 0
 ran_up_to w h (suc k) = further (ran_up_to w h k) (move_at w h k)
 
 -- the actions after the first k observations, in front of the buffer
@@ -57,14 +60,17 @@ with_actions w h k d = filled_by k (λ i. action_of (move_at w h i)) d
 
 -- what the pass that writes asks: the card is one, the run takes every observation, and there is a word for each
 pub record Writable (card seen out : List ℕ) : Type 0 where
-  pub right : checked card ≡ Fine
-  pub taken : ran_up_to card seen (length seen) ≡ Done (length seen)
+  pub right : checked card ≡ Ok tt
+  pub taken : ran_up_to card seen (length seen) ≡ Ok (length seen)
   pub room : length seen ≤ length out
+
+abbrev short : ℕ → Stopped
+short k = record { refusal = record { reason = reason.ShortList; place = k }; taken = k }
 
 -- a run that was not refused on the way: 15 where there is no word for each observation; else their actions stand in front
 abbrev pub written : (card seen out : List ℕ) → Ran → Leaves Ran (List ℕ)
-written w h d (Done k) = cond (ltb (length d) k) (leaves (Stopped 15 k k) d) (leaves (Done k) (with_actions w h k d))
-written w h d (Stopped number place i) = leaves (Stopped number place i) d
+written w h d (Ok k) = cond (ltb (length d) k) (leaves (Err (short k)) d) (leaves (Ok k) (with_actions w h k d))
+written w h d (Err s) = leaves (Err s) d
 
 -- the run of a checked card: 12 and 14 on the way, then 15
 unfoldable pub writes : (card seen out : List ℕ) → Leaves Ran (List ℕ)
@@ -72,4 +78,4 @@ writes w h d = written w h d (ran_up_to w h (length h))
 
 -- 13 first, whatever the observations; a refusal leaves the buffer as it was
 unfoldable pub ran_into : (card seen out : List ℕ) → Leaves Ran (List ℕ)
-ran_into w h d = unless (checked w) (λ number place. leaves (Stopped number place 0) d) (writes w h d)
+ran_into w h d = unless (checked w) (λ e. leaves (Err (record { refusal = e; taken = 0 })) d) (writes w h d)

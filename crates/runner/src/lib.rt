@@ -9,7 +9,7 @@ ghost use Rattle.cards.specs.Run.{stands, starts, advances};
 ghost use Rattle.runner.specs.Runs.{standing, move_on, ran_up_to, with_actions, Writable, writes, ran_into};
 
 use cards::{Move, Stood};
-use games::{Cell, Checked, Observation};
+use games::{Cell, Observation, Reason, Refusal};
 
 #[derive(Clone, Copy)]
 pub struct Runner<'c> {
@@ -81,16 +81,19 @@ pub fn drive(card: &[u32], first: Observation, second: Observation, third: Obser
     Driven { begun, moved, last }
 }
 
-// How many observations were taken, all of them; or a refusal: number, place, and how many were taken before it.
-#[derive(Clone, Copy)]
-pub enum Ran {
-    Done(usize),
-    Refused(u32, usize, usize),
+// A run that was refused, and how many observations were taken before it.
+#[derive(Clone, Copy, PartialEq, Eq, Debug)]
+pub struct Stopped {
+    pub refusal: Refusal,
+    pub taken: usize,
 }
+
+// How many observations were taken, which is all of them; or where it stopped.
+pub type Ran = Result<usize, Stopped>;
 
 // The move of a checked card on the next observation; the first opens it.
 fn move_on(card: &[u32], taken: usize, cell: Cell, seen: Observation) -> Move
-    requires { checked card.now ≡ Checked.Fine }
+    requires { checked card.now ≡ Ok tt }
     ensures { result ≡ move_on card.now taken cell.0 seen.0 }
 {
     if taken == 0 {
@@ -102,21 +105,21 @@ fn move_on(card: &[u32], taken: usize, cell: Cell, seen: Observation) -> Move
 
 // Runs a checked card and writes nothing: refusals 12 and 14.
 fn try_run(card: &[u32], seen: &[u32]) -> Ran
-    requires { checked card.now ≡ Checked.Fine }
+    requires { checked card.now ≡ Ok tt }
     ensures { result ≡ ran_up_to card.now seen.now (length seen.now) }
 {
     let mut cell: u32 = games::NO_CELL;
     let mut i: usize = 0;
     while i < seen.len() {
         match move_on(card, i, Cell(cell), Observation(seen[i])) {
-            Move::Refused(number, place) => return Ran::Refused(number, place, i),
-            Move::Entered(entered, _) => {
-                cell = entered.0;
+            Err(refusal) => return Err(Stopped { refusal, taken: i }),
+            Ok(entered) => {
+                cell = entered.cell.0;
             }
         }
         i += 1;
     }
-    Ran::Done(i)
+    Ok(i)
 }
 
 // The actions of a run that is not refused.
@@ -128,10 +131,10 @@ fn write_actions(card: &[u32], seen: &[u32], out: &mut [u32])
     let mut i: usize = 0;
     while i < seen.len() {
         match move_on(card, i, Cell(cell), Observation(seen[i])) {
-            Move::Refused(_, _) => return,
-            Move::Entered(entered, action) => {
-                cell = entered.0;
-                out[i] = action.0;
+            Err(_) => return,
+            Ok(entered) => {
+                cell = entered.cell.0;
+                out[i] = entered.action.0;
             }
         }
         i += 1;
@@ -140,19 +143,21 @@ fn write_actions(card: &[u32], seen: &[u32], out: &mut [u32])
 
 // Runs a checked card: a first pass that writes nothing (12, 14), then 15, then the pass that writes.
 fn run_checked(card: &[u32], seen: &[u32], out: &mut [u32]) -> Ran
-    requires { checked card.now ≡ Checked.Fine }
+    requires { checked card.now ≡ Ok tt }
     ensures { leaves result out.new ≡ writes card.now seen.now out.old }
 {
-    match try_run(card, seen) {
-        Ran::Refused(number, place, taken) => Ran::Refused(number, place, taken),
-        Ran::Done(taken) => {
-            if out.len() < taken {
-                return Ran::Refused(15, taken, taken);
-            }
-            write_actions(card, seen, out);
-            Ran::Done(taken)
-        }
+    let taken = try_run(card, seen)?;
+    if out.len() < taken {
+        return Err(Stopped {
+            refusal: Refusal {
+                reason: Reason::ShortList,
+                place: taken,
+            },
+            taken,
+        });
     }
+    write_actions(card, seen, out);
+    Ok(taken)
 }
 
 // Runs a card over observations, and writes the action after each into the front of `out`. The card is checked once, whatever the
@@ -161,7 +166,7 @@ pub fn run(card: &[u32], seen: &[u32], out: &mut [u32]) -> Ran
     ensures { leaves result out.new ≡ ran_into card.now seen.now out.old }
 {
     match cards::check(card) {
-        Checked::Refused(number, place) => Ran::Refused(number, place, 0),
-        Checked::Fine => run_checked(card, seen, out),
+        Err(refusal) => Err(Stopped { refusal, taken: 0 }),
+        Ok(()) => run_checked(card, seen, out),
     }
 }

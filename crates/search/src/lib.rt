@@ -7,7 +7,6 @@ ghost use Rattle.families.specs.Bits.{lanes, has as is_in, Bits};
 ghost use Rattle.games.specs.Words.{game};
 ghost use Rattle.games.specs.Step.{meets, step, good};
 ghost use Rattle.tables.specs.Check.{checked};
-ghost use Rattle.games.specs.declared.Checked.TheVariants.{Fine};
 ghost use Rattle.games.specs.Verdict.{starts_in};
 ghost use Rattle.moves.specs.Halves.{shown_in, Ready};
 ghost use Rattle.search.specs.Stages.{Stage, Sound, Passed, safely_enabled, EnabledStates, Same};
@@ -22,7 +21,7 @@ const LAST: u32 = LANE_SETS - 1;
 
 // For every observation, the states of u that show it form a set of the family. Where u itself is one, they do: they are its subsets.
 fn shown_in(table: &[u32], family: &[u64], u: u32) -> bool
-    requires { (checked table.now ≡ Fine) × Stage (game table.now) family.now × (u < 2 ^ (game table.now).states) }
+    requires { (checked table.now ≡ Ok tt) × Stage (game table.now) family.now × (u < 2 ^ (game table.now).states) }
     ensures { result ≡ shown_in (game table.now) (is_in family.now) u }
 {
     if families::has(family, u) {
@@ -42,7 +41,7 @@ fn shown_in(table: &[u32], family: &[u64], u: u32) -> bool
 
 // Every start set is in the family.
 fn starts_in(table: &[u32], family: &[u64]) -> bool
-    requires { (checked table.now ≡ Fine) × (length family.now ≡ lanes (game table.now).states) }
+    requires { (checked table.now ≡ Ok tt) × (length family.now ≡ lanes (game table.now).states) }
     ensures { result ≡ starts_in (game table.now) (is_in family.now) }
 {
     let starts = tables::start_sets(table);
@@ -134,7 +133,7 @@ fn pass(table: &[u32], low: &[u32], high: &[u32], family: &[u64], next: &mut [u6
 
 // The state is not bad, and the action is enabled in it.
 fn safely_enabled(table: &[u32], a: Action, i: State) -> bool
-    requires { (checked table.now ≡ Fine) × (a.0 < (game table.now).actions) × (i.0 < (game table.now).states) }
+    requires { (checked table.now ≡ Ok tt) × (a.0 < (game table.now).actions) × (i.0 < (game table.now).states) }
     ensures { result ≡ safely_enabled (game table.now) a.0 i.0 }
 {
     let bad = sets::member(tables::bad(table), i.0);
@@ -143,7 +142,7 @@ fn safely_enabled(table: &[u32], a: Action, i: State) -> bool
 
 // The states that are not bad and in which the action is enabled.
 fn enabled_states(table: &[u32], a: Action) -> u32
-    requires { (checked table.now ≡ Fine) × (a.0 < (game table.now).actions) }
+    requires { (checked table.now ≡ Ok tt) × (a.0 < (game table.now).actions) }
     ensures { EnabledStates (game table.now) a.0 (game table.now).states result }
 {
     let n = tables::states(table);
@@ -160,7 +159,7 @@ fn enabled_states(table: &[u32], a: Action) -> u32
 
 // The sets that are good for one round: the subsets of the states, not bad, in which an action is enabled.
 fn first_family(table: &[u32], family: &mut [u64])
-    requires { (checked table.now ≡ Fine) × (length family.old ≡ lanes (game table.now).states) }
+    requires { (checked table.now ≡ Ok tt) × (length family.old ≡ lanes (game table.now).states) }
     ensures { Bits (game table.now).states (good (game table.now) 1) family.new }
 {
     let actions = tables::actions(table);

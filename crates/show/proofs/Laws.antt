@@ -11,8 +11,8 @@ use borrow.Author.Tests.{le-leb, lt-leb, leb-false}
 use Rattle.games.specs.Answers.{unless}
 use Rattle.games.specs.Places.{move, place_of}
 use Rattle.games.specs.Words.{game}
-use Rattle.games.specs.declared.Checked.{Checked}
-use Rattle.games.specs.declared.Checked.TheVariants.{Fine, Refused as Stopped}
+use Rattle.games.specs.Answers.{Checked}
+use Rattle.games.specs.Answers.{refused}
 use Rattle.games.proofs.Places.{action_row}
 use Rattle.tables.specs.Layout.{shape_in}
 use Rattle.tables.proofs.Checks.{sized}
@@ -24,19 +24,22 @@ use Rattle.pairs.proofs.Pairing.{paired}
 use Rattle.show.specs.Show.{located, found, handed, part_of}
 use Rattle.show.specs.declared.Shown.{Shown}
 use Rattle.show.specs.declared.Shown.TheVariants.{Part, Refused}
+use Rattle.games.specs.declared.Reason.{Reason}
+use Rattle.games.specs.declared.Reason.TheVariants as reason
+use Rattle.std.specs.Prelude.{Ok, Err}
 
 module _ (w k : List ℕ) (c : ℕ) where
   -- the check of both comes first
-  pub pair_refused : (number place : ℕ) → checked w k ≡ Stopped number place → Refused number place ≡ found w k c
+  pub pair_refused : (number : Reason) (place : ℕ) → checked w k ≡ Stopped number place → refused number place ≡ found w k c
   unfolding found
   pair_refused number place e = rw e
 
-  pub pair_fine : checked w k ≡ Fine → located w k c ≡ found w k c
+  pub pair_fine : checked w k ≡ Ok tt → located w k c ≡ found w k c
   unfolding found
   pair_fine e = rw e
 
   -- then 12
-  pub no_such_cell : card_cells k ≤ c → Refused 12 c ≡ located w k c
+  pub no_such_cell : card_cells k ≤ c → refused reason.NumberBeyond c ≡ located w k c
   unfolding located
   no_such_cell l = rw (located, le-leb (automaton k).size c (subst (λ (i : ℕ). i ≤ c) (sym (size_of k)) l))
 
@@ -49,21 +52,21 @@ module _ (w k : List ℕ) (c : ℕ) where
 
 -- ---- the part lies in the table
 
-unless_part : (t : Checked) (s : Shown) (at n : ℕ) → unless t Refused s ≡ Part at n → (t ≡ Fine) × (s ≡ Part at n)
-unless_part Fine s at n e = (refl, e)
-unless_part (Stopped x y) s at n e = absurd (let z : ◌≡◌ {A = ℕ} 0 1 = cc in omega arith)
+unless_part : (t : Checked) (s : Shown) (at n : ℕ) → unless t Refused s ≡ Part at n → (t ≡ Ok tt) × (s ≡ Part at n)
+unless_part (Ok tt) s at n e = (refl, e)
+unless_part (Err stop) s at n e = absurd (let z : ◌≡◌ {A = ℕ} 0 1 = cc in omega arith)
 
-cond_part : (b : Bool) (x y : ℕ) (s : Shown) (at n : ℕ) → cond b (Refused x y) s ≡ Part at n → (b ≡ false) × (s ≡ Part at n)
+cond_part : (b : Bool) (x : Reason) (y : ℕ) (s : Shown) (at n : ℕ) → cond b (refused x y) s ≡ Part at n → (b ≡ false) × (s ≡ Part at n)
 cond_part true x y s at n e = absurd (let z : ◌≡◌ {A = ℕ} 0 1 = cc in omega arith)
 cond_part false x y s at n e = (refl, e)
 
 module _ (w k : List ℕ) (c at n : ℕ) where
   -- an action of the table has its words there
-  row_in : (b : ℕ) → checked w k ≡ Fine → b < (game w).actions → place_of (shape_in w) (move b 0) + (game w).states ≤ length w
+  row_in : (b : ℕ) → checked w k ≡ Ok tt → b < (game w).actions → place_of (shape_in w) (move b 0) + (game w).states ≤ length w
   unfolding game
   row_in b e l = rw (sized w (paired w k e).table_fine).long (action_row (shape_in w) b l)
 
-  located_in : checked w k ≡ Fine → located w k c ≡ Part at n → at + n ≤ length w
+  located_in : checked w k ≡ Ok tt → located w k c ≡ Part at n → at + n ≤ length w
   unfolding located
   located_in e f =
       let A = automaton k in
@@ -86,7 +89,7 @@ module _ (w k : List ℕ) (c : ℕ) (p : ℕ × ℕ) where
       let l : at + n - at ≡ n = omega arith in
       rw (e, l)
 
-  pub hands_none : (number place : ℕ) → found w k c ≡ Refused number place → handed [] (p.0, 0 * 4 + p.1) ≡ part_of w p (found w k c)
+  pub hands_none : (number : Reason) (place : ℕ) → found w k c ≡ refused number place → handed [] (p.0, 0 * 4 + p.1) ≡ part_of w p (found w k c)
   hands_none number place e =
       let l : 0 * 4 + p.1 ≡ p.1 = omega arith in
       rw (e, l)

@@ -16,6 +16,8 @@ use Rattle.pairs.specs.Pair.{agree, checked as pair_checked}
 use Rattle.show.specs.Show.{located, found, handed, part_of}
 use Rattle.show.specs.declared.Shown.{Shown}
 use Rattle.show.specs.declared.Shown.TheVariants.{Part, Refused}
+use Rattle.games.specs.declared.Reason.TheVariants as reason
+use Rattle.games.specs.Answers.{refused}
 
 abbrev pub Row : Type 0
 Row = record { table : List ℕ; card : List ℕ; cell : ℕ; answer : Shown }
@@ -28,11 +30,11 @@ pub rows : List Row
 rows =
     record { table = table_a; card = card_a; cell = 0; answer = Part 4 3 }
     ∷ record { table = table_a; card = card_a; cell = 1; answer = Part 7 3 }
-    ∷ record { table = table_a; card = card_a; cell = 2; answer = Refused 12 2 }
-    ∷ record { table = table_a; card = set card_a 0 0x8021_0003; cell = 0; answer = Refused 13 6 }
-    ∷ record { table = table_c; card = card_a; cell = 0; answer = Refused 16 0 }
-    ∷ record { table = table_c; card = card_a; cell = 2; answer = Refused 16 0 }
-    ∷ record { table = []; card = []; cell = 0; answer = Refused 1 0 }
+    ∷ record { table = table_a; card = card_a; cell = 2; answer = refused reason.NumberBeyond 2 }
+    ∷ record { table = table_a; card = set card_a 0 0x8021_0003; cell = 0; answer = refused reason.NoCard 6 }
+    ∷ record { table = table_c; card = card_a; cell = 0; answer = refused reason.Disagree 0 }
+    ∷ record { table = table_c; card = card_a; cell = 2; answer = refused reason.Disagree 0 }
+    ∷ record { table = []; card = []; cell = 0; answer = refused reason.NoWords 0 }
     ∷ []
 
 pub every_row : Rows rows

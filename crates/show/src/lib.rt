@@ -5,38 +5,36 @@ ghost use Rattle.std.specs.Prelude.{◌≡◌};
 ghost use Rattle.pairs.specs.Pair.{checked};
 ghost use Rattle.show.specs.Show.{located, found, handed, part_of};
 
-use games::{Cell, Checked, Place, State};
+use games::{Cell, Place, Reason, Refusal, State};
 
-// Where the part starts in the table and how many words it has, or a refusal: number and place.
-#[derive(Clone, Copy)]
-pub enum Shown {
-    Part(usize, usize),
-    Refused(u32, usize),
+// A part of a table's words: where it starts, and how many words it has.
+#[derive(Clone, Copy, PartialEq, Eq, Debug)]
+pub struct Part {
+    pub offset: usize,
+    pub length: usize,
 }
 
 // Refusal 12, or the part.
-fn locate(table: &[u32], card: &[u32], cell: Cell) -> Shown
-    requires { checked table.now card.now ≡ Checked.Fine }
+fn locate(table: &[u32], card: &[u32], cell: Cell) -> Result<Part, Refusal>
+    requires { checked table.now card.now ≡ Ok tt }
     ensures { result ≡ located table.now card.now cell.0 }
 {
     if cards::cells(card) <= cell.0 {
-        return Shown::Refused(12, cell.0 as usize);
+        return Err(Reason::NumberBeyond.at(cell.0 as usize));
     }
     let action = cards::cell_action(card, cell);
-    Shown::Part(
-        tables::place_in(table, Place::Move(action, State(0))),
-        tables::states(table) as usize,
-    )
+    Ok(Part {
+        offset: tables::place_in(table, Place::Move(action, State(0))),
+        length: tables::states(table) as usize,
+    })
 }
 
 // Where the part stands: the check of table and card, then 12.
-pub fn find(table: &[u32], card: &[u32], cell: Cell) -> Shown
+pub fn find(table: &[u32], card: &[u32], cell: Cell) -> Result<Part, Refusal>
     ensures { result ≡ found table.now card.now cell.0 }
 {
-    match pairs::check(table, card) {
-        Checked::Refused(number, place) => Shown::Refused(number, place),
-        Checked::Fine => locate(table, card, cell),
-    }
+    pairs::check(table, card)?;
+    locate(table, card, cell)
 }
 
 // The part itself, of the table's words and never of the card's; empty where `find` refuses.
@@ -44,9 +42,9 @@ pub fn show<'t, 'c>(table: &'t [u32], card: &'c [u32], cell: Cell) -> &'t [u32]
     ensures { handed result.now result.ref_ptr
         ≡ part_of table.now table.entry.ref_ptr (found table.now card.now cell.0) }
 {
-    let Shown::Part(at, n) = find(table, card, cell) else {
+    let Ok(part) = find(table, card, cell) else {
         return &table[0..0];
     };
-    let end = at + n;
-    &table[at..end]
+    let end = part.offset + part.length;
+    &table[part.offset..end]
 }

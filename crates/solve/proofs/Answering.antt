@@ -24,6 +24,9 @@ use Rattle.solve.specs.Program.{input_bytes, buffer_words, blank, card_in, table
 use Rattle.solve.specs.declared.Input.{Input}
 use Rattle.solve.specs.declared.Input.TheVariants.{Bytes, Failed}
 use Rattle.io.specs.Counts.{clamp_len}
+use Rattle.games.specs.declared.Reason.{Reason}
+use Rattle.games.specs.Answers.{refused}
+use Rattle.std.specs.Prelude.{Err}
 
 -- another name for the text that was written
 pub wrote_same : {s t d e : List ℕ} {r : ℕ} → s ≡ t → Wrote s 0 d r e → Wrote t 0 d r e
@@ -38,9 +41,9 @@ module _ (w work card : List ℕ) (r : Answer) (left d : List ℕ) (e : leaves r
       ap (λ (y : Answer). answer_text y (card_in w y d)) (sym f)
       ∙ ap (λ (o : Leaves Answer Buffers). answer_text o.answer (card_in w o.answer o.left.card)) e
 
-  pub refused_text : (number place : ℕ) → r ≡ Refused number place → refused_line number place ≡ table_text w work card
+  pub refused_text : (number : Reason) (place : ℕ) → r ≡ refused number place → refused_line number place ≡ table_text w work card
   unfolding answer_text
-  refused_text number place f = said (Refused number place) f
+  refused_text number place f = said (refused number place) f
 
   pub no_text : (k : ℕ) → r ≡ No k → no_line k ≡ table_text w work card
   unfolding answer_text
@@ -54,10 +57,10 @@ pub same_text : {v w work card : List ℕ} → v ≡ w → work ≡ blank → ca
 same_text e f g = rw (e, f, g)
 
 -- the answer is a yes, a no or a refusal
-pub no_fourth : (r : Answer) → ((t m : ℕ) → r ≡ Yes t m → ⊥) → ((k : ℕ) → r ≡ No k → ⊥) → ((n p : ℕ) → r ≡ Refused n p → ⊥) → ⊥
+pub no_fourth : (r : Answer) → ((t m : ℕ) → r ≡ Yes t m → ⊥) → ((k : ℕ) → r ≡ No k → ⊥) → ((n : Reason) (p : ℕ) → r ≡ refused n p → ⊥) → ⊥
 no_fourth (Yes t m) a b c = a t m refl
 no_fourth (No k) a b c = b k refl
-no_fourth (Refused n p) a b c = c n p refl
+no_fourth (Err stop) a b c = c stop.reason stop.place refl
 
 -- a card in a room of so many words has numbers that its head can hold
 pub card_fits : (m o p n : ℕ) → p ≡ o → o ≤ max_observations → n ≡ buffer_words → card_length m o ≤ n → (m ≤ low_values) × (p < number_values)

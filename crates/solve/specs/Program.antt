@@ -2,13 +2,16 @@
 -- Assumes nothing.
 use Rattle.std.specs.Prelude.{cond, not, List, [], ℕ, ◌+◌, ◌*◌, ◌/◌, ◌%◌, ◌≤◌, min, eqb, ltb, length, take, replicate, ℤ, pos, negsuc}
 use Rattle.games.specs.Format.{max_sets}
-use Rattle.solver.specs.Solve.{solved, written}
-use Rattle.solver.specs.declared.Answer.{Answer}
-use Rattle.solver.specs.declared.Answer.TheVariants.{Yes, No, Refused}
+use Rattle.std.specs.Prelude.{Ok, Err}
+use Rattle.solver.specs.Solve.{Answer, solved, written}
+use Rattle.solver.specs.declared.Verdict.TheVariants.{Yes, No}
 use Rattle.printout.specs.Lines.{answer_text, unread_line, line_bytes}
 use Rattle.solve.specs.Bytes.{words_of}
 use Rattle.solve.specs.declared.Input.{Input}
 use Rattle.solve.specs.declared.Input.TheVariants.{Bytes, Failed}
+use Rattle.games.specs.declared.Reason.TheVariants as reason
+use Rattle.games.specs.Answers.{refused}
+use Rattle.std.specs.Prelude.{Err}
 
 -- the most bytes that are taken for a table
 abbrev pub input_bytes : ℕ
@@ -27,9 +30,9 @@ text_bytes = buffer_words * line_bytes
 
 -- the card in front of its room, after a yes
 abbrev pub card_in : (table : List ℕ) → Answer → (room : List ℕ) → List ℕ
-card_in w (Yes settled cells) d = written w cells d
-card_in w (No round) d = []
-card_in w (Refused number place) d = []
+card_in w (Ok (Yes settled cells)) d = written w cells d
+card_in w (Ok (No round)) d = []
+card_in w (Err e) d = []
 
 -- what is printed for a table: solve's answer, and the card that it wrote
 unfoldable pub table_text : (table work card : List ℕ) → List ℕ
@@ -38,8 +41,8 @@ table_text w work d = let o = solved w work d in answer_text o.answer (card_in w
 -- what is printed for the bytes of the input: too many, no whole number of words, or the words of a table
 unfoldable pub program_text : List ℕ → List ℕ
 program_text b =
-    cond (ltb input_bytes (length b)) (answer_text (Refused 3 (input_bytes / 4 + 1)) [])
-    (cond (not (eqb (length b % 4) 0)) (answer_text (Refused 3 (length b / 4)) [])
+    cond (ltb input_bytes (length b)) (answer_text (refused reason.BadLength (input_bytes / 4 + 1)) [])
+    (cond (not (eqb (length b % 4) 0)) (answer_text (refused reason.BadLength (length b / 4)) [])
     (table_text (words_of (length b / 4) b) blank blank))
 
 -- ---- what reading gave, and the reply to it

@@ -8,7 +8,8 @@ ghost use Rattle.solve.specs.Bytes.{word, words_of};
 ghost use Rattle.solve.specs.Program.{input_bytes, buffer_words, blank, text_bytes, table_text, program_text};
 ghost use Rattle.solve.specs.Program.{Counts, taken_of, reply_to, reply_text};
 
-use solver::Answer;
+use games::{Reason, Refusal};
+use solver::Verdict;
 use std::io::Read;
 
 fn wide(b: u8) -> u32
@@ -74,19 +75,15 @@ fn report(table: &[u32], work: &mut [u32], card: &mut [u32], out: &mut [u8]) -> 
     ensures { Wrote (table_text table.now work.old card.old) 0 out.old result out.new
         × (result ≤ text_bytes) }
 {
-    let answer = solver::solve(table, work, card);
-    let Answer::Yes(settled, cells) = answer else {
-        let Answer::No(round) = answer else {
-            let Answer::Refused(number, place) = answer else {
-                return 0;
-            };
-            return printout::put_refused(out, 0, number, place);
-        };
-        return printout::put_no(out, 0, round);
-    };
-    let length = games::card_length(cells, tables::observations(table));
-    let next = printout::put_yes(out, 0, settled, cells);
-    printout::put_card(out, next, &card[..length])
+    match solver::solve(table, work, card) {
+        Err(refusal) => printout::put_refused(out, 0, refusal),
+        Ok(Verdict::No(round)) => printout::put_no(out, 0, round),
+        Ok(Verdict::Yes(settled, cells)) => {
+            let length = games::card_length(cells, tables::observations(table));
+            let next = printout::put_yes(out, 0, settled, cells);
+            printout::put_card(out, next, &card[..length])
+        }
+    }
 }
 
 // The text for the bytes of a whole number of words.
@@ -103,15 +100,25 @@ fn answer_words(bytes: &[u8], out: &mut [u8]) -> usize
     report(&words[..n], &mut work, &mut card, out)
 }
 
+// The refusal of an input that can't be a table's words.
+fn bad_length(words: usize) -> Refusal
+    ensures { result ≡ record { reason = Reason.BadLength; place = words } }
+{
+    Refusal {
+        reason: Reason::BadLength,
+        place: words,
+    }
+}
+
 // The text for the bytes of the input.
 fn respond(bytes: &[u8], out: &mut [u8]) -> usize
     ensures { Wrote (program_text bytes.now) 0 out.old result out.new × (result ≤ text_bytes) }
 {
     if INPUT_BYTES < bytes.len() {
-        return printout::put_refused(out, 0, 3, INPUT_BYTES / 4 + 1);
+        return printout::put_refused(out, 0, bad_length(INPUT_BYTES / 4 + 1));
     }
     if bytes.len() % 4 != 0 {
-        return printout::put_refused(out, 0, 3, bytes.len() / 4);
+        return printout::put_refused(out, 0, bad_length(bytes.len() / 4));
     }
     answer_words(bytes, out)
 }

@@ -15,13 +15,16 @@ use Rattle.games.specs.Game.{Game}
 use Rattle.games.specs.Step.{settling}
 use Rattle.games.specs.Verdict.{Verdict, Yes, No, starts_in, settled, cells, verdict}
 use Rattle.games.specs.Words.{game, card_length, card_of}
-use Rattle.games.specs.declared.Checked.{Checked}
-use Rattle.games.specs.declared.Checked.TheVariants.{Fine, Refused as Stopped}
+use Rattle.games.specs.Answers.{Checked}
+use Rattle.games.specs.Answers.{refused}
 use Rattle.games.proofs.Decided.{verdict_yes}
 use Rattle.tables.specs.Check.{checked}
 use Rattle.solver.specs.Solve.{work_words, by_verdict, Buffers, buffers, searched, solved, WorkEnough}
 use Rattle.solver.specs.declared.Answer.{Answer}
 use Rattle.solver.specs.declared.Answer.TheVariants.{Yes as SaysYes, No as SaysNo, Refused}
+use Rattle.games.specs.declared.Reason.{Reason}
+use Rattle.games.specs.declared.Reason.TheVariants as reason
+use Rattle.std.specs.Prelude.{Ok, Err}
 
 -- the number of sets, as the code has it
 pub size_is : (g : Game) (n size : ℕ) → n ≡ g.states → size ≡ 2 ^ n → size ≡ 2 ^ g.states
@@ -29,11 +32,11 @@ size_is g n size e h = h ∙ ap (λ (m : ℕ). 2 ^ m) e
 
 -- a verdict's yes: no room for the card, or the card is written
 module _ (g : Game) (d : List ℕ) (t m need : ℕ) (is : need ≡ card_length m g.observations) where
-  pub granted_short : length d < need → leaves (Refused 9 need) d ≡ by_verdict g d (Yes t m)
+  pub granted_short : length d < need → leaves (refused reason.ShortRoom need) d ≡ by_verdict g d (Yes t m)
   unfolding by_verdict
   granted_short h =
       let n = card_length m g.observations in
-      ap (λ (x : ℕ). leaves (Refused 9 x) d) is ∙ sym (rw (lt-ltb (length d) n (subst (λ (x : ℕ). length d < x) is h)))
+      ap (λ (x : ℕ). leaves (refused reason.ShortRoom x) d) is ∙ sym (rw (lt-ltb (length d) n (subst (λ (x : ℕ). length d < x) is h)))
 
   pub granted_written : need ≤ length d → (e : List ℕ) → e ≡ card_of g ++ drop (card_length m g.observations) d → leaves (SaysYes t m) e ≡ by_verdict g d (Yes t m)
   unfolding by_verdict
@@ -50,20 +53,20 @@ module _ (g : Game) (d : List ℕ) where
   decided_yes k m s h l x e = e ∙ ap (by_verdict g d) (ap₂ Yes (sym s) l ∙ sym (verdict_yes g h))
 
 module _ (w work d : List ℕ) where
-  pub solved_stopped : (n p : ℕ) → checked w ≡ Stopped n p → leaves (Refused n p) (buffers work d) ≡ solved w work d
+  pub solved_stopped : (n : Reason) (p : ℕ) → checked w ≡ Stopped n p → leaves (refused n p) (buffers work d) ≡ solved w work d
   unfolding solved
   solved_stopped n p e = sym (rw e)
 
-  module _ (fine : checked w ≡ Fine) (need : ℕ) (is : need ≡ work_words (game w).states) where
+  module _ (fine : checked w ≡ Ok tt) (need : ℕ) (is : need ≡ work_words (game w).states) where
     fine_is : solved w work d ≡ searched (game w) work d
     unfolding solved
     fine_is = rw fine
 
-    pub solved_short : length work < need → leaves (Refused 8 need) (buffers work d) ≡ solved w work d
+    pub solved_short : length work < need → leaves (refused reason.ShortWork need) (buffers work d) ≡ solved w work d
     unfolding searched
     solved_short h =
         let n = work_words (game w).states in
-        ap (λ (k : ℕ). leaves (Refused 8 k) (buffers work d)) is
+        ap (λ (k : ℕ). leaves (refused reason.ShortWork k) (buffers work d)) is
         ∙ sym (fine_is ∙ rw (lt-ltb (length work) n (subst (λ (k : ℕ). length work < k) is h)))
 
     pub solved_done : need ≤ length work → (r : Answer) (left e : List ℕ) → leaves r e ≡ by_verdict (game w) d (verdict (game w)) → left ≡ fill need 0 work → leaves r (buffers left e) ≡ solved w work d
@@ -76,10 +79,10 @@ module _ (w work d : List ℕ) where
 -- ---- the ways in which solve ends, with the answer r and the words e in the card room
 
 pub data Ending (w work d : List ℕ) (r : Answer) (e : List ℕ) : Type 0 where
-  stopped : {n p : ℕ} → checked w ≡ Stopped n p → r ≡ Refused n p → Ending w work d r e
-  no_work : checked w ≡ Fine → length work < work_words (game w).states → r ≡ Refused 8 (work_words (game w).states) → Ending w work d r e
+  stopped : {n p : ℕ} → checked w ≡ Stopped n p → r ≡ refused n p → Ending w work d r e
+  no_work : checked w ≡ Ok tt → length work < work_words (game w).states → r ≡ refused reason.ShortWork (work_words (game w).states) → Ending w work d r e
   lost : {k : ℕ} → WorkEnough w work → verdict (game w) ≡ No k → r ≡ SaysNo k → Ending w work d r e
-  no_card : {t m : ℕ} → WorkEnough w work → verdict (game w) ≡ Yes t m → length d < card_length m (game w).observations → r ≡ Refused 9 (card_length m (game w).observations) → Ending w work d r e
+  no_card : {t m : ℕ} → WorkEnough w work → verdict (game w) ≡ Yes t m → length d < card_length m (game w).observations → r ≡ refused reason.ShortRoom (card_length m (game w).observations) → Ending w work d r e
   granted : {t m : ℕ} → WorkEnough w work → verdict (game w) ≡ Yes t m → card_length m (game w).observations ≤ length d → r ≡ SaysYes t m → e ≡ card_of (game w) ++ drop (card_length m (game w).observations) d → Ending w work d r e
 
 module _ (w work d : List ℕ) (r : Answer) (e : List ℕ) where
@@ -95,7 +98,7 @@ module _ (w work d : List ℕ) (r : Answer) (e : List ℕ) where
       granted room v (ltb-false (length d) need h) (ap (λ (x : Leaves Answer (List ℕ)). x.answer) s) (ap (λ (x : Leaves Answer (List ℕ)). x.left) s))
       (decided (ltb (length d) need))
 
-  after_check : checked w ≡ Fine → (left : List ℕ) → leaves r (buffers left e) ≡ searched (game w) work d → Ending w work d r e
+  after_check : checked w ≡ Ok tt → (left : List ℕ) → leaves r (buffers left e) ≡ searched (game w) work d → Ending w work d r e
   unfolding searched
   after_check fine left is =
       let need = work_words (game w).states in
@@ -106,9 +109,9 @@ module _ (w work d : List ℕ) (r : Answer) (e : List ℕ) where
       (ap (λ (x : Leaves Answer Buffers). leaves x.answer x.left.card) (rw h at is)))
       (decided (ltb (length work) need))
 
-  by_check : (c : Checked) → checked w ≡ c → (left : List ℕ) → leaves r (buffers left e) ≡ unless c (λ n p. leaves (Refused n p) (buffers work d)) (searched (game w) work d) → Ending w work d r e
-  by_check Fine c left is = after_check c left is
-  by_check (Stopped n p) c left is = stopped c (ap (λ (x : Leaves Answer Buffers). x.answer) is)
+  by_check : (c : Checked) → checked w ≡ c → (left : List ℕ) → leaves r (buffers left e) ≡ unless c (λ n p. leaves (refused n p) (buffers work d)) (searched (game w) work d) → Ending w work d r e
+  by_check (Ok tt) c left is = after_check c left is
+  by_check (Err stop) c left is = stopped c (ap (λ (x : Leaves Answer Buffers). x.answer) is)
 
   pub ends : (left : List ℕ) → leaves r (buffers left e) ≡ solved w work d → Ending w work d r e
   unfolding solved

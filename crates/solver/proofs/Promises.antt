@@ -18,8 +18,8 @@ use Rattle.games.specs.Verdict.{Yes, start_set, starts_in, settled, cells, verdi
 use Rattle.games.specs.Automaton.{Automaton, chosen, card}
 use Rattle.games.specs.Words.{game, card_length, card_of}
 use Rattle.games.specs.Demands.{Third}
-use Rattle.games.specs.declared.Checked.{Checked}
-use Rattle.games.specs.declared.Checked.TheVariants.{Fine, Refused as Stopped}
+use Rattle.games.specs.Answers.{Checked}
+use Rattle.games.specs.Answers.{refused}
 use Rattle.games.proofs.Steps.{good_empty}
 use Rattle.games.proofs.Lasting.{lowest_below}
 use Rattle.games.proofs.Settling.{cells_hold}
@@ -38,6 +38,8 @@ use Rattle.solver.specs.declared.Answer.{Answer}
 use Rattle.solver.specs.declared.Answer.TheVariants.{Yes as SaysYes, No as SaysNo, Refused}
 use Rattle.index.proofs.Settled.{cells_few}
 use Rattle.solver.proofs.Answers.{Ending, stopped, no_work, lost, no_card, granted, ends}
+use Rattle.games.specs.declared.Reason.{Reason}
+use Rattle.std.specs.Prelude.{Ok, Err}
 
 -- covering is seen only at cells and observations that are there
 covers_agree : (g : Game) (A B : Automaton) → Agree B A g.observations → Covers g A → Covers g B
@@ -71,7 +73,7 @@ settled_empty : (g : Game) → Accepted g → settled g 0 ≡ true
 unfolding settled
 settled_empty g A = good_empty g A (settling g)
 
-module _ (w : List ℕ) (fine : checked w ≡ Fine) where
+module _ (w : List ℕ) (fine : checked w ≡ Ok tt) where
   -- the card fits its words
   pub card_fits : Fitting (card (game w)) (game w).actions (game w).observations
   unfolding card chosen
@@ -110,16 +112,16 @@ card_size w m e =
     card_long (card (game w)) (game w).actions (game w).observations ∙ ap (λ (n : ℕ). card_length n (game w).observations) (sym e)
 
 -- which answers can be told apart
-yes_not_refused : {X : Type 0} (t m n p : ℕ) → SaysYes t m ≡ Refused n p → X
+yes_not_refused : {X : Type 0} (t m : ℕ) (n : Reason) (p : ℕ) → SaysYes t m ≡ refused n p → X
 yes_not_refused t m n p e = let z : ◌≡◌ {A = ℕ} 0 1 = cc in absurd (omega arith)
 
-no_not_refused : {X : Type 0} (k n p : ℕ) → SaysNo k ≡ Refused n p → X
+no_not_refused : {X : Type 0} (k : ℕ) (n : Reason) (p : ℕ) → SaysNo k ≡ refused n p → X
 no_not_refused k n p e = let z : ◌≡◌ {A = ℕ} 0 1 = cc in absurd (omega arith)
 
 yes_not_no : {X : Type 0} (t m k : ℕ) → SaysYes t m ≡ SaysNo k → X
 yes_not_no t m k e = let z : ◌≡◌ {A = ℕ} 0 1 = cc in absurd (omega arith)
 
-fine_not_stopped : {X : Type 0} (c : Checked) (n p : ℕ) → c ≡ Fine → c ≡ Stopped n p → X
+fine_not_stopped : {X : Type 0} (c : Checked) (n : Reason) (p : ℕ) → c ≡ Ok tt → c ≡ Stopped n p → X
 fine_not_stopped c n p e f = let z : ◌≡◌ {A = ℕ} 0 1 = cc in absurd (omega arith)
 
 -- the number of cells is the verdict's
@@ -128,7 +130,7 @@ cells_told g t m v = let s : Yes t m ≡ Yes (settling g) (length (cells g)) = s
 
 module _ (w work d : List ℕ) (r : Answer) (e : List ℕ) where
   -- a refusal promises nothing of the card or of a round
-  refused_promise : (n p : ℕ) → r ≡ Refused n p → (WorkEnough w work → ⊥) → Promise w work d r e
+  refused_promise : (n : Reason) (p : ℕ) → r ≡ refused n p → (WorkEnough w work → ⊥) → Promise w work d r e
   refused_promise n p is no_room =
       record {
         nine_iff = λ room. absurd (no_room room);
@@ -186,7 +188,7 @@ module _ (w work d : List ℕ) (r : Answer) (e : List ℕ) where
 
   -- what a yes with m cells comes of: an accepted table whose start sets are settled, and room for the card, which was written
   pub record Given (m : ℕ) : Type 0 where
-    pub fine : checked w ≡ Fine
+    pub fine : checked w ≡ Ok tt
     pub won : starts_in (game w) (settled (game w)) ≡ true
     pub fits : card_length m (game w).observations ≤ length d
     pub front : written w m e ≡ card_of (game w)

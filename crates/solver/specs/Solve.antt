@@ -8,11 +8,24 @@ use Rattle.games.specs.Play.{Strategy, Clear}
 use Rattle.games.specs.Verdict.{Verdict, Yes, No, verdict, cells}
 use Rattle.games.specs.Words.{game, card_length, card_of}
 use Rattle.games.specs.Demands.{Third}
-use Rattle.games.specs.declared.Checked.TheVariants.{Fine}
 use Rattle.tables.specs.Check.{checked}
 use Rattle.cards.specs.Kept.{Kept}
-use Rattle.solver.specs.declared.Answer.{Answer}
-use Rattle.solver.specs.declared.Answer.TheVariants.{Yes as SaysYes, No as SaysNo, Refused}
+use Rattle.games.specs.declared.Refusal.{Refusal}
+use Rattle.solver.specs.declared.Verdict.{Verdict as Said}
+use Rattle.solver.specs.declared.Verdict.TheVariants.{Yes as SaysYes, No as SaysNo}
+use Rattle.games.specs.declared.Reason.TheVariants as reason
+use Rattle.games.specs.Answers.{refused}
+use Rattle.std.specs.Prelude.{Result, Ok, Err}
+
+-- solve's answer: a verdict, with its numbers, or a refusal
+abbrev pub Answer : Type 0
+Answer = Result Said Refusal
+
+abbrev pub says_yes : (settled cells : ℕ) → Answer
+says_yes settled m = Ok (SaysYes settled m)
+
+abbrev pub says_no : (round : ℕ) → Answer
+says_no k = Ok (SaysNo k)
 
 -- the words of the work that document 01 asks for
 abbrev pub work_words : ℕ → ℕ
@@ -22,8 +35,8 @@ work_words n = 4 * 2 ^ n
 unfoldable pub by_verdict : Game → List ℕ → Verdict → Leaves Answer (List ℕ)
 by_verdict g d (Yes settled m) =
     let need = card_length m g.observations in
-    cond (ltb (length d) need) (leaves (Refused 9 need) d) (leaves (SaysYes settled m) (card_of g ++ drop need d))
-by_verdict g d (No k) = leaves (SaysNo k) d
+    cond (ltb (length d) need) (leaves (refused reason.ShortRoom need) d) (leaves (says_yes settled m) (card_of g ++ drop need d))
+by_verdict g d (No k) = leaves (says_no k) d
 
 -- the two buffers that are lent: the work and the card room
 pub record Buffers : Type 0 where
@@ -38,20 +51,20 @@ unfoldable pub searched : Game → (work card : List ℕ) → Leaves Answer Buff
 searched g work d =
     let need = work_words g.states in
     let done = by_verdict g d (verdict g) in
-    cond (ltb (length work) need) (leaves (Refused 8 need) (buffers work d)) (leaves done.answer (buffers (fill need 0 work) done.left))
+    cond (ltb (length work) need) (leaves (refused reason.ShortWork need) (buffers work d)) (leaves done.answer (buffers (fill need 0 work) done.left))
 
 -- the table checks come first
 unfoldable pub solved : (table work card : List ℕ) → Leaves Answer Buffers
-solved w work d = unless (checked w) (λ number place. leaves (Refused number place) (buffers work d)) (searched (game w) work d)
+solved w work d = unless (checked w) (λ e. leaves (Err e) (buffers work d)) (searched (game w) work d)
 
 -- ---- the demands on the answer
 
 -- the answer is yes; it is a refusal by 9
 abbrev pub IsYes : Answer → Type 0
-IsYes r = (settled : ℕ) × (m : ℕ) × (r ≡ SaysYes settled m)
+IsYes r = (settled : ℕ) × (m : ℕ) × (r ≡ says_yes settled m)
 
 abbrev pub IsNine : Answer → Type 0
-IsNine r = (need : ℕ) × (r ≡ Refused 9 need)
+IsNine r = (need : ℕ) × (r ≡ refused reason.ShortRoom need)
 
 -- some strategy keeps every play clear
 abbrev pub Winnable : Game → Type 0
@@ -59,7 +72,7 @@ Winnable g = (ρ : Strategy g) × Clear g ρ
 
 -- an accepted table, with work enough; and with room for its card
 pub record WorkEnough (w work : List ℕ) : Type 0 where
-  pub fine : checked w ≡ Fine
+  pub fine : checked w ≡ Ok tt
   pub enough : work_words (game w).states ≤ length work
 
 abbrev pub CardFits : (w card : List ℕ) → Type 0
@@ -76,6 +89,6 @@ pub record Promise (w work card : List ℕ) (r : Answer) (left : List ℕ) : Typ
   -- with room for the card it is yes if and only if some strategy does
   pub yes_iff : WorkEnough w work → CardFits w card → IsYes r ↔ Winnable (game w)
   -- the card written with a yes keeps every play clear
-  pub yes_card : (settled m : ℕ) → r ≡ SaysYes settled m → Kept (game w) (written w m left)
+  pub yes_card : (settled m : ℕ) → r ≡ says_yes settled m → Kept (game w) (written w m left)
   -- the third demand
-  pub no_round : (k : ℕ) → r ≡ SaysNo k → Third (game w) k
+  pub no_round : (k : ℕ) → r ≡ says_no k → Third (game w) k

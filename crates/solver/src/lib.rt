@@ -6,7 +6,6 @@ ghost use Rattle.games.specs.Format.{max_states};
 ghost use Rattle.games.specs.Answers.{leaves};
 ghost use Rattle.games.specs.Words.{game};
 ghost use Rattle.tables.specs.Check.{checked};
-ghost use Rattle.games.specs.declared.Checked.TheVariants.{Fine};
 ghost use Rattle.families.specs.Bits.{max_lanes, lanes as lanes_of, sets, Bits};
 ghost use Rattle.moves.specs.Halves.{Tabled, Ready};
 ghost use Rattle.games.specs.Verdict.{settled as settled_family, cells as cells_of, verdict, Yes};
@@ -15,7 +14,7 @@ ghost use Rattle.index.specs.Index.{Noted};
 ghost use Rattle.writing.specs.Writing.{Listed};
 
 use families::MAX_LANES;
-use games::Checked;
+use games::{Reason, Refusal};
 use search::Ended;
 
 // The number of sets of n states.
@@ -26,12 +25,11 @@ fn set_count(n: u32) -> usize
     sets::single(n) as usize
 }
 
-// The answer of solve: yes with the settling count and the number of cells, no with the round number, or a refusal.
-#[derive(Clone, Copy)]
-pub enum Answer {
+// The verdict on a table: yes with the settling count and the number of cells, no with the round number.
+#[derive(Clone, Copy, PartialEq, Eq, Debug)]
+pub enum Verdict {
     Yes(u32, u32),
     No(u32),
-    Refused(u32, usize),
 }
 
 // A yes: the card is written if there is room for it.
@@ -48,7 +46,7 @@ fn grant(
     count: u32,
     card: &mut [u32],
     settled: u32,
-) -> Answer
+) -> Result<Verdict, Refusal>
     requires { Listed table.now family.now tops.now layers.now masks.now base × Noted tops.now base work.old
         × Tabled (game table.now) low.now high.now × (count ≡ length (sets tops.now)) }
     ensures { leaves result card.new
@@ -56,12 +54,12 @@ fn grant(
 {
     let need = games::card_length(count, tables::observations(table));
     if card.len() < need {
-        return Answer::Refused(9, need);
+        return Err(Reason::ShortRoom.at(need));
     }
     writing::write_card(
         table, low, high, family, tops, layers, masks, base, work, count, card,
     );
-    Answer::Yes(settled, count)
+    Ok(Verdict::Yes(settled, count))
 }
 
 // The index of the cells in front of the work, and the card from them.
@@ -76,7 +74,7 @@ fn grant_indexed(
     count: usize,
     card: &mut [u32],
     settled: u32,
-) -> Answer
+) -> Result<Verdict, Refusal>
     requires { Ready table.now low.now high.now
         × Bits (game table.now).states (settled_family (game table.now)) family.now
         × (length tops.now ≡ length family.now) × (sets tops.now ≡ cells_of (game table.now))
@@ -114,7 +112,7 @@ fn accept(
     work: &mut [u32],
     card: &mut [u32],
     settled: u32,
-) -> Answer
+) -> Result<Verdict, Refusal>
     requires { Ready table.now low.now high.now
         × Bits (game table.now).states (settled_family (game table.now)) family.now
         × (length tops.old ≡ length family.now)
@@ -140,7 +138,7 @@ fn answer_with(
     next: &mut [u64],
     work: &mut [u32],
     card: &mut [u32],
-) -> Answer
+) -> Result<Verdict, Refusal>
     requires { Ready table.now low.now high.now
         × (length family.old ≡ lanes_of (game table.now).states) × (length next.old ≡ length family.old)
         × (length work.old ≡ work_words (game table.now).states) }
@@ -149,7 +147,7 @@ fn answer_with(
 {
     let found = search::search(table, low, high, family, next);
     match found {
-        Ended::Lost(k) => Answer::No(k),
+        Ended::Lost(k) => Ok(Verdict::No(k)),
         Ended::Settled(k) => accept(table, low, high, family, next, work, card, k),
     }
 }
@@ -162,8 +160,8 @@ fn empty_family() -> [u64; MAX_LANES]
 }
 
 // The successors of every set at hand, then the search.
-fn decide(table: &[u32], work: &mut [u32], card: &mut [u32]) -> Answer
-    requires { (checked table.now ≡ Fine) × (length work.old ≡ work_words (game table.now).states) }
+fn decide(table: &[u32], work: &mut [u32], card: &mut [u32]) -> Result<Verdict, Refusal>
+    requires { (checked table.now ≡ Ok tt) × (length work.old ≡ work_words (game table.now).states) }
     ensures { leaves result card.new
         ≡ by_verdict (game table.now) card.old (verdict (game table.now)) }
 {
@@ -185,18 +183,15 @@ fn decide(table: &[u32], work: &mut [u32], card: &mut [u32]) -> Answer
 }
 
 // Solve: the verdict on a table and the card of a yes.
-pub fn solve(table: &[u32], work: &mut [u32], card: &mut [u32]) -> Answer
+pub fn solve(table: &[u32], work: &mut [u32], card: &mut [u32]) -> Result<Verdict, Refusal>
     ensures determined { leaves result (buffers work.new card.new)
         ≡ solved table.now work.old card.old }
     ensures promised { Promise table.now work.old card.old result card.new }
 {
-    let checked = tables::check(table);
-    if let Checked::Refused(number, place) = checked {
-        return Answer::Refused(number, place);
-    }
+    tables::check(table)?;
     let need = 4 * set_count(tables::states(table));
     if work.len() < need {
-        return Answer::Refused(8, need);
+        return Err(Reason::ShortWork.at(need));
     }
     let answer = decide(table, &mut work[..need], card);
     sets::fill(work, need, 0);

@@ -1,4 +1,4 @@
--- The table checks, one answer after the other, and what `Fine` tells of a table.
+-- The table checks, one answer after the other, and what `Ok` tells of a table.
 -- Assumes nothing.
 use mathlib.Core.Path.{◌≡◌, refl, ap, ◌∙◌}
 use mathlib.Core.Bool.{Bool, true, false, cond, not, ◌&&◌, ◌||◌}
@@ -23,31 +23,34 @@ use Rattle.games.specs.Words.{mask_at, parked_in, game}
 use Rattle.games.specs.declared.Shape.{Shape}
 use Rattle.games.specs.declared.Place.{Place}
 use Rattle.games.specs.declared.Place.TheVariants.{Start, Bad, Parked}
-use Rattle.games.specs.declared.Checked.TheVariants.{Fine, Refused}
+use Rattle.games.specs.Answers.{refused}
 use Rattle.games.proofs.Answers.{never, then_fine, cond_fine, cond_passed, found_none}
 use Rattle.games.proofs.Limits.{within_low, within_high}
 use Rattle.games.proofs.Places.{place_from}
 use Rattle.tables.specs.Layout.{shape_in, head_top, bare_word, Sized}
 use Rattle.tables.specs.Check.{too_wide, limits_hold, head_right, size_checked, placed, faulty, words_checked, unseen, sets_checked, departs, parked_checked, departs_from, parked_from, checked}
 use Rattle.tables.proofs.Bounds.{place_inside}
+use Rattle.games.specs.declared.Reason.{Reason}
+use Rattle.games.specs.declared.Reason.TheVariants as reason
+use Rattle.std.specs.Prelude.{Ok, Err}
 
 -- ---- 1, 2 and 3
 
 module _ (w : List ℕ) where
-  pub size_none : length w ≡ 0 → size_checked w ≡ Refused 1 0
+  pub size_none : length w ≡ 0 → size_checked w ≡ refused reason.NoWords 0
   unfolding size_checked
   size_none e = rw (eq-eqb (length w) 0 e)
 
   module _ (some : length w ≡ 0 → ⊥) where
-    pub size_head : head_right (get_or w 0 0) ≡ false → size_checked w ≡ Refused 2 0
+    pub size_head : head_right (get_or w 0 0) ≡ false → size_checked w ≡ refused reason.BadHead 0
     unfolding size_checked
     size_head h = rw (ne_eqb (length w) 0 some, h)
 
-    pub size_long : head_right (get_or w 0 0) ≡ true → (length w ≡ table_length (shape_in w) → ⊥) → size_checked w ≡ Refused 3 (length w)
+    pub size_long : head_right (get_or w 0 0) ≡ true → (length w ≡ table_length (shape_in w) → ⊥) → size_checked w ≡ refused reason.BadLength (length w)
     unfolding size_checked
     size_long h l = rw (ne_eqb (length w) 0 some, h, ne_eqb (length w) (table_length (shape_in w)) l)
 
-    pub size_fine : head_right (get_or w 0 0) ≡ true → length w ≡ table_length (shape_in w) → size_checked w ≡ Fine
+    pub size_fine : head_right (get_or w 0 0) ≡ true → length w ≡ table_length (shape_in w) → size_checked w ≡ Ok tt
     unfolding size_checked
     size_fine h l = rw (ne_eqb (length w) 0 some, h, eq-eqb (length w) (table_length (shape_in w)) l)
 
@@ -59,15 +62,15 @@ unfolding faulty
 words_none w = first_skip 0 (faulty w) (first_zero (faulty w)) refl
 
 module _ (w : List ℕ) (p : ℕ) (inside : p < length w) (before : first p (faulty w) ≡ nothing) (here : faulty w p ≡ true) where
-  pub words_misplaced : placed w p ≡ false → words_checked w ≡ Refused 4 p
+  pub words_misplaced : placed w p ≡ false → words_checked w ≡ refused reason.Misplaced p
   unfolding words_checked
   words_misplaced e = rw (first_stop (length w) (faulty w) p inside before here, e)
 
-  pub words_wide : placed w p ≡ true → words_checked w ≡ Refused 5 p
+  pub words_wide : placed w p ≡ true → words_checked w ≡ refused reason.StateBeyond p
   unfolding words_checked
   words_wide e = rw (first_stop (length w) (faulty w) p inside before here, e)
 
-pub words_fine : (w : List ℕ) → first (length w) (faulty w) ≡ nothing → words_checked w ≡ Fine
+pub words_fine : (w : List ℕ) → first (length w) (faulty w) ≡ nothing → words_checked w ≡ Ok tt
 unfolding words_checked
 words_fine w e = rw e
 
@@ -89,15 +92,15 @@ module _ (g : Game) (i : ℕ) where
   seen_none e = false_not e
 
 module _ (g : Game) where
-  pub sets_empty : g.start ≡ 0 → sets_checked g ≡ Refused 6 start_place
+  pub sets_empty : g.start ≡ 0 → sets_checked g ≡ refused reason.NoStart start_place
   unfolding sets_checked
   sets_empty e = rw (eq-eqb g.start 0 e)
 
-  pub sets_unseen : (g.start ≡ 0 → ⊥) → (i : ℕ) → i < g.states → first i (unseen g) ≡ nothing → unseen g i ≡ true → sets_checked g ≡ Refused 7 i
+  pub sets_unseen : (g.start ≡ 0 → ⊥) → (i : ℕ) → i < g.states → first i (unseen g) ≡ nothing → unseen g i ≡ true → sets_checked g ≡ refused reason.Unseen i
   unfolding sets_checked
   sets_unseen d i l e t = rw (ne_eqb g.start 0 d, first_stop g.states (unseen g) i l e t)
 
-  pub sets_fine : (g.start ≡ 0 → ⊥) → first g.states (unseen g) ≡ nothing → sets_checked g ≡ Fine
+  pub sets_fine : (g.start ≡ 0 → ⊥) → first g.states (unseen g) ≡ nothing → sets_checked g ≡ Ok tt
   unfolding sets_checked
   sets_fine d e = rw (ne_eqb g.start 0 d, e)
 
@@ -123,11 +126,11 @@ module _ (w : List ℕ) (base : ℕ) (s : Shape) (parked : ℕ) where
       unfolding departs_from
       departs_never e = rw (here, e)
 
-  pub parked_departs : (i : ℕ) → i < s.states → first i (departs_from w base s parked) ≡ nothing → departs_from w base s parked i ≡ true → parked_from w base s parked ≡ Refused 19 i
+  pub parked_departs : (i : ℕ) → i < s.states → first i (departs_from w base s parked) ≡ nothing → departs_from w base s parked i ≡ true → parked_from w base s parked ≡ refused reason.ParkedMoves i
   unfolding parked_from
   parked_departs i l e t = rw (first_stop s.states (departs_from w base s parked) i l e t)
 
-  pub parked_fine : first s.states (departs_from w base s parked) ≡ nothing → parked_from w base s parked ≡ Fine
+  pub parked_fine : first s.states (departs_from w base s parked) ≡ nothing → parked_from w base s parked ≡ Ok tt
   unfolding parked_from
   parked_fine e = rw e
 
@@ -143,30 +146,30 @@ module _ (g : Game) (w : List ℕ) (base : ℕ) (s : Shape) (states : s.states �
   pub by_words : parked_from w base s g.parked ≡ parked_checked g
   unfolding parked_from parked_checked
   by_words =
-      ap (λ (x : Found). at_found x (λ i. Refused 19 i) Fine)
+      ap (λ (x : Found). at_found x (λ i. refused reason.ParkedMoves i) (Ok tt))
       (first_ext s.states (departs_from w base s g.parked) (departs g) departs_same ∙ ap (λ (k : ℕ). first k (departs g)) states)
 
 -- ---- one after the other
 
 module _ (w : List ℕ) where
-  pub size_stops : (k p : ℕ) → size_checked w ≡ Refused k p → checked w ≡ Refused k p
+  pub size_stops : (k : Reason) (p : ℕ) → size_checked w ≡ refused k p → checked w ≡ refused k p
   unfolding checked
   size_stops k p e = rw e
 
-  pub words_stop : (k p : ℕ) → size_checked w ≡ Fine → words_checked w ≡ Refused k p → checked w ≡ Refused k p
+  pub words_stop : (k : Reason) (p : ℕ) → size_checked w ≡ Ok tt → words_checked w ≡ refused k p → checked w ≡ refused k p
   unfolding checked
   words_stop k p e f = rw (e, f)
 
-  module _ (size : size_checked w ≡ Fine) (words : words_checked w ≡ Fine) where
-    pub sets_stop : (k p : ℕ) → sets_checked (game w) ≡ Refused k p → checked w ≡ Refused k p
+  module _ (size : size_checked w ≡ Ok tt) (words : words_checked w ≡ Ok tt) where
+    pub sets_stop : (k : Reason) (p : ℕ) → sets_checked (game w) ≡ refused k p → checked w ≡ refused k p
     unfolding checked
     sets_stop k p e = rw (size, words, e)
 
-    pub parked_decides : sets_checked (game w) ≡ Fine → checked w ≡ parked_checked (game w)
+    pub parked_decides : sets_checked (game w) ≡ Ok tt → checked w ≡ parked_checked (game w)
     unfolding checked
     parked_decides e = rw (size, words, e)
 
--- ---- what `Fine` tells
+-- ---- what `Ok` tells
 
 pub limits_hold_lem : (s : Shape) → limits_hold s ≡ true → Limited s
 unfolding limits_hold
@@ -196,25 +199,25 @@ module _ (w : ℕ) (right : head_right w ≡ true) where
   unfolding head_right
   head_limits = and_right (eqb (w / head_spare_at) head_top) (limits_hold (shape_of w)) right
 
-module _ (w : List ℕ) (fine : size_checked w ≡ Fine) where
+module _ (w : List ℕ) (fine : size_checked w ≡ Ok tt) where
   size_passed : (head_right (get_or w 0 0) ≡ true) × (length w ≡ table_length (shape_in w))
   unfolding size_checked
   size_passed =
       let right = head_right (get_or w 0 0) in
       let long = eqb (length w) (table_length (shape_in w)) in
-      let a = cond_passed (eqb (length w) 0) 1 0 (cond (not right) (Refused 2 0) (cond (not long) (Refused 3 (length w)) Fine)) fine in
-      let b = cond_passed (not right) 2 0 (cond (not long) (Refused 3 (length w)) Fine) a.1 in
-      let c = cond_passed (not long) 3 (length w) Fine b.1 in
+      let a = cond_passed (eqb (length w) 0) reason.NoWords 0 (cond (not right) (refused reason.BadHead 0) (cond (not long) (refused reason.BadLength (length w)) (Ok tt))) fine in
+      let b = cond_passed (not right) reason.BadHead 0 (cond (not long) (refused reason.BadLength (length w)) (Ok tt)) a.1 in
+      let c = cond_passed (not long) reason.BadLength (length w) (Ok tt) b.1 in
       (not-false right b.0, eqb-true (length w) (table_length (shape_in w)) (not-false long c.0))
 
   pub size_sized : Sized w
   size_sized = record { limits = limits_hold_lem (shape_in w) (head_limits (get_or w 0 0) size_passed.0); long = size_passed.1 }
 
 module _ (w : List ℕ) where
-  words_passed : words_checked w ≡ Fine → first (length w) (faulty w) ≡ nothing
+  words_passed : words_checked w ≡ Ok tt → first (length w) (faulty w) ≡ nothing
   unfolding words_checked
   words_passed e =
-      found_none (first (length w) (faulty w)) (λ p. cond (placed w p) (Refused 5 p) (Refused 4 p)) (λ p f. never 5 p (cond_fine (placed w p) (Refused 5 p) 4 p f).1) e
+      found_none (first (length w) (faulty w)) (λ p. cond (placed w p) (refused reason.StateBeyond p) (refused reason.Misplaced p)) (λ p f. never reason.StateBeyond p (cond_fine (placed w p) (refused reason.StateBeyond p) reason.Misplaced p f).1) e
 
   not_faulty : (p : ℕ) → 1 ≤ p → faulty w p ≡ false → (placed w p ≡ true) × (too_wide (shape_in w).states (low_field (get_or w p 0)) ≡ false)
   unfolding faulty
@@ -223,7 +226,7 @@ module _ (w : List ℕ) where
       let f : (not (placed w p) || wide) ≡ false = rw (lt-ltb 0 p l) at e in
       (not-false (placed w p) (or_false_left (not (placed w p)) wide f), or_false_right (not (placed w p)) wide f)
 
-  module _ (fine : words_checked w ≡ Fine) (p : ℕ) (from_one : 1 ≤ p) (inside : p < length w) where
+  module _ (fine : words_checked w ≡ Ok tt) (p : ℕ) (from_one : 1 ≤ p) (inside : p < length w) where
     word_sound : (placed w p ≡ true) × (too_wide (shape_in w).states (low_field (get_or w p 0)) ≡ false)
     word_sound = not_faulty p from_one (first_nothing (length w) (faulty w) (words_passed fine) p inside)
 
@@ -234,12 +237,12 @@ module _ (w : List ℕ) where
     pub word_below : low_field (get_or w p 0) < 2 ^ (shape_in w).states
     word_below = leb-false (2 ^ (shape_in w).states) (low_field (get_or w p 0)) word_sound.1
 
-module _ (g : Game) (fine : sets_checked g ≡ Fine) where
+module _ (g : Game) (fine : sets_checked g ≡ Ok tt) where
   sets_passed : (eqb g.start 0 ≡ false) × (first g.states (unseen g) ≡ nothing)
   unfolding sets_checked
   sets_passed =
-      let h = cond_passed (eqb g.start 0) 6 start_place (at_found (first g.states (unseen g)) (λ i. Refused 7 i) Fine) fine in
-      (h.0, found_none (first g.states (unseen g)) (λ i. Refused 7 i) (λ i f. never 7 i f) h.1)
+      let h = cond_passed (eqb g.start 0) reason.NoStart start_place (at_found (first g.states (unseen g)) (λ i. refused reason.Unseen i) (Ok tt)) fine in
+      (h.0, found_none (first g.states (unseen g)) (λ i. refused reason.Unseen i) (λ i f. never reason.Unseen i f) h.1)
 
   pub start_some : g.start ≡ 0 → ⊥
   start_some = eqb-false g.start 0 sets_passed.0
@@ -251,10 +254,10 @@ module _ (g : Game) (fine : sets_checked g ≡ Fine) where
       (h.0, (h.1, h.2))
 
 -- a parked state has no successor
-pub parked_end : (g : Game) → parked_checked g ≡ Fine → (a i : ℕ) → a < g.actions → i < g.states → member g.parked i ≡ true → g.successors a i ≡ 0
+pub parked_end : (g : Game) → parked_checked g ≡ Ok tt → (a i : ℕ) → a < g.actions → i < g.states → member g.parked i ≡ true → g.successors a i ≡ 0
 unfolding parked_checked departs has_successor
 parked_end g fine a i l m e =
-    let none = first_nothing g.states (departs g) (found_none (first g.states (departs g)) (λ i. Refused 19 i) (λ i f. never 19 i f) fine) i m in
+    let none = first_nothing g.states (departs g) (found_none (first g.states (departs g)) (λ i. refused reason.ParkedMoves i) (λ i f. never reason.ParkedMoves i f) fine) i m in
     let still : any g.actions (has_successor g i) ≡ false = rw e at none in
     eqb-true (g.successors a i) 0 (not-false (eqb (g.successors a i) 0) (any_none g.actions (has_successor g i) still a l))
 
@@ -264,12 +267,12 @@ positive : (x : ℕ) → (x ≡ 0 → ⊥) → 1 ≤ x
 positive zero h = absurd (h refl)
 positive (suc x) h = omega arith
 
-module _ (w : List ℕ) (fine : checked w ≡ Fine) where
-  fine_parts : (size_checked w ≡ Fine) × (words_checked w ≡ Fine) × (sets_checked (game w) ≡ Fine) × (parked_checked (game w) ≡ Fine)
+module _ (w : List ℕ) (fine : checked w ≡ Ok tt) where
+  fine_parts : (size_checked w ≡ Ok tt) × (words_checked w ≡ Ok tt) × (sets_checked (game w) ≡ Ok tt) × (parked_checked (game w) ≡ Ok tt)
   unfolding checked
   fine_parts =
-      let sets = unless (sets_checked (game w)) Refused (parked_checked (game w)) in
-      let a = then_fine (size_checked w) (unless (words_checked w) Refused sets) fine in
+      let sets = unless (sets_checked (game w)) Err (parked_checked (game w)) in
+      let a = then_fine (size_checked w) (unless (words_checked w) Err sets) fine in
       let b = then_fine (words_checked w) sets a.1 in
       let c = then_fine (sets_checked (game w)) (parked_checked (game w)) b.1 in
       (a.0, b.0, c.0, c.1)
@@ -277,13 +280,13 @@ module _ (w : List ℕ) (fine : checked w ≡ Fine) where
   pub sized : Sized w
   sized = size_sized w fine_parts.0
 
-  pub fine_words : words_checked w ≡ Fine
+  pub fine_words : words_checked w ≡ Ok tt
   fine_words = fine_parts.1
 
-  pub fine_sets : sets_checked (game w) ≡ Fine
+  pub fine_sets : sets_checked (game w) ≡ Ok tt
   fine_sets = fine_parts.2
 
-  pub fine_parked : parked_checked (game w) ≡ Fine
+  pub fine_parked : parked_checked (game w) ≡ Ok tt
   fine_parked = fine_parts.3
 
   pub fine_head : head_right (get_or w 0 0) ≡ true

@@ -16,7 +16,7 @@ use Rattle.games.specs.Game.{Game, has_successor}
 use Rattle.games.specs.Places.{shown, move, start_place, place_of, Within, Limited}
 use Rattle.games.specs.Words.{mask_at, game}
 use Rattle.games.specs.declared.Shape.{Shape}
-use Rattle.games.specs.declared.Checked.TheVariants.{Fine, Refused}
+use Rattle.games.specs.Answers.{refused}
 use Rattle.games.specs.declared.Place.{Place}
 use Rattle.games.specs.declared.Place.TheVariants.{Start, Bad, Parked, Shown, Move}
 use Rattle.games.proofs.Limits.{slot_below}
@@ -26,6 +26,8 @@ use Rattle.tables.specs.Check.{unseen, sets_checked, departs, parked_checked, pa
 use Rattle.tables.specs.Fields.{fields_shape, fields_of, field_at, game_of}
 use Rattle.tables.specs.declared.Fields.{Fields}
 use Rattle.tables.proofs.Checks.{by_words}
+use Rattle.games.specs.declared.Reason.TheVariants as reason
+use Rattle.std.specs.Prelude.{Ok}
 
 -- the fields of a table have its masks
 pub field_is : (w : List ℕ) (x : Place) → Within (shape_in w) x → field_at (fields_of w) x ≡ mask_at w x
@@ -52,7 +54,7 @@ module _ (g h : Game) (counted : g.states ≡ h.states) (seen : g.observations �
   pub sets_ext : sets_checked g ≡ sets_checked h
   unfolding sets_checked
   sets_ext =
-      ap₂ (λ (s : ℕ) (x : Found). cond (eqb s 0) (Refused 6 start_place) (at_found x (λ i. Refused 7 i) Fine)) begun
+      ap₂ (λ (s : ℕ) (x : Found). cond (eqb s 0) (refused reason.NoStart start_place) (at_found x (λ i. refused reason.Unseen i) (Ok tt))) begun
       (first_ext g.states (unseen g) (unseen h) (λ i l. unseen_ext i) ∙ ap (λ (k : ℕ). first k (unseen h)) counted)
 
 pub sets_same : (w : List ℕ) → sets_checked (game_of (fields_of w)) ≡ sets_checked (game w)
@@ -71,7 +73,7 @@ module _ (g h : Game) (counted : g.states ≡ h.states) (acted : g.actions ≡ h
   pub parked_ext : parked_checked g ≡ parked_checked h
   unfolding parked_checked
   parked_ext =
-      ap (λ (x : Found). at_found x (λ i. Refused 19 i) Fine)
+      ap (λ (x : Found). at_found x (λ i. refused reason.ParkedMoves i) (Ok tt))
       (first_ext g.states (departs g) (departs h) departs_ext ∙ ap (λ (k : ℕ). first k (departs h)) counted)
 
 pub parked_same : (w : List ℕ) → parked_checked (game_of (fields_of w)) ≡ parked_checked (game w)

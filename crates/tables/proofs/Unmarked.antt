@@ -1,4 +1,4 @@
--- Words without the bit are checked as document 01 says.
+-- Ok without the bit are checked as document 01 says.
 -- Assumes nothing.
 use mathlib.Core.Path.{◌≡◌, refl, ap, ◌∙◌}
 use mathlib.Core.Bool.{Bool, false, ◌&&◌}
@@ -16,21 +16,21 @@ use Rattle.games.specs.Fields.{head_marked}
 use Rattle.games.specs.Game.{Game}
 use Rattle.games.specs.Places.{shape_of}
 use Rattle.games.specs.Words.{game}
-use Rattle.games.specs.declared.Checked.{Checked}
-use Rattle.games.specs.declared.Checked.TheVariants.{Fine, Refused}
+use Rattle.games.specs.Answers.{Checked}
 use Rattle.games.proofs.Parked.{unparked}
 use Rattle.games.proofs.Places.{unmarked_word}
 use Rattle.tables.specs.Layout.{shape_in}
 use Rattle.tables.specs.Check.{limits_hold, head_right, size_checked, words_checked, sets_checked, departs, parked_checked, checked}
 use Rattle.tables.specs.Unmarked.{Unmarked}
+use Rattle.std.specs.Prelude.{Ok, Err}
 
 -- a last check that passes changes no answer
-kept : (c : Checked) → unless c Refused Fine ≡ c
-kept Fine = refl
-kept (Refused k p) = refl
+kept : (c : Checked) → unless c Err (Ok tt) ≡ c
+kept (Ok tt) = refl
+kept (Err stop) = refl
 
 -- 19 needs a parked state
-none_departs : (g : Game) → g.parked ≡ 0 → parked_checked g ≡ Fine
+none_departs : (g : Game) → g.parked ≡ 0 → parked_checked g ≡ Ok tt
 unfolding parked_checked departs
 none_departs g e = rw (first_none g.states (departs g) (λ i l. rw (e, member_zero i)))
 
@@ -49,6 +49,6 @@ unmarked w none =
       head = ap (λ (b : Bool). b && limits_hold (shape_of (get_or w 0 0))) (spare (get_or w 0 0) none);
       long = omega (arith, unmarked_word (shape_in w) none);
       answer =
-          ap (λ (c : Checked). unless (size_checked w) Refused (unless (words_checked w) Refused (unless (sets_checked (game w)) Refused c))) (none_departs (game w) (unparked w none))
-          ∙ ap (λ (c : Checked). unless (size_checked w) Refused (unless (words_checked w) Refused c)) (kept (sets_checked (game w)));
+          ap (λ (c : Checked). unless (size_checked w) Err (unless (words_checked w) Err (unless (sets_checked (game w)) Err c))) (none_departs (game w) (unparked w none))
+          ∙ ap (λ (c : Checked). unless (size_checked w) Err (unless (words_checked w) Err c)) (kept (sets_checked (game w)));
     }

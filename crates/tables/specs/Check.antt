@@ -10,9 +10,11 @@ use Rattle.games.specs.Answers.{unless}
 use Rattle.games.specs.Game.{Game, has_successor}
 use Rattle.games.specs.Words.{game}
 use Rattle.games.specs.declared.Shape.{Shape}
-use Rattle.games.specs.declared.Checked.{Checked}
-use Rattle.games.specs.declared.Checked.TheVariants.{Fine, Refused}
+use Rattle.games.specs.Answers.{Checked}
+use Rattle.games.specs.Answers.{refused}
 use Rattle.tables.specs.Layout.{shape_in, head_top, bare_word}
+use Rattle.games.specs.declared.Reason.TheVariants as reason
+use Rattle.std.specs.Prelude.{Ok, Err}
 
 -- the numbers of states, actions and observations are within the limits
 unfoldable pub limits_hold : Shape → Bool
@@ -25,10 +27,10 @@ head_right w = eqb (w / head_spare_at) head_top && limits_hold (shape_of w)
 -- 1, 2 and 3: no word, the head, the length
 unfoldable pub size_checked : List ℕ → Checked
 size_checked w =
-    cond (eqb (length w) 0) (Refused 1 0)
-    (cond (not (head_right (get_or w 0 0))) (Refused 2 0)
-    (cond (not (eqb (length w) (table_length (shape_in w)))) (Refused 3 (length w))
-    Fine))
+    cond (eqb (length w) 0) (refused reason.NoWords 0)
+    (cond (not (head_right (get_or w 0 0))) (refused reason.BadHead 0)
+    (cond (not (eqb (length w) (table_length (shape_in w)))) (refused reason.BadLength (length w))
+    (Ok tt)))
 
 -- the word's kind, spare bits and index are those of its place
 unfoldable pub placed : List ℕ → ℕ → Bool
@@ -44,7 +46,7 @@ faulty w p = ltb 0 p && (not (placed w p) || too_wide (shape_in w).states (low_f
 
 -- 4 and 5, word by word, 4 first within a word
 unfoldable pub words_checked : List ℕ → Checked
-words_checked w = at_found (first (length w) (faulty w)) (λ p. cond (placed w p) (Refused 5 p) (Refused 4 p)) Fine
+words_checked w = at_found (first (length w) (faulty w)) (λ p. cond (placed w p) (refused reason.StateBeyond p) (refused reason.Misplaced p)) (Ok tt)
 
 -- state i shows no observation
 unfoldable pub unseen : Game → ℕ → Bool
@@ -53,9 +55,9 @@ unseen g i = not (any g.observations (λ o. member (g.shown o) i))
 -- 6 and 7: the start set is empty, a state shows no observation
 unfoldable pub sets_checked : Game → Checked
 sets_checked g =
-    cond (eqb g.start 0) (Refused 6 start_place)
-    (at_found (first g.states (unseen g)) (λ i. Refused 7 i)
-    Fine)
+    cond (eqb g.start 0) (refused reason.NoStart start_place)
+    (at_found (first g.states (unseen g)) (λ i. refused reason.Unseen i)
+    (Ok tt))
 
 -- state i is parked, and has a successor under some action
 unfoldable pub departs : Game → ℕ → Bool
@@ -63,7 +65,7 @@ departs g i = member g.parked i && any g.actions (has_successor g i)
 
 -- 19: the lowest such state
 unfoldable pub parked_checked : Game → Checked
-parked_checked g = at_found (first g.states (departs g)) (λ i. Refused 19 i) Fine
+parked_checked g = at_found (first g.states (departs g)) (λ i. refused reason.ParkedMoves i) (Ok tt)
 
 -- as the code asks it: of a parked set, and of move words, or masks, that stand from a place on
 unfoldable pub departs_from : (words : List ℕ) (base : ℕ) → Shape → (parked state : ℕ) → Bool
@@ -71,12 +73,12 @@ departs_from w base s parked i =
     member parked i && any s.actions (λ a. not (eqb (low_field (get_or w (base + (a * s.states + i)) 0)) 0))
 
 unfoldable pub parked_from : (words : List ℕ) (base : ℕ) → Shape → (parked : ℕ) → Checked
-parked_from w base s parked = at_found (first s.states (departs_from w base s parked)) (λ i. Refused 19 i) Fine
+parked_from w base s parked = at_found (first s.states (departs_from w base s parked)) (λ i. refused reason.ParkedMoves i) (Ok tt)
 
--- the table checks; a table is accepted where the answer is `Fine`
+-- the table checks; a table is accepted where the answer is `Ok`
 unfoldable pub checked : List ℕ → Checked
 checked w =
-    unless (size_checked w) Refused
-    (unless (words_checked w) Refused
-    (unless (sets_checked (game w)) Refused
+    unless (size_checked w) Err
+    (unless (words_checked w) Err
+    (unless (sets_checked (game w)) Err
     (parked_checked (game w))))

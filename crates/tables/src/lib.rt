@@ -11,7 +11,7 @@ ghost use Rattle.tables.specs.Layout.{shape_in, head_word, bare_word, Sized};
 ghost use Rattle.tables.specs.Fields.{fields_shape, masks_from, fields_of, game_of};
 ghost use Rattle.tables.specs.Check.{limits_hold, head_right, size_checked, placed, faulty, words_checked, unseen, sets_checked, parked_checked, departs_from, parked_from, checked};
 
-use games::{Action, Checked, Observation, Place, Shape, State};
+use games::{Action, Observation, Place, Reason, Refusal, Shape, State};
 
 // The head's kind in its place, and as it stands above the head's numbers, where the spare bits are 0.
 const HEAD: u32 = games::KIND_TABLE * games::KIND_AT;
@@ -50,21 +50,21 @@ pub fn head_word(s: Shape) -> u32
 }
 
 // Refusals 1, 2 and 3.
-fn check_size(table: &[u32]) -> Checked
+fn check_size(table: &[u32]) -> Result<(), Refusal>
     ensures { result ≡ size_checked table.now }
 {
     let words = table.len();
     if words == 0 {
-        return Checked::Refused(1, 0);
+        return Err(Reason::NoWords.at(0));
     }
     let head = table[0];
     if !head_right(head) {
-        return Checked::Refused(2, 0);
+        return Err(Reason::BadHead.at(0));
     }
     if words != games::table_length(games::shape_of(head)) {
-        return Checked::Refused(3, words);
+        return Err(Reason::BadLength.at(words));
     }
-    Checked::Fine
+    Ok(())
 }
 
 // The numbers of the table's head.
@@ -196,7 +196,7 @@ fn is_faulty(table: &[u32], p: usize) -> bool
 }
 
 // Refusals 4 and 5.
-fn check_words(table: &[u32]) -> Checked
+fn check_words(table: &[u32]) -> Result<(), Refusal>
     requires { Sized table.now }
     ensures { result ≡ words_checked table.now }
 {
@@ -205,18 +205,18 @@ fn check_words(table: &[u32]) -> Checked
     while p < words {
         if is_faulty(table, p) {
             if is_placed(table, p) {
-                return Checked::Refused(5, p);
+                return Err(Reason::StateBeyond.at(p));
             } else {
-                return Checked::Refused(4, p);
+                return Err(Reason::Misplaced.at(p));
             }
         }
         p += 1;
     }
-    Checked::Fine
+    Ok(())
 }
 
 // Refusal 19, by the table's move words.
-fn check_departures(table: &[u32]) -> Checked
+fn check_departures(table: &[u32]) -> Result<(), Refusal>
     requires { Sized table.now }
     ensures { result ≡ parked_checked (game table.now) }
 {
@@ -225,19 +225,14 @@ fn check_departures(table: &[u32]) -> Checked
 }
 
 // The table checks, 1 to 7 and 19.
-pub fn check(table: &[u32]) -> Checked
+#[tactic(auto, unfolding(crate::specs::Check::checked))]
+pub fn check(table: &[u32]) -> Result<(), Refusal>
     ensures { result ≡ checked table.now }
 {
-    match check_size(table) {
-        Checked::Refused(number, place) => Checked::Refused(number, place),
-        Checked::Fine => match check_words(table) {
-            Checked::Refused(number, place) => Checked::Refused(number, place),
-            Checked::Fine => match check_sets(fields_of(table)) {
-                Checked::Refused(number, place) => Checked::Refused(number, place),
-                Checked::Fine => check_departures(table),
-            },
-        },
-    }
+    check_size(table)?;
+    check_words(table)?;
+    check_sets(fields_of(table))?;
+    check_departures(table)
 }
 
 // A table's numbers and sets. Slots of `shown` from `observations` up, and of `moves` from `actions` · `states` up, are unused, and so is
@@ -328,22 +323,22 @@ fn is_unseen(f: Fields, i: State) -> bool
 }
 
 // Refusals 6 and 7.
-pub fn check_sets(f: Fields) -> Checked
+pub fn check_sets(f: Fields) -> Result<(), Refusal>
     requires { Limited (fields_shape f) }
     ensures { result ≡ sets_checked (game_of f) }
 {
     if f.start == 0 {
-        return Checked::Refused(6, games::place_of(fields_shape(f), Place::Start));
+        return Err(Reason::NoStart.at(games::place_of(fields_shape(f), Place::Start)));
     }
     let n = f.states;
     let mut i: u32 = 0;
     while i < n {
         if is_unseen(f, State(i)) {
-            return Checked::Refused(7, i as usize);
+            return Err(Reason::Unseen.at(i as usize));
         }
         i += 1;
     }
-    Checked::Fine
+    Ok(())
 }
 
 // State i is parked, and has a successor under some action: `words` has the moves from `base` on.
@@ -367,7 +362,7 @@ fn is_departing(words: &[u32], base: usize, s: Shape, parked: u32, i: State) -> 
 }
 
 // Refusal 19.
-pub fn check_parked(words: &[u32], base: usize, s: Shape, parked: u32) -> Checked
+pub fn check_parked(words: &[u32], base: usize, s: Shape, parked: u32) -> Result<(), Refusal>
     requires { Limited s × (base + s.actions * s.states ≤ length words.now) }
     ensures { result ≡ parked_from words.now base s parked }
 {
@@ -375,9 +370,9 @@ pub fn check_parked(words: &[u32], base: usize, s: Shape, parked: u32) -> Checke
     let mut i: u32 = 0;
     while i < n {
         if is_departing(words, base, s, parked, State(i)) {
-            return Checked::Refused(19, i as usize);
+            return Err(Reason::ParkedMoves.at(i as usize));
         }
         i += 1;
     }
-    Checked::Fine
+    Ok(())
 }

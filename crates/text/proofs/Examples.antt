@@ -5,6 +5,8 @@ use Rattle.text.specs.Text.{bytes}
 use Rattle.text.specs.Decimal.{last_digits, decimal, digit_of}
 use Rattle.text.specs.Read.{matched, skipped, number, no_number, misplaced, further_digits, number_of, read_decimal}
 use Rattle.text.specs.declared.Cursor.TheVariants.{At, Wrong}
+use Rattle.games.specs.declared.Reason.TheVariants as reason
+use Rattle.games.specs.Answers.{refused}
 
 -- ---- written
 
@@ -46,6 +48,6 @@ a_run : skipped (bytes "next ") (bytes "next 40 0") (At 0) ≡ At 5
 unfolding skipped matched
 a_run = refl
 
-another_run : skipped (bytes "nest ") (bytes "next 40 0") (At 0) ≡ Wrong 2
+another_run : skipped (bytes "nest ") (bytes "next 40 0") (At 0) ≡ refused reason.BadHead
 unfolding skipped matched
 another_run = refl

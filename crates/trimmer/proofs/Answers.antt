@@ -13,21 +13,24 @@ use borrow.Author.Tests.{lt-ltb, le-ltb}
 use Rattle.sets.specs.Bounded.{fill}
 use Rattle.sets.proofs.Logic.{decided}
 use Rattle.games.specs.Answers.{Leaves, leaves}
-use Rattle.games.specs.declared.Checked.TheVariants.{Fine, Refused as Stopped}
+use Rattle.games.specs.Answers.{refused}
 use Rattle.cards.specs.Card.{card_cells, checked}
 use Rattle.trimming.specs.Trim.{trimmed}
 use Rattle.trimming.proofs.Promised.{promised as promised-of}
 use Rattle.trimmer.specs.Trimmer.{kept_cells, by_room, buffers, with_work, trimmed_into, Trims}
 use Rattle.trimmer.specs.declared.Answer.{Answer}
 use Rattle.trimmer.specs.declared.Answer.TheVariants.{Trimmed, Refused}
+use Rattle.games.specs.declared.Reason.{Reason}
+use Rattle.games.specs.declared.Reason.TheVariants as reason
+use Rattle.std.specs.Prelude.{Ok, Err}
 
 -- the room is short, or the trimmed card is written
 module _ (w d : List ℕ) (need : ℕ) (is : need ≡ length (trimmed w)) where
-  pub room_short : length d < need → leaves (Refused 9 need) d ≡ by_room w d
+  pub room_short : length d < need → leaves (refused reason.ShortRoom need) d ≡ by_room w d
   unfolding by_room
   room_short h =
       let n = length (trimmed w) in
-      ap (λ (x : ℕ). leaves (Refused 9 x) d) is ∙ sym (rw (lt-ltb (length d) n (subst (λ (x : ℕ). length d < x) is h)))
+      ap (λ (x : ℕ). leaves (refused reason.ShortRoom x) d) is ∙ sym (rw (lt-ltb (length d) n (subst (λ (x : ℕ). length d < x) is h)))
 
   pub room_filled : need ≤ length d → (m : ℕ) (e : List ℕ) → m ≡ kept_cells w → e ≡ trimmed w ++ drop (length (trimmed w)) d → leaves (Trimmed need m) e ≡ by_room w d
   unfolding by_room
@@ -38,20 +41,20 @@ module _ (w d : List ℕ) (need : ℕ) (is : need ≡ length (trimmed w)) where
       ∙ sym (rw (le-ltb (length d) n (subst (λ (x : ℕ). x ≤ length d) is h)))
 
 module _ (w work d : List ℕ) where
-  pub trim_stopped : (n p : ℕ) → checked w ≡ Stopped n p → leaves (Refused n p) (buffers work d) ≡ trimmed_into w work d
+  pub trim_stopped : (n : Reason) (p : ℕ) → checked w ≡ Stopped n p → leaves (refused n p) (buffers work d) ≡ trimmed_into w work d
   unfolding trimmed_into
   trim_stopped n p e = sym (rw e)
 
-  module _ (fine : checked w ≡ Fine) (need : ℕ) (is : need ≡ card_cells w) where
+  module _ (fine : checked w ≡ Ok tt) (need : ℕ) (is : need ≡ card_cells w) where
     fine_is : trimmed_into w work d ≡ with_work w work d
     unfolding trimmed_into
     fine_is = rw fine
 
-    pub trim_short : length work < need → leaves (Refused 8 need) (buffers work d) ≡ trimmed_into w work d
+    pub trim_short : length work < need → leaves (refused reason.ShortWork need) (buffers work d) ≡ trimmed_into w work d
     unfolding with_work
     trim_short h =
         let n = card_cells w in
-        ap (λ (k : ℕ). leaves (Refused 8 k) (buffers work d)) is
+        ap (λ (k : ℕ). leaves (refused reason.ShortWork k) (buffers work d)) is
         ∙ sym (fine_is ∙ rw (lt-ltb (length work) n (subst (λ (k : ℕ). length work < k) is h)))
 
     pub trim_done : need ≤ length work → (r : Answer) (left e : List ℕ) → leaves r e ≡ by_room w d → left ≡ fill need 0 work → leaves r (buffers left e) ≡ trimmed_into w work d
@@ -64,17 +67,17 @@ module _ (w work d : List ℕ) where
 -- ---- the promise, from the outcome
 
 -- a refusal is no trimmed card
-refused_not : {A : Type 0} (n p words cells : ℕ) → Refused n p ≡ Trimmed words cells → A
+refused_not : {A : Type 0} (n : Reason) (p words cells : ℕ) → refused n p ≡ Trimmed words cells → A
 refused_not n p words cells e = absurd (let z : ◌≡◌ {A = ℕ} 0 1 = cc in omega arith)
 
-pub refused_trims : (w : List ℕ) (n p : ℕ) (e : List ℕ) → Trims w (Refused n p) e
+pub refused_trims : (w : List ℕ) (n : Reason) (p : ℕ) (e : List ℕ) → Trims w (refused n p) e
 refused_trims w n p e = record {
   stands = λ words cells h. refused_not n p words cells h;
   promise = λ words cells h. refused_not n p words cells h;
 }
 
 -- what the trimmer leaves of its room, where there is work enough
-pub room_trims : (w d : List ℕ) → checked w ≡ Fine → (r : Answer) (e : List ℕ) → leaves r e ≡ by_room w d → Trims w r e
+pub room_trims : (w d : List ℕ) → checked w ≡ Ok tt → (r : Answer) (e : List ℕ) → leaves r e ≡ by_room w d → Trims w r e
 unfolding by_room
 room_trims w d fine r e is =
     let n = length (trimmed w) in

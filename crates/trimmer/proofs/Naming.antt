@@ -7,13 +7,13 @@ use native.Mathlib.Omega.{arith}
 use lib.ListN.{get_or}
 use Rattle.games.specs.Fields.{low_field}
 use Rattle.games.specs.Automaton.{no_cell}
-use Rattle.games.specs.declared.Checked.TheVariants.{Fine}
 use Rattle.cards.specs.Card.{card_cells, card_observations, cell_place, automaton, checked}
 use Rattle.cards.proofs.Checked.{fitting, shaped, firsts_in, part_in}
 use Rattle.cards.proofs.Running.{size_of, begins_of, next_of}
 use Rattle.trimmer.specs.Marking.{named_from, NamesInside, Naming}
+use Rattle.std.specs.Prelude.{Ok}
 
-module _ (w : List ℕ) (e : checked w ≡ Fine) where
+module _ (w : List ℕ) (e : checked w ≡ Ok tt) where
   few_cells : card_cells w ≤ no_cell
   few_cells = omega (arith, (fitting w e).cells, size_of w)
 

@@ -16,7 +16,6 @@ use Rattle.games.specs.Automaton.{Automaton, no_cell}
 use Rattle.games.specs.Format.{max_cells, low_values, kind_first, kind_cell, kind_next}
 use Rattle.games.specs.Fields.{word}
 use Rattle.games.specs.Words.{front_length, card_length, card_head, cell_words, card_words}
-use Rattle.games.specs.declared.Checked.TheVariants.{Fine}
 use Rattle.cards.specs.Card.{card_cells, card_actions, card_observations, cell_place, automaton, checked, Named}
 use Rattle.cards.proofs.Checked.{fitting, own_word}
 use Rattle.cards.proofs.Running.{size_of}
@@ -32,6 +31,7 @@ use Rattle.trimmer.specs.Numbering.{Renumbering, numbered_as, new_name, row_word
 use Rattle.trimmer.specs.Trimmer.{kept_cells}
 use Rattle.trimmer.proofs.Marking.{or_none, or_some}
 use Rattle.trimmer.proofs.Naming.{first_name, next_name}
+use Rattle.std.specs.Prelude.{Ok}
 
 -- ---- the name in the work
 
@@ -94,7 +94,7 @@ front_of A a o = card_head A.size o a ∷ gather o (λ j. word kind_first (A.beg
 pub front_long : (A : Automaton) (a o : ℕ) → length (front_of A a o) ≡ front_length o
 front_long A a o = row_length o (λ j. word kind_first (A.begins j) j 0)
 
-module _ (w : List ℕ) (e : checked w ≡ Fine) (work : List ℕ) (R : Renumbering (automaton w) (card_observations w) work) where
+module _ (w : List ℕ) (e : checked w ≡ Ok tt) (work : List ℕ) (R : Renumbering (automaton w) (card_observations w) work) where
   abbrev A : Automaton
   A = automaton w
 

@@ -6,8 +6,18 @@ use Rattle.games.specs.Answers.{unless, Leaves, leaves}
 use Rattle.cards.specs.Card.{card_cells, card_observations, automaton, checked}
 use Rattle.trimming.specs.Trim.{kept, trimmed}
 use Rattle.trimming.specs.Promise.{Promise}
-use Rattle.trimmer.specs.declared.Answer.{Answer}
-use Rattle.trimmer.specs.declared.Answer.TheVariants.{Trimmed, Refused}
+use Rattle.games.specs.declared.Refusal.{Refusal}
+use Rattle.trimmer.specs.declared.Trimmed.{Trimmed}
+use Rattle.games.specs.declared.Reason.TheVariants as reason
+use Rattle.games.specs.Answers.{refused}
+use Rattle.std.specs.Prelude.{Result, Ok, Err}
+
+-- what trimming answers: the words of the trimmed card and its cells, or a refusal
+abbrev pub Answer : Type 0
+Answer = Result Trimmed Refusal
+
+abbrev pub done_with : (words cells : ℕ) → Answer
+done_with words cells = Ok (record { words = words; cells = cells })
 
 -- how many cells of a card are kept
 abbrev pub kept_cells : List ℕ → ℕ
@@ -17,7 +27,7 @@ kept_cells w = length (kept (automaton w) (card_observations w))
 unfoldable pub by_room : (card out : List ℕ) → Leaves Answer (List ℕ)
 by_room w d =
     let need = length (trimmed w) in
-    cond (ltb (length d) need) (leaves (Refused 9 need) d) (leaves (Trimmed need (kept_cells w)) (trimmed w ++ drop need d))
+    cond (ltb (length d) need) (leaves (refused reason.ShortRoom need) d) (leaves (done_with need (kept_cells w)) (trimmed w ++ drop need d))
 
 -- the two buffers that are lent: the work, and the room for the trimmed card
 pub record Buffers : Type 0 where
@@ -32,13 +42,13 @@ unfoldable pub with_work : (card work out : List ℕ) → Leaves Answer Buffers
 with_work w work d =
     let need = card_cells w in
     let done = by_room w d in
-    cond (ltb (length work) need) (leaves (Refused 8 need) (buffers work d)) (leaves done.answer (buffers (fill need 0 work) done.left))
+    cond (ltb (length work) need) (leaves (refused reason.ShortWork need) (buffers work d)) (leaves done.answer (buffers (fill need 0 work) done.left))
 
 -- the card's check comes first (13)
 unfoldable pub trimmed_into : (card work out : List ℕ) → Leaves Answer Buffers
-trimmed_into w work d = unless (checked w) (λ number place. leaves (Refused number place) (buffers work d)) (with_work w work d)
+trimmed_into w work d = unless (checked w) (λ e. leaves (Err e) (buffers work d)) (with_work w work d)
 
 -- what is promised where a card was trimmed: it stands in front of its room, and all that `Promise` says holds of it
 pub record Trims (w : List ℕ) (r : Answer) (left : List ℕ) : Type 0 where
-  pub stands : (words cells : ℕ) → r ≡ Trimmed words cells → take words left ≡ trimmed w
-  pub promise : (words cells : ℕ) → r ≡ Trimmed words cells → Promise w
+  pub stands : (words cells : ℕ) → r ≡ done_with words cells → take words left ≡ trimmed w
+  pub promise : (words cells : ℕ) → r ≡ done_with words cells → Promise w

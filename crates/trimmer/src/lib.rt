@@ -7,7 +7,6 @@ ghost use Rattle.std.specs.Prelude.{◌≡◌, ◌++◌, ◌+◌, ◌<◌, ◌�
 ghost use Rattle.games.specs.Answers.{leaves};
 ghost use Rattle.games.specs.Automaton.{no_cell};
 ghost use Rattle.games.specs.Format.{number_values, kind_values};
-ghost use Rattle.games.specs.declared.Checked.TheVariants.{Fine};
 ghost use Rattle.cards.specs.Card.{card_cells, card_observations, automaton, checked};
 ghost use Rattle.trimming.specs.Trim.{trimmed};
 ghost use Rattle.trimmer.specs.Halves.{half_values, lower_half, upper_half, put_lower, put_upper, marked};
@@ -15,13 +14,13 @@ ghost use Rattle.trimmer.specs.Marking.{Listing, Added, named_from, named_or, Na
 ghost use Rattle.trimmer.specs.Numbering.{Numbered, Renumbering, numbered_as, new_name, row_words};
 ghost use Rattle.trimmer.specs.Trimmer.{kept_cells, by_room, buffers, trimmed_into, Trims};
 
-use games::{Cell, Checked, Observation};
+use games::{Cell, Observation, Reason, Refusal};
 
-// What trimming answers: the words of the trimmed card and its cells, or a refusal's number and place.
-#[derive(Clone, Copy)]
-pub enum Answer {
-    Trimmed(usize, u32),
-    Refused(u32, usize),
+// A trimmed card: its words and its cells.
+#[derive(Clone, Copy, PartialEq, Eq, Debug)]
+pub struct Trimmed {
+    pub words: usize,
+    pub cells: u32,
 }
 
 // The numbers that a half of a word can hold.
@@ -121,7 +120,7 @@ fn mark_named(
 
 // The first cell that a first word names; cell 0 where none does.
 fn first_named(card: &[u32]) -> Cell
-    requires { checked card.now ≡ Fine }
+    requires { checked card.now ≡ Ok tt }
     ensures { FirstNamed (automaton card.now) (card_observations card.now) result.0 }
 {
     let o = cards::observations(card);
@@ -138,7 +137,7 @@ fn first_named(card: &[u32]) -> Cell
 
 // Marks the cells where a run begins: those that first words name, or cell 0 where no first word names one.
 fn mark_firsts(card: &[u32], work: &mut [u32]) -> Waiting
-    requires { (checked card.now ≡ Fine) × (length work.old ≡ card_cells card.now) }
+    requires { (checked card.now ≡ Ok tt) × (length work.old ≡ card_cells card.now) }
     ensures { Taking (automaton card.now) (card_observations card.now) 0 work.new result.cells result.next.0 }
 {
     let cells = work.len();
@@ -167,7 +166,7 @@ fn behind_next(work: &[u32], waiting: Waiting) -> Waiting
 // Marks the reached cells: each waiting cell is taken up once, and the cells that its next words name wait then. How many cells are
 // reached.
 pub fn mark_reached(card: &[u32], work: &mut [u32]) -> usize
-    requires { (checked card.now ≡ Fine) × (length work.old ≡ card_cells card.now) }
+    requires { (checked card.now ≡ Ok tt) × (length work.old ≡ card_cells card.now) }
     ensures { Marked (automaton card.now) (card_observations card.now) work.new result }
 {
     let o = cards::observations(card);
@@ -246,7 +245,7 @@ fn write_row(
 
 // The trimmed card at the front of its room, from the new numbers: the front, and the parts of the kept cells.
 fn write_trimmed(card: &[u32], work: &[u32], kept: u32, out: &mut [u32])
-    requires { (checked card.now ≡ Fine) × Renumbering (automaton card.now) (card_observations card.now) work.now
+    requires { (checked card.now ≡ Ok tt) × Renumbering (automaton card.now) (card_observations card.now) work.now
         × (kept ≡ kept_cells card.now) × (length (trimmed card.now) ≤ length out.old) }
     ensures { out.new ≡ trimmed card.now ++ drop (length (trimmed card.now)) out.old }
 {
@@ -287,7 +286,7 @@ pub fn copy_card(card: &[u32], out: &mut [u32])
 
 // The trimmed card at the front of its room, from the marks. A card without idle cells stays as it is.
 fn write_marked(card: &[u32], work: &mut [u32], kept: u32, out: &mut [u32])
-    requires { (checked card.now ≡ Fine) × Marked (automaton card.now) (card_observations card.now) work.old kept
+    requires { (checked card.now ≡ Ok tt) × Marked (automaton card.now) (card_observations card.now) work.old kept
         × (length (trimmed card.now) ≤ length out.old) }
     ensures { out.new ≡ trimmed card.now ++ drop (length (trimmed card.now)) out.old }
 {
@@ -300,32 +299,32 @@ fn write_marked(card: &[u32], work: &mut [u32], kept: u32, out: &mut [u32])
 }
 
 // For a card with work for its cells: the reached cells, then 9 or the trimmed card.
-fn trim_into(card: &[u32], work: &mut [u32], out: &mut [u32]) -> Answer
-    requires { (checked card.now ≡ Fine) × (length work.old ≡ card_cells card.now) }
+fn trim_into(card: &[u32], work: &mut [u32], out: &mut [u32]) -> Result<Trimmed, Refusal>
+    requires { (checked card.now ≡ Ok tt) × (length work.old ≡ card_cells card.now) }
     ensures { leaves result out.new ≡ by_room card.now out.old }
 {
     let kept = mark_reached(card, work) as u32;
     let need = games::card_length(kept, cards::observations(card));
     if out.len() < need {
-        return Answer::Refused(9, need);
+        return Err(Reason::ShortRoom.at(need));
     }
     write_marked(card, work, kept, out);
-    Answer::Trimmed(need, kept)
+    Ok(Trimmed {
+        words: need,
+        cells: kept,
+    })
 }
 
 // Trimming a card: its idle cells are dropped.
-pub fn trim(card: &[u32], work: &mut [u32], out: &mut [u32]) -> Answer
+pub fn trim(card: &[u32], work: &mut [u32], out: &mut [u32]) -> Result<Trimmed, Refusal>
     ensures determined { leaves result (buffers work.new out.new)
         ≡ trimmed_into card.now work.old out.old }
     ensures promised { Trims card.now result out.new }
 {
-    let checked = cards::check(card);
-    if let Checked::Refused(number, place) = checked {
-        return Answer::Refused(number, place);
-    }
+    cards::check(card)?;
     let need = cards::cells(card) as usize;
     if work.len() < need {
-        return Answer::Refused(8, need);
+        return Err(Reason::ShortWork.at(need));
     }
     let answer = trim_into(card, &mut work[..need], out);
     sets::fill(work, need, 0);

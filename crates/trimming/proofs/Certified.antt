@@ -12,7 +12,6 @@ use Rattle.games.specs.Step.{after}
 use Rattle.games.specs.Verdict.{start_set}
 use Rattle.games.specs.Automaton.{Automaton, no_cell}
 use Rattle.games.specs.Words.{game, card_words}
-use Rattle.games.specs.declared.Checked.TheVariants.{Fine}
 use Rattle.cards.specs.Card.{card_actions, automaton, Named, Fitting}
 use Rattle.cards.proofs.Checked.{fitting}
 use Rattle.pairs.specs.Pair.{Paired}
@@ -24,6 +23,7 @@ use Rattle.trimming.specs.Trim.{reached, kept, renumbered, trim, trimmed}
 use Rattle.trimming.proofs.Reaching.{reached_first, reached_next}
 use Rattle.trimming.proofs.Numbers.{new_none, no_none, new_below, kept_few, old_new}
 use Rattle.trimming.proofs.Trimmed.{trim_old, trim_set, trim_begins, trim_action, trim_next, trim_fits}
+use Rattle.std.specs.Prelude.{Ok}
 
 -- ---- the conditions on the words, over the automaton: they hold of what is trimmed
 
@@ -63,7 +63,7 @@ module _ (g : Game) (A : Automaton) (a : ℕ) (F : Fitting A a g.observations) (
 
 -- ---- the trimmed card
 
-module _ (t w : List ℕ) (fine : certified t w ≡ Fine) where
+module _ (t w : List ℕ) (fine : certified t w ≡ Ok tt) where
   P : Paired t w
   P = certified_pair t w fine
 
@@ -74,7 +74,7 @@ module _ (t w : List ℕ) (fine : certified t w ≡ Fine) where
   unfolding trimmed
   words_same = ap₂ (λ (a n : ℕ). card_words (trim (automaton w) n) a n) P.actions P.observations
 
-  pub trimmed_certified : certified t (trimmed w) ≡ Fine
+  pub trimmed_certified : certified t (trimmed w) ≡ Ok tt
   trimmed_certified =
       ap (certified t) words_same
       ∙ written_certified t P.table_fine (trim (automaton w) (game t).observations) (trim_fits (automaton w) (game t).actions (game t).observations F)

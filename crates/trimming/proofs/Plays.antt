@@ -9,7 +9,6 @@ use Rattle.games.specs.Game.{Game}
 use Rattle.games.specs.Play.{Play, begin, more, PlayOf, seen}
 use Rattle.games.specs.Automaton.{Automaton, cell_after, action_after}
 use Rattle.games.specs.Demands.{UnderCard, Keeps, Second}
-use Rattle.games.specs.declared.Checked.TheVariants.{Fine}
 use Rattle.cards.specs.Card.{card_observations, automaton, checked}
 use Rattle.cards.specs.Run.{entered, ran}
 use Rattle.cards.specs.Kept.{Kept}
@@ -19,6 +18,7 @@ use Rattle.runner.proofs.Control.{Runs, runs_controls, controls_runs}
 use Rattle.trimming.specs.Trim.{reached, renumbered, trimmed}
 use Rattle.trimming.proofs.Trimmed.{trimmed_checked, new_inside, new_set, new_action}
 use Rattle.trimming.proofs.Running.{Beside, both_enter, both_refuse, ran_beside}
+use Rattle.std.specs.Prelude.{Ok}
 
 -- after the observations the card is in a reached cell, and the trimmed card in that cell's new number, with the same action
 record Along (w h : List ℕ) : Type 0 where
@@ -28,7 +28,7 @@ record Along (w h : List ℕ) : Type 0 where
   action_same : action_after (automaton (trimmed w)) h ≡ action_after (automaton w) h
   run : ran (trimmed w) h ≡ entered (cell_after (automaton (trimmed w)) h) (action_after (automaton (trimmed w)) h)
 
-along_run : (w : List ℕ) → checked w ≡ Fine → (h : List ℕ) → ran w h ≡ entered (cell_after (automaton w) h) (action_after (automaton w) h)
+along_run : (w : List ℕ) → checked w ≡ Ok tt → (h : List ℕ) → ran w h ≡ entered (cell_after (automaton w) h) (action_after (automaton w) h)
     → Beside (automaton w) (card_observations w) (ran (trimmed w) h) (ran w h) → Along w h
 along_run w e h runs (both_refuse n p f g) = not_entered n p (cell_after (automaton w) h) (action_after (automaton w) h) (sym g ∙ runs)
 along_run w e h runs (both_enter c a l r f g) =
@@ -49,7 +49,7 @@ along_run w e h runs (both_enter c a l r f g) =
     }
 
 -- a card that enters a cell on every play of a game under it
-module _ (g : Game) (w : List ℕ) (right : checked w ≡ Fine) (runs : Runs g w) where
+module _ (g : Game) (w : List ℕ) (right : checked w ≡ Ok tt) (runs : Runs g w) where
   abbrev C : Automaton
   C = automaton w
 
@@ -111,5 +111,5 @@ module _ (g : Game) (w : List ℕ) where
     runs = trimmed_runs g w K.right K.runs;
   }
 
-  pub trimmed_controls : checked w ≡ Fine → Controls g w → Controls g (trimmed w)
+  pub trimmed_controls : checked w ≡ Ok tt → Controls g w → Controls g (trimmed w)
   trimmed_controls right C = runs_controls g (trimmed w) (trimmed_checked w right) (trimmed_runs g w right (controls_runs g w C))

@@ -3,7 +3,6 @@
 use mathlib.Core.Path.{◌≡◌}
 use mathlib.Core.List.{List}
 use Prim.Native.Nat.{ℕ}
-use Rattle.games.specs.declared.Checked.TheVariants.{Fine}
 use Rattle.cards.specs.Card.{card_observations, automaton, checked}
 use Rattle.cards.proofs.Checked.{fitting}
 use Rattle.trimming.specs.Promise.{Promise}
@@ -14,8 +13,9 @@ use Rattle.trimming.proofs.Running.{same_runs}
 use Rattle.trimming.proofs.Plays.{trimmed_kept, trimmed_controls}
 use Rattle.trimming.proofs.Certified.{trimmed_certified, trimmed_safe}
 use Rattle.trimming.proofs.Twice.{twice}
+use Rattle.std.specs.Prelude.{Ok}
 
-pub promised : (w : List ℕ) → checked w ≡ Fine → Promise w
+pub promised : (w : List ℕ) → checked w ≡ Ok tt → Promise w
 promised w e =
     let F = fitting w e in
     record {

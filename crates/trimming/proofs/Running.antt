@@ -9,7 +9,6 @@ use Prim.Native.Nat.{ℕ, ◌<◌}
 use native.Mathlib.Omega.{arith}
 use Rattle.sets.proofs.Logic.{lt_or_le}
 use Rattle.games.specs.Automaton.{Automaton, no_cell}
-use Rattle.games.specs.declared.Checked.TheVariants.{Fine}
 use Rattle.cards.specs.declared.Move.{Move}
 use Rattle.cards.specs.declared.Move.TheVariants.{Refused}
 use Rattle.cards.specs.Card.{card_observations, automaton, checked, Named}
@@ -22,18 +21,21 @@ use Rattle.trimming.specs.Promise.{told, SameRuns}
 use Rattle.trimming.proofs.Reaching.{reached_first, reached_next}
 use Rattle.trimming.proofs.Numbers.{new_none, no_none}
 use Rattle.trimming.proofs.Trimmed.{trimmed_checked, trimmed_observations, new_inside, new_action, new_next, new_begins}
+use Rattle.games.specs.declared.Reason.{Reason}
+use Rattle.games.specs.Answers.{refused}
+use Rattle.std.specs.Prelude.{Ok}
 
 -- a move of the trimmed card beside one of the card
 pub data Beside (A : Automaton) (o : ℕ) : (trimmed full : Move) → Type 0 where
   both_enter : {r s : Move} (c a : ℕ) → c < A.size → reached A o c ≡ true → r ≡ entered (renumbered A o c) a → s ≡ entered c a → Beside A o r s
-  both_refuse : {r s : Move} (n p : ℕ) → r ≡ Refused n p → s ≡ Refused n p → Beside A o r s
+  both_refuse : {r s : Move} (n : Reason) (p : ℕ) → r ≡ refused n p → s ≡ refused n p → Beside A o r s
 
 pub same_told : {A : Automaton} {o : ℕ} {r s : Move} → Beside A o r s → told r ≡ told s
 unfolding told
 same_told (both_enter c a l h e f) = ap told e ∙ sym (ap told f)
 same_told (both_refuse n p e f) = ap told e ∙ sym (ap told f)
 
-module _ (w : List ℕ) (e : checked w ≡ Fine) where
+module _ (w : List ℕ) (e : checked w ≡ Ok tt) where
   abbrev A : Automaton
   A = automaton w
 
@@ -46,7 +48,7 @@ module _ (w : List ℕ) (e : checked w ≡ Fine) where
   abbrev Pair : Move → Move → Type 0
   Pair = Beside A o
 
-  right : checked (trimmed w) ≡ Fine
+  right : checked (trimmed w) ≡ Ok tt
   right = trimmed_checked w e
 
   -- entering what a word names

@@ -9,7 +9,6 @@ use native.Mathlib.Omega.{arith}
 use lib.ListN.{length, get_or}
 use Rattle.games.specs.Automaton.{Automaton}
 use Rattle.games.specs.Words.{card_length}
-use Rattle.games.specs.declared.Checked.TheVariants.{Fine}
 use Rattle.cards.specs.Card.{card_actions, card_observations, automaton, checked, Named, Fitting}
 use Rattle.cards.proofs.Checked.{fitting}
 use Rattle.cards.proofs.Written.{Agree, card_long, written_cells, written_actions, written_observations, written_checked, written_agrees}
@@ -18,6 +17,7 @@ use Rattle.trimming.specs.Trim.{reached, kept, renumbered, trim, trimmed}
 use Rattle.trimming.specs.Promise.{Trimming}
 use Rattle.trimming.proofs.Reaching.{reached_first, reached_next, reached_inside, all_found}
 use Rattle.trimming.proofs.Numbers.{new_none, kept_few, kept_some, old_in, new_below, old_new}
+use Rattle.std.specs.Prelude.{Ok}
 
 -- ---- the trimmed automaton
 
@@ -73,7 +73,7 @@ module _ (A : Automaton) (a o : ℕ) (F : Fitting A a o) where
 
 -- ---- the trimmed words
 
-module _ (w : List ℕ) (e : checked w ≡ Fine) where
+module _ (w : List ℕ) (e : checked w ≡ Ok tt) where
   abbrev A : Automaton
   A = automaton w
 
@@ -86,7 +86,7 @@ module _ (w : List ℕ) (e : checked w ≡ Fine) where
   pub fits : Fitting (trim A o) a o
   fits = trim_fits A a o (fitting w e)
 
-  pub trimmed_checked : checked (trimmed w) ≡ Fine
+  pub trimmed_checked : checked (trimmed w) ≡ Ok tt
   unfolding trimmed
   trimmed_checked = written_checked (trim A o) a o fits
 

@@ -10,7 +10,6 @@ use lib.ListN.{length, get_or}
 use Rattle.sets.specs.Bounded.{count}
 use Rattle.sets.proofs.Bounded.{count_zero, count_all, count_same}
 use Rattle.games.specs.Automaton.{Automaton}
-use Rattle.games.specs.declared.Checked.TheVariants.{Fine}
 use Rattle.cards.specs.Card.{card_actions, card_observations, automaton, checked, Named, Fitting}
 use Rattle.cards.proofs.Checked.{fitting}
 use Rattle.cards.proofs.Written.{Agree, same_words, words_back}
@@ -19,6 +18,7 @@ use Rattle.trimming.specs.Trim.{reached, kept, renumbered, trim, trimmed}
 use Rattle.trimming.proofs.Reaching.{reached_inside, all_found, just_found}
 use Rattle.trimming.proofs.Numbers.{new_none, new_count, kept_length, old_in, old_new, new_old}
 use Rattle.trimming.proofs.Trimmed.{trim_size, trim_begins, trim_set, trim_action, trim_next, trimmed_checked, trimmed_actions, trimmed_observations, trimmed_agrees, new_inside, new_next, new_begins}
+use Rattle.std.specs.Prelude.{Ok}
 
 -- ---- an automaton whose cells are all reached
 
@@ -51,7 +51,7 @@ module _ (A : Automaton) (a o : ℕ) (F : Fitting A a o) (every : (c : ℕ) → 
       }
 
 -- a card whose cells are all kept stays as it is
-pub full_trimmed : (w : List ℕ) → checked w ≡ Fine → length (kept (automaton w) (card_observations w)) ≡ (automaton w).size → trimmed w ≡ w
+pub full_trimmed : (w : List ℕ) → checked w ≡ Ok tt → length (kept (automaton w) (card_observations w)) ≡ (automaton w).size → trimmed w ≡ w
 unfolding trimmed
 full_trimmed w e all =
     let A = automaton w in
@@ -62,7 +62,7 @@ full_trimmed w e all =
 
 -- ---- the cells of a trimmed card
 
-module _ (w : List ℕ) (e : checked w ≡ Fine) where
+module _ (w : List ℕ) (e : checked w ≡ Ok tt) where
   abbrev A : Automaton
   A = automaton w
 

@@ -7,16 +7,16 @@ use Rattle.sets.specs.Family.{Ascending}
 use Rattle.games.specs.Game.{Game}
 use Rattle.games.specs.Automaton.{Automaton}
 use Rattle.games.specs.Words.{game, card_length}
-use Rattle.games.specs.declared.Checked.TheVariants.{Fine}
-use Rattle.cards.specs.declared.Move.{Move}
-use Rattle.cards.specs.declared.Move.TheVariants.{Entered, Refused}
+use Rattle.std.specs.Prelude.{Ok, Err}
+use Rattle.games.specs.declared.Refusal.{Refusal}
 use Rattle.cards.specs.Card.{card_cells, card_actions, card_observations, automaton, checked}
-use Rattle.cards.specs.Run.{ran}
+use Rattle.cards.specs.Run.{Move, ran}
 use Rattle.cards.specs.Kept.{Kept}
 use Rattle.runner.specs.Control.{Controls}
 use Rattle.certificates.specs.Certificate.{certified, Safe}
 use Rattle.trimming.specs.Reach.{Names, Reached}
 use Rattle.trimming.specs.Trim.{reached, kept, renumbered, trimmed}
+use Rattle.std.specs.Prelude.{Ok, Err}
 
 -- ---- the cells, over an automaton and o observations
 
@@ -38,14 +38,14 @@ pub record Keeping (A : Automaton) (o : ℕ) : Type 0 where
 
 -- ---- the card
 
--- what one sees of a move: the action, or the refusal's number and place; the cell's number is not seen
+-- what one sees of a move: the action, or the refusal; the cell's number is not seen
 pub data Told : Type 0 where
   acts : (action : ℕ) → Told
-  refuses : (number place : ℕ) → Told
+  refuses : Refusal → Told
 
 unfoldable pub told : Move → Told
-told (Entered c a) = acts a.0
-told (Refused n p) = refuses n p
+told (Ok m) = acts m.action.0
+told (Err e) = refuses e
 
 module _ (w : List ℕ) where
   -- the card's automaton and its observations; the trimmed card's automaton
@@ -61,7 +61,7 @@ module _ (w : List ℕ) where
   -- the trimmed words are a card of the kept cells, for as many actions and observations; a kept cell's set and action stay, and the
   -- first and next cells are the renumbered ones
   pub record Trimming : Type 0 where
-    pub right : checked (trimmed w) ≡ Fine
+    pub right : checked (trimmed w) ≡ Ok tt
     pub cells : card_cells (trimmed w) ≡ length (kept A o)
     pub words : length (trimmed w) ≡ card_length (length (kept A o)) o
     pub actions : card_actions (trimmed w) ≡ card_actions w
@@ -84,6 +84,6 @@ module _ (w : List ℕ) where
     pub same_runs : SameRuns
     pub stays_kept : (g : Game) → Kept g w → Kept g (trimmed w)
     pub stays_controlled : (g : Game) → Controls g w → Controls g (trimmed w)
-    pub stays_certified : (table : List ℕ) → certified table w ≡ Fine → certified table (trimmed w) ≡ Fine
-    pub stays_safe : (table : List ℕ) → certified table w ≡ Fine → Safe (game table) (trimmed w)
+    pub stays_certified : (table : List ℕ) → certified table w ≡ Ok tt → certified table (trimmed w) ≡ Ok tt
+    pub stays_safe : (table : List ℕ) → certified table w ≡ Ok tt → Safe (game table) (trimmed w)
     pub twice : trimmed (trimmed w) ≡ trimmed w

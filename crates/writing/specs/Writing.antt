@@ -11,12 +11,12 @@ use Rattle.games.specs.Automaton.{holding, chosen}
 use Rattle.games.specs.Fields.{word}
 use Rattle.games.specs.Words.{game, card_head}
 use Rattle.tables.specs.Check.{checked}
-use Rattle.games.specs.declared.Checked.TheVariants.{Fine}
 use Rattle.index.specs.Index.{Index}
+use Rattle.std.specs.Prelude.{Ok}
 
 -- an accepted table with its cells, as bits, and their index
 pub record Listed (table family tops layers masks : List ℕ) (base : ℕ) : Type 0 where
-  pub fine : checked table ≡ Fine
+  pub fine : checked table ≡ Ok tt
   pub are : sets tops ≡ cells (game table)
   pub wide : length tops ≡ lanes (game table).states
   pub all_sets : base ≡ 2 ^ (game table).states

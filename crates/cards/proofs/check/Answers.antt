@@ -6,16 +6,21 @@ use Rattle.cards.proofs.Checked.{no_word, wrong_head, wrong_length, only_words}
 use Rattle.cards.proofs.check.Goals as goal
 
 pub returns-then-card-eq0 : goal.returns-then-card-eq0
-returns-then-card-eq0 c = sym (no_word _ c.if-card-eq0.true)
+returns-then-card-eq0 c =
+    rw c.at.ensures
+    (sym (no_word _ c.if-card-eq0.true))
 
 pub returns-then-not-head_fits : goal.returns-then-not-head_fits
-returns-then-not-head_fits c = sym (wrong_head _ c.if-card-eq0.false (sym c.head_fits.ensures ∙ c.if-not-head_fits.true))
+returns-then-not-head_fits c =
+    rw c.at-then-not-head_fits.ensures
+    (sym (wrong_head _ c.if-card-eq0.false (sym c.head_fits.ensures ∙ c.if-not-head_fits.true)))
 
 pub returns-then-card-words : goal.returns-then-card-words
 returns-then-card-words c =
-    let asked : c.card_length-words.result ≡ card_length (card_cells c.args.card.now) (card_observations c.args.card.now) = c.card_length-words.ensures ∙ ap₂ (λ (m o : ℕ). card_length m o) c.low_field.ensures c.number_field.ensures in
+    rw c.at-then-card-words.ensures
+    (let asked : c.card_length-words.result ≡ card_length (card_cells c.args.card.now) (card_observations c.args.card.now) = c.card_length-words.ensures ∙ ap₂ (λ (m o : ℕ). card_length m o) c.low_field.ensures c.number_field.ensures in
     let right : head_fits (get_or c.args.card.now 0 0) ≡ true = sym c.head_fits.ensures ∙ c.if-not-head_fits.false in
-    sym (wrong_length _ c.if-card-eq0.false right (λ e. c.if-card-words.true (e ∙ sym asked)))
+    sym (wrong_length _ c.if-card-eq0.false right (λ e. c.if-card-words.true (e ∙ sym asked))))
 
 pub check_words-requires : goal.check_words-requires
 check_words-requires c =

@@ -50,13 +50,14 @@ cell_fits-requires c = omega (arith, c.action_field-a.ensures)
 
 pub returns-then-not-cell_fits : goal.returns-then-not-cell_fits
 returns-then-not-cell_fits c =
-    let words : List ℕ = c.args.card.now in
+    rw c.at.ensures
+    (let words : List ℕ = c.args.card.now in
     let seen : c.number_field-o.result ≡ card_observations words = c.number_field-o.ensures in
     let there : c.loop-c.c < card_cells words = omega (arith, c.loop-c-test.true, c.low_field-m.ensures) in
     let place : c.cell_place-at.result ≡ cell_place (card_observations words) c.loop-c.c = c.cell_place-at.ensures ∙ ap (λ (o : ℕ). cell_place o c.loop-c.c) seen in
     let own : let w = words in
     cell_fits (card_actions w) (get_or w c.cell_place-at.result 0) ≡ c.cell_fits.result = ap (λ (a : ℕ). cell_fits a (get_or words c.cell_place-at.result 0)) (sym c.action_field-a.ensures) ∙ sym c.cell_fits.ensures in
-    sym (own_stop _ c.requires.0 _ _ there place c.loop-c.invariant.0 (own ∙ c.if-not-cell_fits.true))
+    sym (own_stop _ c.requires.0 _ _ there place c.loop-c.invariant.0 (own ∙ c.if-not-cell_fits.true)))
 
 pub overflow_add-at : goal.overflow_add-at
 overflow_add-at c =
@@ -102,7 +103,8 @@ overflow_add-result-then-named-o c =
 
 pub returns-then-named-o : goal.returns-then-named-o
 returns-then-named-o c =
-    let words : List ℕ = c.args.card.now in
+    rw c.at-then-named-o.ensures
+    (let words : List ℕ = c.args.card.now in
     let seen : c.number_field-o.result ≡ card_observations words = c.number_field-o.ensures in
     let there : c.loop-c.c < card_cells words = omega (arith, c.loop-c-test.true, c.low_field-m.ensures) in
     let place : c.cell_place-at.result ≡ cell_place (card_observations words) c.loop-c.c = c.cell_place-at.ensures ∙ ap (λ (o : ℕ). cell_place o c.loop-c.c) seen in
@@ -111,7 +113,7 @@ returns-then-named-o c =
     let found : let w = words in
     RightNames w kind_next (c.cell_place-at.result + 1) (card_observations w) c.right_nexts-named.result = subst (λ (n : ℕ). RightNames words kind_next (c.cell_place-at.result + 1) n c.right_nexts-named.result) seen c.right_nexts-named.ensures in
     sym (nexts_stop _ c.requires.0 _ _ there place c.loop-c.invariant.0 (own ∙ c.if-not-cell_fits.false) _ found
-    (omega (arith, c.if-named-o.true, seen)))
+    (omega (arith, c.if-named-o.true, seen))))
 
 pub overflow_add-c : goal.overflow_add-c
 overflow_add-c c =

@@ -15,8 +15,9 @@ right_from-named-requires c = (c.requires, omega arith, omega arith, omega (arit
 
 pub returns-then-named-o : goal.returns-then-named-o
 returns-then-named-o c =
-    let found : RightNames c.args.card.now kind_first 1 (card_observations c.args.card.now) c.right_from-named.result = subst (λ (n : ℕ). RightNames c.args.card.now kind_first 1 n c.right_from-named.result) c.number_field-o.ensures c.right_from-named.ensures in
-    sym (firsts_stop _ c.requires _ found (omega (arith, c.if-named-o.true, c.number_field-o.ensures)))
+    rw c.at.ensures
+    (let found : RightNames c.args.card.now kind_first 1 (card_observations c.args.card.now) c.right_from-named.result = subst (λ (n : ℕ). RightNames c.args.card.now kind_first 1 n c.right_from-named.result) c.number_field-o.ensures c.right_from-named.ensures in
+    sym (firsts_stop _ c.requires _ found (omega (arith, c.if-named-o.true, c.number_field-o.ensures))))
 
 pub check_parts-requires : goal.check_parts-requires
 check_parts-requires c =

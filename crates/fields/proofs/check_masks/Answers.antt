@@ -22,8 +22,9 @@ mask_at-requires c =
 
 pub returns-then-full-mask_at : goal.returns-then-full-mask_at
 returns-then-full-mask_at c =
-    let long : c.table_length-words.result ≡ words_length c.args.f = c.table_length-words.ensures ∙ ap table_length c.fields_shape.ensures in
-    sym (masks_wide c.args.f c.loop-p.p (omega (arith, long)) c.loop-p.invariant.2 (wide_at_lem c.args.f c.loop-p.p c.loop-p.invariant.0 (omega arith)))
+    rw c.at.ensures
+    (let long : c.table_length-words.result ≡ words_length c.args.f = c.table_length-words.ensures ∙ ap table_length c.fields_shape.ensures in
+    sym (masks_wide c.args.f c.loop-p.p (omega (arith, long)) c.loop-p.invariant.2 (wide_at_lem c.args.f c.loop-p.p c.loop-p.invariant.0 (omega arith))))
 
 pub loop-p-preserved : goal.loop-p-preserved
 loop-p-preserved c = (search rules, search rules, first_skip c.loop-p.p (wide_at c.args.f) c.loop-p.invariant.2 (narrow_at c.args.f c.loop-p.p (omega arith)))

@@ -7,7 +7,6 @@ use lib.ListN.{length, take}
 use lib.Seq.{length-take-le}
 use Rattle.games.specs.Answers.{leaves}
 use Rattle.games.specs.Words.{game, card_length}
-use Rattle.games.specs.declared.Checked.TheVariants.{Fine}
 use Rattle.tables.proofs.Bounds.{few_observations}
 use Rattle.tables.proofs.Checks.{sized}
 use Rattle.cards.specs.Card.{checked as card_checked}
@@ -18,6 +17,7 @@ use Rattle.printout.specs.Lines.{yes_line, card_text}
 use Rattle.solve.specs.Program.{buffer_words}
 use Rattle.solve.proofs.Answering.{wrote_same, refused_text, no_text, yes_text, no_fourth, card_fits}
 use Rattle.solve.proofs.report.Goals as goal
+use Rattle.std.specs.Prelude.{Ok}
 
 pub returns-in_default-answer-2 : goal.returns-in_default-answer-2
 returns-in_default-answer-2 c = absurd (no_fourth c.solve-answer.result c.in_default.not-Yes c.in_default-answer.not-No c.in_default-answer-2.not-Refused)
@@ -87,7 +87,7 @@ put_card-requires c =
     let counts : length words ≡ c.card_length-length.result = length-take-le c.card_length-length.result room inside in
     let fits : length words ≤ buffer_words = omega (arith, counts, inside, c.solve-answer.auto.card, c.requires) in
     let is_written : words ≡ written c.args.table.now cells room = ap (λ (n : ℕ). take n room) is_long in
-    let right : card_checked words ≡ Fine = ap card_checked is_written ∙ (c.solve-answer.ensures.promised.yes_card c.in-Yes.settled cells c.in-Yes.is).right in
+    let right : card_checked words ≡ Ok tt = ap card_checked is_written ∙ (c.solve-answer.ensures.promised.yes_card c.in-Yes.settled cells c.in-Yes.is).right in
     (right, omega (arith, fits, c.put_yes-next.ensures.1))
 
 pub returns : goal.returns

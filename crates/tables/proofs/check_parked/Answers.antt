@@ -10,7 +10,9 @@ pub loop-i-init : goal.loop-i-init
 loop-i-init c = (search rules, first_zero _)
 
 pub returns-then-is_departing : goal.returns-then-is_departing
-returns-then-is_departing c = sym (parked_departs c.args.words.now c.args.base c.args.s c.args.parked c.loop-i.i (search rules) c.loop-i.invariant.1 (sym c.is_departing.ensures ∙ c.if-is_departing.true))
+returns-then-is_departing c =
+    rw c.at.ensures
+    (sym (parked_departs c.args.words.now c.args.base c.args.s c.args.parked c.loop-i.i (search rules) c.loop-i.invariant.1 (sym c.is_departing.ensures ∙ c.if-is_departing.true)))
 
 pub loop-i-preserved : goal.loop-i-preserved
 loop-i-preserved c = (search rules, first_skip c.loop-i.i (departs_from c.args.words.now c.args.base c.args.s c.args.parked) c.loop-i.invariant.1 (sym c.is_departing.ensures ∙ c.if-is_departing.false))

@@ -3,25 +3,30 @@ use Prim.Native.Nat.{ℕ}
 use native.Mathlib.Omega.{arith}
 use borrow.Author.Rules.{rules}
 use Rattle.sets.proofs.Bounded.{first_zero, first_skip}
-use Rattle.games.specs.declared.Checked.TheVariants.{Refused}
+use Rattle.games.specs.Answers.{refused}
 use Rattle.tables.specs.Check.{unseen}
 use Rattle.tables.specs.Fields.{game_of}
 use Rattle.tables.proofs.Checks.{sets_empty, sets_unseen, sets_fine}
 use Rattle.tables.proofs.check_sets.Goals as goal
+use Rattle.games.specs.declared.Reason.TheVariants as reason
 
 pub place_of-requires : goal.place_of-requires
 place_of-requires c = rw c.fields_shape.ensures (omega (arith, c.requires))
 
 pub returns-then-f-eq0 : goal.returns-then-f-eq0
 unfolding game_of
-returns-then-f-eq0 c = ap (λ (p : ℕ). Refused 6 p) c.place_of.ensures ∙ sym (sets_empty (game_of c.args.f) c.if-f-eq0.true)
+returns-then-f-eq0 c =
+    rw c.at.ensures
+    (ap (λ (p : ℕ). refused reason.NoStart p) c.place_of.ensures ∙ sym (sets_empty (game_of c.args.f) c.if-f-eq0.true))
 
 pub loop-i-init : goal.loop-i-init
 loop-i-init c = (search rules, first_zero _)
 
 pub returns-then-is_unseen : goal.returns-then-is_unseen
 unfolding game_of
-returns-then-is_unseen c = sym (sets_unseen (game_of c.args.f) c.if-f-eq0.false c.loop-i.i (search rules) c.loop-i.invariant.1 (sym c.is_unseen.ensures ∙ c.if-is_unseen.true))
+returns-then-is_unseen c =
+    rw c.at-then-is_unseen.ensures
+    (sym (sets_unseen (game_of c.args.f) c.if-f-eq0.false c.loop-i.i (search rules) c.loop-i.invariant.1 (sym c.is_unseen.ensures ∙ c.if-is_unseen.true)))
 
 pub loop-i-preserved : goal.loop-i-preserved
 loop-i-preserved c = (search rules, first_skip c.loop-i.i (unseen (game_of c.args.f)) c.loop-i.invariant.1 (sym c.is_unseen.ensures ∙ c.if-is_unseen.false))

@@ -10,19 +10,24 @@ use Rattle.tables.proofs.Checks.{size_none, size_head, size_long, size_fine}
 use Rattle.tables.proofs.check_size.Goals as goal
 
 pub returns-then-words-eq0 : goal.returns-then-words-eq0
-returns-then-words-eq0 c = sym (size_none c.args.table.now c.if-words-eq0.true)
+returns-then-words-eq0 c =
+    rw c.at.ensures
+    (sym (size_none c.args.table.now c.if-words-eq0.true))
 
 pub returns-then-not-head_right : goal.returns-then-not-head_right
-returns-then-not-head_right c = sym (size_head c.args.table.now c.if-words-eq0.false (sym c.head_right.ensures ∙ c.if-not-head_right.true))
+returns-then-not-head_right c =
+    rw c.at-then-not-head_right.ensures
+    (sym (size_head c.args.table.now c.if-words-eq0.false (sym c.head_right.ensures ∙ c.if-not-head_right.true)))
 
 pub table_length-requires : goal.table_length-requires
 table_length-requires c = rw c.shape_of.ensures (omega arith)
 
 pub returns-then-words-table_length : goal.returns-then-words-table_length
 returns-then-words-table_length c =
-    let right : head_right (get_or c.args.table.now 0 0) ≡ true = sym c.head_right.ensures ∙ c.if-not-head_right.false in
+    rw c.at-then-words-table_length.ensures
+    (let right : head_right (get_or c.args.table.now 0 0) ≡ true = sym c.head_right.ensures ∙ c.if-not-head_right.false in
     let long : c.table_length.result ≡ table_length (shape_in c.args.table.now) = c.table_length.ensures ∙ ap table_length c.shape_of.ensures in
-    sym (size_long c.args.table.now c.if-words-eq0.false right (λ e. c.if-words-table_length.true (e ∙ sym long)))
+    sym (size_long c.args.table.now c.if-words-eq0.false right (λ e. c.if-words-table_length.true (e ∙ sym long))))
 
 pub returns : goal.returns
 returns c =

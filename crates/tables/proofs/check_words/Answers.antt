@@ -11,10 +11,14 @@ pub loop-p-init : goal.loop-p-init
 loop-p-init c = (search rules, omega (arith, c.requires), words_none c.args.table.now)
 
 pub returns-then-is_placed : goal.returns-then-is_placed
-returns-then-is_placed c = sym (words_wide c.args.table.now c.loop-p.p c.loop-p-test.true c.loop-p.invariant.2 (cc) (cc))
+returns-then-is_placed c =
+    rw c.at.ensures
+    (sym (words_wide c.args.table.now c.loop-p.p c.loop-p-test.true c.loop-p.invariant.2 (cc) (cc)))
 
 pub returns-else-is_placed : goal.returns-else-is_placed
-returns-else-is_placed c = sym (words_misplaced c.args.table.now c.loop-p.p c.loop-p-test.true c.loop-p.invariant.2 (cc) (cc))
+returns-else-is_placed c =
+    rw c.at-else-is_placed.ensures
+    (sym (words_misplaced c.args.table.now c.loop-p.p c.loop-p-test.true c.loop-p.invariant.2 (cc) (cc)))
 
 pub loop-p-preserved : goal.loop-p-preserved
 loop-p-preserved c = (search rules, search rules, first_skip c.loop-p.p (faulty c.args.table.now) c.loop-p.invariant.2 (cc))

@@ -4,7 +4,6 @@ use Prim.Native.Nat.{ℕ, ◌+◌, ◌≤◌, ◌<◌}
 use native.Mathlib.Omega.{arith}
 use lib.ListN.{length}
 use Rattle.games.specs.Automaton.{Automaton}
-use Rattle.games.specs.declared.Checked.TheVariants.{Fine}
 use Rattle.cards.specs.Card.{card_cells, card_observations, automaton, checked, Fitting, card_actions}
 use Rattle.cards.proofs.Checked.{fitting}
 use Rattle.cards.proofs.Running.{size_of}
@@ -14,6 +13,7 @@ use Rattle.trimmer.specs.Marking.{Added, named_from, Naming, Own, Listing}
 use Rattle.trimmer.proofs.Marking.{added_ext, next_inside, next_marked, rest_listing, taking_more, taking_end}
 use Rattle.trimmer.proofs.Naming.{next_name, nexts_naming}
 use Rattle.trimmer.proofs.mark_reached.Goals as goal
+use Rattle.std.specs.Prelude.{Ok}
 
 pub observations-o-requires : goal.observations-o-requires
 observations-o-requires c = c.requires.0
@@ -29,7 +29,7 @@ cell_place-at-requires c =
     let words : List ℕ = c.args.card.now in
     let played : Automaton = automaton words in
     let o : ℕ = c.observations-o.result in
-    let fine : checked words ≡ Fine = c.requires.0 in
+    let fine : checked words ≡ Ok tt = c.requires.0 in
     let fits : Fitting played (card_actions words) (card_observations words) = fitting words fine in
     let seen : o ≡ card_observations words = c.observations-o.ensures in
     let some : 0 < c.loop-waiting.waiting.cells = c.loop-waiting-test.true in
@@ -50,7 +50,7 @@ overflow_add-at c =
     let words : List ℕ = c.args.card.now in
     let played : Automaton = automaton words in
     let o : ℕ = c.observations-o.result in
-    let fine : checked words ≡ Fine = c.requires.0 in
+    let fine : checked words ≡ Ok tt = c.requires.0 in
     let seen : o ≡ card_observations words = c.observations-o.ensures in
     let many : length c.loop-waiting.work ≡ card_cells words = c.loop-waiting.invariant.size ∙ size_of words in
     let some : 0 < c.loop-waiting.waiting.cells = c.loop-waiting-test.true in
@@ -65,7 +65,7 @@ mark_named-waiting-requires c =
     let words : List ℕ = c.args.card.now in
     let played : Automaton = automaton words in
     let o : ℕ = c.observations-o.result in
-    let fine : checked words ≡ Fine = c.requires.0 in
+    let fine : checked words ≡ Ok tt = c.requires.0 in
     let seen : o ≡ card_observations words = c.observations-o.ensures in
     let many : length c.loop-waiting.work ≡ card_cells words = c.loop-waiting.invariant.size ∙ size_of words in
     let some : 0 < c.loop-waiting.waiting.cells = c.loop-waiting-test.true in
@@ -84,7 +84,7 @@ pub overflow_add-taken : goal.overflow_add-taken
 overflow_add-taken c =
     let words : List ℕ = c.args.card.now in
     let played : Automaton = automaton words in
-    let fine : checked words ≡ Fine = c.requires.0 in
+    let fine : checked words ≡ Ok tt = c.requires.0 in
     let fits : Fitting played (card_actions words) (card_observations words) = fitting words fine in
     let few : c.loop-waiting.taken + c.loop-waiting.waiting.cells ≤ played.size = omega (arith, c.loop-waiting.invariant.many, count_le played.size (marked c.loop-waiting.work)) in
     let some : 0 < c.loop-waiting.waiting.cells = c.loop-waiting-test.true in
@@ -104,7 +104,7 @@ loop-waiting-preserved c =
     let words : List ℕ = c.args.card.now in
     let played : Automaton = automaton words in
     let o : ℕ = c.observations-o.result in
-    let fine : checked words ≡ Fine = c.requires.0 in
+    let fine : checked words ≡ Ok tt = c.requires.0 in
     let seen : o ≡ card_observations words = c.observations-o.ensures in
     let many : length c.loop-waiting.work ≡ card_cells words = c.loop-waiting.invariant.size ∙ size_of words in
     let some : 0 < c.loop-waiting.waiting.cells = c.loop-waiting-test.true in

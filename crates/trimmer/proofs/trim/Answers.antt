@@ -4,10 +4,10 @@ use mathlib.Core.Path.{◌≡◌, sym, ◌∙◌}
 use Prim.Native.Nat.{ℕ}
 use lib.Seq.{length-take-le}
 use Rattle.sets.proofs.Fills.{cleared}
-use Rattle.games.specs.declared.Checked.TheVariants.{Fine}
 use Rattle.cards.specs.Card.{checked}
 use Rattle.trimmer.proofs.Answers.{trim_stopped, trim_short, trim_done, refused_trims, room_trims}
 use Rattle.trimmer.proofs.trim.Goals as goal
+use Rattle.std.specs.Prelude.{Ok}
 
 pub returns-in-Refused : goal.returns-in-Refused
 returns-in-Refused c = record {
@@ -18,13 +18,13 @@ returns-in-Refused c = record {
 pub cells-need-requires : goal.cells-need-requires
 cells-need-requires c =
     let card : List ℕ = c.args.card.now in
-    let fine : checked card ≡ Fine = sym c.check-checked.ensures ∙ c.in_default.is in
+    let fine : checked card ≡ Ok tt = sym c.check-checked.ensures ∙ c.in_default.is in
     fine
 
 pub returns-then-work-need : goal.returns-then-work-need
 returns-then-work-need c =
     let card : List ℕ = c.args.card.now in
-    let fine : checked card ≡ Fine = sym c.check-checked.ensures ∙ c.in_default.is in
+    let fine : checked card ≡ Ok tt = sym c.check-checked.ensures ∙ c.in_default.is in
     record {
       determined = trim_short c.args.card.now c.args.work.now c.args.out.now fine _ c.cells-need.ensures c.if-work-need.true;
       promised = refused_trims c.args.card.now _ _ _;
@@ -36,13 +36,13 @@ slice_bounds-trim_into-end-2 c = sym (length-take-le _ _ c.if-work-need.false)
 pub trim_into-answer-requires : goal.trim_into-answer-requires
 trim_into-answer-requires c =
     let card : List ℕ = c.args.card.now in
-    let fine : checked card ≡ Fine = sym c.check-checked.ensures ∙ c.in_default.is in
+    let fine : checked card ≡ Ok tt = sym c.check-checked.ensures ∙ c.in_default.is in
     (fine, length-take-le _ _ c.if-work-need.false ∙ c.cells-need.ensures)
 
 pub returns : goal.returns
 returns c =
     let card : List ℕ = c.args.card.now in
-    let fine : checked card ≡ Fine = sym c.check-checked.ensures ∙ c.in_default.is in
+    let fine : checked card ≡ Ok tt = sym c.check-checked.ensures ∙ c.in_default.is in
     record {
       determined = trim_done c.args.card.now c.args.work.now c.args.out.now fine _ c.cells-need.ensures c.if-work-need.false c.trim_into-answer.result c.fill.new.d c.trim_into-answer.new.out c.trim_into-answer.ensures
           (cleared _ c.trim_into-answer.new.work c.args.work.now _ c.trim_into-answer.auto.work c.if-work-need.false c.fill.ensures);

@@ -7,7 +7,6 @@ use lib.Seq.{length-take-le}
 use Rattle.games.specs.Automaton.{Automaton}
 use Rattle.games.specs.Format.{max_cells}
 use Rattle.games.specs.Words.{front_length, part_length, card_length, cell_words}
-use Rattle.games.specs.declared.Checked.TheVariants.{Fine}
 use Rattle.games.proofs.Limits.{parts_below}
 use Rattle.cards.specs.Card.{card_cells, card_actions, card_observations, cell_place, automaton, checked, Fitting}
 use Rattle.cards.proofs.Checked.{fitting, cell_in}
@@ -19,6 +18,7 @@ use Rattle.trimming.proofs.Numbers.{kept_few}
 use Rattle.trimmer.proofs.Naming.{firsts_naming, nexts_naming}
 use Rattle.trimmer.proofs.Writing.{front_of, front_long, front_is, kept_inside, part_is, trimmed_long, trimmed_is}
 use Rattle.trimmer.proofs.write_trimmed.Goals as goal
+use Rattle.std.specs.Prelude.{Ok}
 
 pub observations-o-requires : goal.observations-o-requires
 observations-o-requires c = c.requires.0
@@ -72,7 +72,7 @@ write_row-requires c =
     let many : ℕ = c.args.kept in
     let o : ℕ = c.observations-o.result in
     let front : ℕ = c.front_length-front.result in
-    let fine : checked words ≡ Fine = c.requires.0 in
+    let fine : checked words ≡ Ok tt = c.requires.0 in
     let fits : Fitting (automaton words) (card_actions words) seen = fitting words fine in
     let o_is : o ≡ seen = c.observations-o.ensures in
     let front_length_is : front ≡ front_length seen = c.front_length-front.ensures ∙ ap front_length o_is in
@@ -98,7 +98,7 @@ loop-i-init c =
     let parts : ℕ → List ℕ = cell_words left seen in
     let o : ℕ = c.observations-o.result in
     let front : ℕ = c.front_length-front.result in
-    let fine : checked words ≡ Fine = c.requires.0 in
+    let fine : checked words ≡ Ok tt = c.requires.0 in
     let o_is : o ≡ seen = c.observations-o.ensures in
     let front_length_is : front ≡ front_length seen = c.front_length-front.ensures ∙ ap front_length o_is in
     let long : length (trimmed words) ≡ card_length many seen = trimmed_long words ∙ ap (λ (m : ℕ). card_length m seen) (sym c.requires.2) in
@@ -123,7 +123,7 @@ cell_place-from-requires c =
     let seen : ℕ = card_observations words in
     let many : ℕ = c.args.kept in
     let o : ℕ = c.observations-o.result in
-    let fine : checked words ≡ Fine = c.requires.0 in
+    let fine : checked words ≡ Ok tt = c.requires.0 in
     let fits : Fitting (automaton words) (card_actions words) seen = fitting words fine in
     let o_is : o ≡ seen = c.observations-o.ensures in
     let inside : c.upper.result < card_cells words = kept_inside words fine c.args.work.now c.requires.1 o many o_is c.requires.2 c.loop-i.i c.upper.result c.loop-i-test.true c.upper.ensures in
@@ -135,7 +135,7 @@ offset_bounds-card-from c =
     let seen : ℕ = card_observations words in
     let many : ℕ = c.args.kept in
     let o : ℕ = c.observations-o.result in
-    let fine : checked words ≡ Fine = c.requires.0 in
+    let fine : checked words ≡ Ok tt = c.requires.0 in
     let o_is : o ≡ seen = c.observations-o.ensures in
     let inside : c.upper.result < card_cells words = kept_inside words fine c.args.work.now c.requires.1 o many o_is c.requires.2 c.loop-i.i c.upper.result c.loop-i-test.true c.upper.ensures in
     let from_is : c.cell_place-from.result ≡ cell_place seen c.upper.result = c.cell_place-from.ensures ∙ ap (λ (n : ℕ). cell_place n c.upper.result) o_is in
@@ -148,7 +148,7 @@ bounds-card-from c =
     let seen : ℕ = card_observations words in
     let many : ℕ = c.args.kept in
     let o : ℕ = c.observations-o.result in
-    let fine : checked words ≡ Fine = c.requires.0 in
+    let fine : checked words ≡ Ok tt = c.requires.0 in
     let o_is : o ≡ seen = c.observations-o.ensures in
     let inside : c.upper.result < card_cells words = kept_inside words fine c.args.work.now c.requires.1 o many o_is c.requires.2 c.loop-i.i c.upper.result c.loop-i-test.true c.upper.ensures in
     let from_is : c.cell_place-from.result ≡ cell_place seen c.upper.result = c.cell_place-from.ensures ∙ ap (λ (n : ℕ). cell_place n c.upper.result) o_is in
@@ -161,7 +161,7 @@ cell_place-at-requires c =
     let seen : ℕ = card_observations words in
     let many : ℕ = c.args.kept in
     let o : ℕ = c.observations-o.result in
-    let fine : checked words ≡ Fine = c.requires.0 in
+    let fine : checked words ≡ Ok tt = c.requires.0 in
     let fits : Fitting (automaton words) (card_actions words) seen = fitting words fine in
     let o_is : o ≡ seen = c.observations-o.ensures in
     let few : many ≤ max_cells = omega (arith, c.requires.2, kept_few (automaton words) seen, fits.cells) in
@@ -173,7 +173,7 @@ overflow_add-from c =
     let seen : ℕ = card_observations words in
     let many : ℕ = c.args.kept in
     let o : ℕ = c.observations-o.result in
-    let fine : checked words ≡ Fine = c.requires.0 in
+    let fine : checked words ≡ Ok tt = c.requires.0 in
     let o_is : o ≡ seen = c.observations-o.ensures in
     let inside : c.upper.result < card_cells words = kept_inside words fine c.args.work.now c.requires.1 o many o_is c.requires.2 c.loop-i.i c.upper.result c.loop-i-test.true c.upper.ensures in
     let from_is : c.cell_place-from.result ≡ cell_place seen c.upper.result = c.cell_place-from.ensures ∙ ap (λ (n : ℕ). cell_place n c.upper.result) o_is in
@@ -186,7 +186,7 @@ overflow_add-at c =
     let seen : ℕ = card_observations words in
     let many : ℕ = c.args.kept in
     let o : ℕ = c.observations-o.result in
-    let fine : checked words ≡ Fine = c.requires.0 in
+    let fine : checked words ≡ Ok tt = c.requires.0 in
     let fits : Fitting (automaton words) (card_actions words) seen = fitting words fine in
     let o_is : o ≡ seen = c.observations-o.ensures in
     let part_length_is : c.part_length-part.result ≡ part_length seen = c.part_length-part.ensures ∙ ap part_length o_is in
@@ -202,7 +202,7 @@ offset_bounds-out-at c =
     let seen : ℕ = card_observations words in
     let many : ℕ = c.args.kept in
     let o : ℕ = c.observations-o.result in
-    let fine : checked words ≡ Fine = c.requires.0 in
+    let fine : checked words ≡ Ok tt = c.requires.0 in
     let fits : Fitting (automaton words) (card_actions words) seen = fitting words fine in
     let o_is : o ≡ seen = c.observations-o.ensures in
     let part_length_is : c.part_length-part.result ≡ part_length seen = c.part_length-part.ensures ∙ ap part_length o_is in
@@ -241,7 +241,7 @@ write_row-requires-in-loop-i c =
     let left : Automaton = trim (automaton words) seen in
     let parts : ℕ → List ℕ = cell_words left seen in
     let o : ℕ = c.observations-o.result in
-    let fine : checked words ≡ Fine = c.requires.0 in
+    let fine : checked words ≡ Ok tt = c.requires.0 in
     let fits : Fitting (automaton words) (card_actions words) seen = fitting words fine in
     let o_is : o ≡ seen = c.observations-o.ensures in
     let part_length_is : c.part_length-part.result ≡ part_length seen = c.part_length-part.ensures ∙ ap part_length o_is in
@@ -262,7 +262,7 @@ overflow_add-i c =
     let words : List ℕ = c.args.card.now in
     let seen : ℕ = card_observations words in
     let many : ℕ = c.args.kept in
-    let fine : checked words ≡ Fine = c.requires.0 in
+    let fine : checked words ≡ Ok tt = c.requires.0 in
     let fits : Fitting (automaton words) (card_actions words) seen = fitting words fine in
     let few : many ≤ max_cells = omega (arith, c.requires.2, kept_few (automaton words) seen, fits.cells) in
     let more : c.loop-i.i < many = c.loop-i-test.true in
@@ -282,7 +282,7 @@ loop-i-preserved c =
     let left : Automaton = trim (automaton words) seen in
     let parts : ℕ → List ℕ = cell_words left seen in
     let o : ℕ = c.observations-o.result in
-    let fine : checked words ≡ Fine = c.requires.0 in
+    let fine : checked words ≡ Ok tt = c.requires.0 in
     let o_is : o ≡ seen = c.observations-o.ensures in
     let part_length_is : c.part_length-part.result ≡ part_length seen = c.part_length-part.ensures ∙ ap part_length o_is in
     let more : c.loop-i.i < many = c.loop-i-test.true in
@@ -302,7 +302,7 @@ shape_of-out c =
     let parts : ℕ → List ℕ = cell_words left seen in
     let o : ℕ = c.observations-o.result in
     let front : ℕ = c.front_length-front.result in
-    let fine : checked words ≡ Fine = c.requires.0 in
+    let fine : checked words ≡ Ok tt = c.requires.0 in
     let o_is : o ≡ seen = c.observations-o.ensures in
     let front_length_is : front ≡ front_length seen = c.front_length-front.ensures ∙ ap front_length o_is in
     let long : length (trimmed words) ≡ card_length many seen = trimmed_long words ∙ ap (λ (m : ℕ). card_length m seen) (sym c.requires.2) in
@@ -324,7 +324,7 @@ returns c =
     let parts : ℕ → List ℕ = cell_words left seen in
     let o : ℕ = c.observations-o.result in
     let front : ℕ = c.front_length-front.result in
-    let fine : checked words ≡ Fine = c.requires.0 in
+    let fine : checked words ≡ Ok tt = c.requires.0 in
     let o_is : o ≡ seen = c.observations-o.ensures in
     let front_length_is : front ≡ front_length seen = c.front_length-front.ensures ∙ ap front_length o_is in
     let long : length (trimmed words) ≡ card_length many seen = trimmed_long words ∙ ap (λ (m : ℕ). card_length m seen) (sym c.requires.2) in
