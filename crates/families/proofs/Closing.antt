@@ -20,7 +20,7 @@ use Rattle.sets.proofs.Bounded.{any_found, any_intro, any_refuted, any_ext}
 use Rattle.sets.proofs.Mask.{member_zero, subset_refl, subset_trans, subset_le, subset_lt, subset_witness, subset_antisym, subset_add, add_subset}
 use Rattle.sets.proofs.Family.{DownBelow, listed_mem, mem_listed, holds_found, holds_intro}
 use Rattle.games.specs.Format.{max_states}
-use Rattle.families.specs.Bits.{lane_sets, high_states, has, Bits, Closed, Holding, has_with, larger_has, larger_or_own, low_has, up_has, above_has, lane_states}
+use Rattle.families.specs.Bits.{lane_sets, high_states, has, Bits, Closed, Holding, has_with, larger_has, own_or_larger, low_has, up_has, above_has, lane_states}
 use Rattle.families.proofs.Lanes.{lane_there, has_at, subset_lane}
 
 -- ---- the subsets within the words
@@ -112,7 +112,7 @@ spreading_none bits = record { within = omega arith; long = refl; kept = λ m l.
 
 -- one turn
 pub spreading_more : (old bits : List ℕ) (lane word : ℕ) → length old ≤ 2 ^ high_states → Spreading old bits (lane + 1)
-    → ((t : ℕ) → member word t ≡ larger_or_own bits lane true t) → Spreading old (set bits lane word) lane
+    → ((t : ℕ) → member word t ≡ own_or_larger bits lane t) → Spreading old (set bits lane word) lane
 spreading_more old bits lane word few c f =
     record {
       within = omega (arith, c.within);

@@ -1,8 +1,8 @@
 -- Laws of lanes and their words.
 -- Assumes nothing.
-use mathlib.Core.Path.{◌≡◌, refl, sym, ap, ap₂, ◌∙◌, subst}
+use mathlib.Core.Path.{◌≡◌, sym, ap, ap₂, ◌∙◌, subst}
 use mathlib.Core.Logic.{⊎_elim}
-use mathlib.Core.Bool.{Bool, true, false, not, cond, ◌&&◌, ◌||◌, and_comm, and-true, or_assoc, or-false}
+use mathlib.Core.Bool.{Bool, true, false, not, ◌&&◌, ◌||◌, and_comm}
 use mathlib.Core.List.{List}
 use Prim.Native.Nat.{ℕ, ◌+◌, ◌-◌, ◌*◌, ◌/◌, ◌%◌, ◌^◌, ◌≤◌, ◌<◌}
 use native.Mathlib.Nat.{one-mul, mod-eq_of_lt, add_comm, add_assoc}
@@ -12,12 +12,12 @@ use lib.Seq.{get_or-set_same, get_or-set_other}
 use lib.Pow.{pow_pos, pow-lt, pow_mono, pow-add, high, low, split}
 use borrow.Author.Tests.{not-true}
 use Rattle.sets.specs.Mask.{member, common, union, subset}
-use Rattle.sets.specs.Bounded.{all, any}
+use Rattle.sets.specs.Bounded.{any}
 use Rattle.games.specs.Format.{max_states}
-use Rattle.families.specs.Bits.{lane_states, lane_sets, high_states, lanes, has, has_with, larger_has, with_state, larger_or_own, word_with, covered_by}
-use Rattle.sets.proofs.Logic.{decided, clash, same_truth, and_left, and_right, and_intro, or_cases, or_left, or_right, false_not, and_false_left, true_not}
-use Rattle.sets.proofs.Bounded.{all_more, all_at, all_intro, any_zero, any_more, any_found, any_intro, any_ext}
-use Rattle.sets.proofs.Mask.{member_zero, member_and, member_or, member_shift, member_low, member_rest, member_sub_same, sub_add, union_add, union_least}
+use Rattle.families.specs.Bits.{lane_states, lane_sets, high_states, lanes, has, has_with, larger_has, own_or_larger, word_with, covered_by}
+use Rattle.sets.proofs.Logic.{decided, clash, same_truth, and_left, and_right, and_intro, or_left, false_not, and_false_left, and_false_right, true_not}
+use Rattle.sets.proofs.Bounded.{any_zero, any_more, any_found, any_intro, any_none, any_refuted, any_ext}
+use Rattle.sets.proofs.Mask.{member_zero, member_and, member_or, member_shift, member_low, member_sub_same, sub_add, union_add, union_least}
 use Rattle.sets.proofs.Mask.{union_subset_left, union_subset_right, subset_refl, subset_antisym, subset_intro, subset_member, add_lt, subset_parts}
 
 -- a 1 shifted by fewer places than the word has
@@ -34,58 +34,17 @@ unite_none f t = member_zero t ∙ sym (any_zero f)
 pub unite_more : (f : ℕ → Bool) (i a b t : ℕ) → member a t ≡ any i f → member b t ≡ f i → member (union a b) t ≡ any (i + 1) f
 unite_more f i a b t h k = member_or a b t ∙ ap₂ ◌||◌ h k ∙ sym (any_more i f)
 
--- ---- the subsets of a set, by the states that it lacks
+-- ---- the subsets of a set
 
--- t has nothing of what h lacks below i
-abbrev pub lacks : ℕ → ℕ → ℕ → Bool
-lacks h i t = all i (λ i. member h i || not (member t i))
-
--- before the first turn
-pub lacks_none : (h t : ℕ) → t < lane_sets → member (2 ^ lane_sets - 1) t ≡ lacks h 0 t
-unfolding all
-lacks_none h t l = member_rest lane_sets 0 t (pow_pos lane_sets) l ∙ false_not (member_zero t)
-
--- h lacks i
-pub lacks_more : (h i word lacking : ℕ) → member h i ≡ false → ((t : ℕ) → t < lane_sets → member word t ≡ lacks h i t) → ((t : ℕ) → t < lane_sets → member lacking t ≡ not (member t i)) → (t : ℕ) → t < lane_sets → member (common word lacking) t ≡ lacks h (i + 1) t
-lacks_more h i word lacking f w k t l =
-    member_and word lacking t ∙ ap₂ ◌&&◌ (w t l) (k t l ∙ ap (λ (b : Bool). b || not (member t i)) (sym f)) ∙ sym (all_more i (λ i. member h i || not (member t i)))
-
--- h has i
-pub lacks_skip : (h i word : ℕ) → member h i ≡ true → ((t : ℕ) → t < lane_sets → member word t ≡ lacks h i t) → (t : ℕ) → t < lane_sets → member word t ≡ lacks h (i + 1) t
-lacks_skip h i word m w t l =
-    w t l ∙ sym (all_more i (λ i. member h i || not (member t i)) ∙ ap (λ (b : Bool). lacks h i t && (b || not (member t i))) m ∙ and-true (lacks h i t))
-
--- all states are done
-pub lacks_end : (h t : ℕ) → t < lane_sets → lacks h lane_states t ≡ subset t h
-lacks_end h t l =
-    same_truth (lacks h lane_states t) (subset t h)
+-- t has no state that h lacks
+pub nothing_lacked : (h t : ℕ) → t < lane_sets → not (any lane_states (λ i. not (member h i) && member t i)) ≡ subset t h
+nothing_lacked h t l =
+    same_truth (not (any lane_states (λ i. not (member h i) && member t i))) (subset t h)
     (λ e. subset_intro lane_states t h l
-    (λ i b m. ⊎_elim (λ (a : member h i ≡ true). a) (λ a. clash m (not-true (member t i) a)) (or_cases (member h i) (not (member t i)) (all_at lane_states (λ i. member h i || not (member t i)) e i b))))
-    (λ e. all_intro lane_states (λ i. member h i || not (member t i))
-    (λ i b. ⊎_elim (λ m. or_left (not (member t i)) (subset_member t h e i m)) (λ m. or_right (member h i) (false_not m)) (decided (member t i))))
-
--- ---- the sets that hold a set, by the states that it has: it has nothing of what they lack
-
-not_twice : (b : Bool) → not (not b) ≡ b
-not_twice true = refl
-not_twice false = refl
-
--- before the first turn
-pub haves_none : (h t : ℕ) → t < lane_sets → member (2 ^ lane_sets - 1) t ≡ lacks t 0 h
-unfolding all
-haves_none h t l = member_rest lane_sets 0 t (pow_pos lane_sets) l ∙ false_not (member_zero t)
-
--- h has i
-pub haves_more : (h i word lacking : ℕ) → lacking < 2 ^ lane_sets → member h i ≡ true → ((t : ℕ) → t < lane_sets → member word t ≡ lacks t i h) → ((t : ℕ) → t < lane_sets → member lacking t ≡ not (member t i)) → (t : ℕ) → t < lane_sets → member (common word ((2 ^ lane_sets - 1) - lacking)) t ≡ lacks t (i + 1) h
-haves_more h i word lacking small m w k t l =
-    member_and word ((2 ^ lane_sets - 1) - lacking) t
-    ∙ ap₂ ◌&&◌ (w t l) (member_rest lane_sets lacking t small l ∙ ap not (k t l) ∙ not_twice (member t i) ∙ sym (ap (λ (b : Bool). member t i || not b) m ∙ or-false (member t i)))
-    ∙ sym (all_more i (λ i. member t i || not (member h i)))
-
--- h lacks i
-pub haves_skip : (h i word : ℕ) → member h i ≡ false → ((t : ℕ) → t < lane_sets → member word t ≡ lacks t i h) → (t : ℕ) → t < lane_sets → member word t ≡ lacks t (i + 1) h
-haves_skip h i word f w t l =
-    w t l ∙ sym (all_more i (λ i. member t i || not (member h i)) ∙ ap (λ (b : Bool). lacks t i h && b) (or_right (member t i) (false_not f)) ∙ and-true (lacks t i h))
+    (λ i b m. ⊎_elim (λ (a : member h i ≡ true). a)
+    (λ a. clash (and_intro (false_not a) m) (any_none lane_states (λ i. not (member h i) && member t i) (not-true (any lane_states (λ i. not (member h i) && member t i)) e) i b)) (decided (member h i))))
+    (λ e. false_not (any_refuted lane_states (λ i. not (member h i) && member t i)
+    (λ i b. ⊎_elim (λ m. and_false_left (member t i) (true_not (subset_member t h e i m))) (λ f. and_false_right (not (member h i)) f) (decided (member t i)))))
 
 -- ---- this lane and those with a state more
 
@@ -97,49 +56,28 @@ union_has lane i m =
     (subst (λ (x : ℕ). subset (2 ^ i) x ≡ true) (union_add (lane - 2 ^ i) i (member_sub_same lane i m) ∙ sub_add lane i m) (union_subset_right (lane - 2 ^ i) (2 ^ i))))
     (union_subset_left lane (2 ^ i))
 
--- what is there already adds nothing
-or_own : (a b c : Bool) → c ≡ false → ((a || b) || a) ≡ (a || (b || c))
-or_own true b c e = refl
-or_own false b c e = or-false b ∙ sym (ap (λ (x : Bool). b || x) e ∙ or-false b)
-
 module _ (bits : List ℕ) (lane t : ℕ) where
-  abbrev more : ℕ → Bool
-  more i = has_with bits lane i t
+  -- a lane that lacks the state: the one with it has a state more
+  pub other_lane : (i : ℕ) → member lane i ≡ false → member (get_or bits (union lane (2 ^ i)) 0) t ≡ has_with bits lane i t
+  other_lane i m =
+      ap (λ (x : ℕ). member (get_or bits x 0) t) (union_add lane i m)
+      ∙ sym (ap (λ (x : Bool). x && member (get_or bits (lane + 2 ^ i) 0) t) (false_not m))
 
-  -- what is united before turn i
-  abbrev pub united_below : (i : ℕ) (own : Bool) → Bool
-  united_below i own = (own && member (get_or bits lane 0) t) || any i (λ i. has_with bits lane i t)
+  -- one that has the state is itself the one with it
+  own_lane : (i : ℕ) → member lane i ≡ true → member (get_or bits lane 0) t ≡ false → member (get_or bits (union lane (2 ^ i)) 0) t ≡ has_with bits lane i t
+  own_lane i m e =
+      ap (λ (x : ℕ). member (get_or bits x 0) t) (union_has lane i m) ∙ e
+      ∙ sym (and_false_left (member (get_or bits (lane + 2 ^ i) 0) t) (true_not m))
 
-  -- before the first turn
-  pub united_none : (own : Bool) → member (cond own (get_or bits lane 0) 0) t ≡ united_below 0 own
-  united_none true = sym (ap (λ (b : Bool). member (get_or bits lane 0) t || b) (any_zero more) ∙ or-false (member (get_or bits lane 0) t))
-  united_none false = member_zero t ∙ sym (any_zero more)
-
-  -- one turn, over what was united so far: the lane with the state is this one, or has a state more
-  with_own : (i : ℕ) (b : Bool) → (member (get_or bits lane 0) t || b || member (with_state bits lane i true) t) ≡ (member (get_or bits lane 0) t || (b || more i))
-  with_own i b =
-      let own : Bool = member (get_or bits lane 0) t in
+  -- so with what this lane has no lane need be tested for a state
+  pub with_own : (member (get_or bits lane 0) t || any high_states (λ i. member (get_or bits (union lane (2 ^ i)) 0) t)) ≡ own_or_larger bits lane t
+  with_own =
       ⊎_elim
-      (λ m. ap (λ (x : ℕ). (own || b) || member x t) (ap (λ (x : ℕ). get_or bits x 0) (union_has lane i m))
-      ∙ or_own own b (more i) (and_false_left (member (get_or bits (lane + 2 ^ i) 0) t) (true_not m)))
-      (λ m. ap (λ (x : ℕ). (own || b) || member x t) (ap (λ (x : ℕ). get_or bits x 0) (union_add lane i m))
-      ∙ ap (λ (x : Bool). (own || b) || x) (sym (ap (λ (x : Bool). x && member (get_or bits (lane + 2 ^ i) 0) t) (false_not m))) ∙ or_assoc own b (more i))
-      (decided (member lane i))
-
-  with_others : (i : ℕ) → member (with_state bits lane i false) t ≡ more i
-  with_others i =
-      ⊎_elim
-      (λ m. ap (λ (k : Bool). member (cond (not k) (get_or bits (union lane (2 ^ i)) 0) 0) t) m ∙ member_zero t ∙ sym (and_false_left (member (get_or bits (lane + 2 ^ i) 0) t) (true_not m)))
-      (λ m. ap (λ (k : Bool). member (cond (not k) (get_or bits (union lane (2 ^ i)) 0) 0) t) m ∙ ap (λ (x : ℕ). member (get_or bits x 0) t) (union_add lane i m)
-      ∙ sym (ap (λ (x : Bool). x && member (get_or bits (lane + 2 ^ i) 0) t) (false_not m)))
-      (decided (member lane i))
-
-  pub united_more : (own : Bool) (i all : ℕ) → member all t ≡ united_below i own → member (union all (with_state bits lane i own)) t ≡ united_below (i + 1) own
-  united_more true i all e =
-      member_or all (with_state bits lane i true) t ∙ ap (λ (b : Bool). b || member (with_state bits lane i true) t) e
-      ∙ with_own i (any i more) ∙ ap (λ (b : Bool). member (get_or bits lane 0) t || b) (sym (any_more i more))
-  united_more false i all e =
-      member_or all (with_state bits lane i false) t ∙ ap₂ ◌||◌ e (with_others i) ∙ sym (any_more i more)
+      (λ e. or_left (any high_states (λ i. member (get_or bits (union lane (2 ^ i)) 0) t)) e ∙ sym (or_left (larger_has bits lane t) e))
+      (λ e. ap (λ (b : Bool). member (get_or bits lane 0) t || b)
+      (any_ext high_states (λ i. member (get_or bits (union lane (2 ^ i)) 0) t) (λ i. has_with bits lane i t)
+      (λ i l. ⊎_elim (λ m. own_lane i m e) (λ m. other_lane i m) (decided (member lane i)))))
+      (decided (member (get_or bits lane 0) t))
 
 -- what the lanes with a state more have goes by the lanes behind this one
 pub larger_same : (a b : List ℕ) (lane t : ℕ) → ((m : ℕ) → lane < m → get_or a m 0 ≡ get_or b m 0) → larger_has a lane t ≡ larger_has b lane t
@@ -148,7 +86,7 @@ larger_same a b lane t h =
     (λ i l. ap (λ (x : ℕ). not (member lane i) && member x t) (h (lane + 2 ^ i) (omega (arith, pow_pos i))))
 
 -- an emptied lane adds nothing
-pub emptied : (bits : List ℕ) (lane t : ℕ) → lane < length bits → larger_or_own (set bits lane 0) lane true t ≡ larger_has bits lane t
+pub emptied : (bits : List ℕ) (lane t : ℕ) → lane < length bits → own_or_larger (set bits lane 0) lane t ≡ larger_has bits lane t
 emptied bits lane t l =
     ap (λ (b : Bool). b || larger_has (set bits lane 0) lane t) (ap (λ (x : ℕ). member x t) (get_or-set_same bits lane 0 0 l) ∙ member_zero t)
     ∙ larger_same (set bits lane 0) bits lane t (λ m k. get_or-set_other bits lane m 0 0 (λ e. omega arith))

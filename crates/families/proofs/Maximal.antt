@@ -19,7 +19,7 @@ use Rattle.sets.proofs.Logic.{decided, clash, refuted, same_truth, and_left, and
 use Rattle.sets.proofs.Bounded.{all_intro, select_ext, select_gap}
 use Rattle.sets.proofs.Mask.{member_zero, member_and, member_or, member_rest, subset_add}
 use Rattle.sets.proofs.Family.{is_maximal_in, is_maximal_only, maximal_by_states}
-use Rattle.families.specs.Bits.{lane_states, lane_sets, high_states, has, sets, Closed, larger_has, larger_or_own, covered_by, Topped}
+use Rattle.families.specs.Bits.{lane_states, lane_sets, high_states, has, sets, Closed, larger_has, own_or_larger, covered_by, Topped}
 use Rattle.families.proofs.Lanes.{lanes_room, by_lane, has_at, state_low, state_high, larger_found, larger_intro, larger_same, emptied, covered_found, covered_intro}
 
 -- the sets of the word that are in neither of two others
@@ -109,7 +109,7 @@ topped_none bits lane e =
     }
 
 pub topped_some : (bits : List ℕ) (lane above covered : ℕ) → lane < length bits → above < 2 ^ 64 → covered < 2 ^ 64
-    → ((t : ℕ) → member above t ≡ larger_or_own (set bits lane 0) lane true t)
+    → ((t : ℕ) → member above t ≡ own_or_larger (set bits lane 0) lane t)
     → ((t : ℕ) → t < lane_sets → member covered t ≡ covered_by (get_or bits lane 0) t)
     → Topped bits lane (set (set bits lane 0) lane (common (get_or bits lane 0) ((2 ^ 64 - 1) - union above covered)))
 topped_some bits lane above covered l a b up in_word =

@@ -1,8 +1,8 @@
 -- A family of sets of states as bits, 64 sets to a machine word.
 -- Assumes nothing.
-use Rattle.std.specs.Prelude.{◌≡◌, Bool, true, not, cond, ◌&&◌, ◌||◌, ℕ, ◌+◌, ◌-◌, ◌*◌, ◌/◌, ◌%◌, ◌^◌, ◌≤◌, ◌<◌, length, get_or}
+use Rattle.std.specs.Prelude.{◌≡◌, Bool, true, not, ◌&&◌, ◌||◌, ℕ, ◌+◌, ◌-◌, ◌*◌, ◌/◌, ◌%◌, ◌^◌, ◌≤◌, ◌<◌, length, get_or}
 use mathlib.Core.List.{List, [], ◌∷◌, Memᴰ}
-use Rattle.sets.specs.Mask.{member, union, subset}
+use Rattle.sets.specs.Mask.{member, subset}
 use Rattle.games.specs.Format.{max_states}
 use Rattle.sets.specs.Bounded.{any, select}
 use Rattle.sets.specs.Family.{Family, DownClosed}
@@ -57,6 +57,10 @@ pub record Lane (bits : List ℕ) (lane : ℕ) : Type 0 where
   pub here : lane < length bits
   pub few : length bits ≤ max_lanes
 
+-- each word that may be given for a number i below n has t where the test of i passes
+abbrev pub Tells : (ℕ → ℕ → Type 0) → ℕ → ℕ → (ℕ → Bool) → Type 0
+Tells gives n t test = (i word : ℕ) → i < n → gives i word → member word t ≡ test i
+
 -- the lane lacks the state i (of the states from 6 up), and the lane with it has t
 abbrev pub has_with : List ℕ → ℕ → ℕ → ℕ → Bool
 has_with bits lane i t = not (member lane i) && member (get_or bits (lane + 2 ^ i) 0) t
@@ -65,13 +69,9 @@ has_with bits lane i t = not (member lane i) && member (get_or bits (lane + 2 ^ 
 abbrev pub larger_has : List ℕ → ℕ → ℕ → Bool
 larger_has bits lane t = any high_states (λ i. has_with bits lane i t)
 
--- the word of the lane with the state i: this lane's where it has the state, and then it counts only with `own`
-abbrev pub with_state : List ℕ → (lane i : ℕ) (own : Bool) → ℕ
-with_state bits lane i own = cond (own || not (member lane i)) (get_or bits (union lane (2 ^ i)) 0) 0
-
--- a lane with one state more has t, or, with `own`, this one
-abbrev pub larger_or_own : List ℕ → (lane : ℕ) (own : Bool) (t : ℕ) → Bool
-larger_or_own bits lane own t = (own && member (get_or bits lane 0) t) || larger_has bits lane t
+-- this lane has t, or a lane with one state more does
+abbrev pub own_or_larger : List ℕ → ℕ → ℕ → Bool
+own_or_larger bits lane t = member (get_or bits lane 0) t || larger_has bits lane t
 
 -- t lacks the state i, and the word has t with it
 abbrev pub word_with : ℕ → ℕ → ℕ → Bool

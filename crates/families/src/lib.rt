@@ -1,13 +1,13 @@
 // Families of sets of states as bits, 64 sets to a machine word (lane).
 #![tactic(auto)]
 
-ghost use Rattle.std.specs.Prelude.{◌≡◌, cond, not, ◌++◌, ℕ, ◌+◌, ◌*◌, ◌/◌, ◌^◌, ◌≤◌, ◌<◌, eqb, length, get_or, take, drop, replicate};
+ghost use Rattle.std.specs.Prelude.{◌≡◌, Bool, not, ◌++◌, ℕ, ◌+◌, ◌*◌, ◌/◌, ◌^◌, ◌≤◌, ◌<◌, eqb, length, get_or, take, drop, replicate};
 ghost use Rattle.sets.specs.Mask.{member, union, subset};
-ghost use Rattle.sets.specs.Bounded.{count as count_of, select};
+ghost use Rattle.sets.specs.Bounded.{any, count as count_of, select};
 ghost use Rattle.sets.specs.Family.{listed, holds, maximal};
 ghost use Rattle.games.specs.Format.{max_states};
 ghost use Rattle.families.specs.Bits.{lane_states, lane_sets, high_states, max_lanes, lanes, has as is_in, sets, Bits, Closed, Holding, Lane};
-ghost use Rattle.families.specs.Bits.{with_state, larger_or_own, word_with, covered_by, Topped, low_has, up_has, above_has, ByLane, raised};
+ghost use Rattle.families.specs.Bits.{Tells, has_with, larger_has, own_or_larger, word_with, covered_by, Topped, low_has, up_has, above_has, ByLane, raised};
 
 // The states below 6 tell the sets of a lane apart.
 pub const LANE_STATES: u32 = 6;
@@ -20,9 +20,6 @@ const HIGH_STATES: u32 = games::MAX_STATES - LANE_STATES;
 
 // The most lanes.
 pub const MAX_LANES: usize = 1 << HIGH_STATES;
-
-// A word with all sets.
-const FULL: u64 = 0xFFFF_FFFF_FFFF_FFFF;
 
 // For each state below 6, the sets that lack it.
 const WITHOUT: [u64; 6] = [
@@ -74,36 +71,47 @@ fn lacking(i: u32) -> u64
     WITHOUT[at]
 }
 
-// The subsets of h, a set of the states below 6: the sets that lack what h lacks. (A table of 64 words would be built anew at each call.)
-pub fn subsets(h: u32) -> u64
-    requires { h < lane_sets }
-    ensures { (t : ℕ) → t < lane_sets → member result t ≡ subset t h }
+// The sets that have the state i.
+fn having(i: u32) -> u64
+    requires { i < lane_states }
+    ensures { (t : ℕ) → t < lane_sets → member result t ≡ member t i }
 {
-    let mut all = FULL;
-    let mut i: u32 = 0;
-    while i < LANE_STATES {
-        if !sets::member(h, i) {
-            all = all & lacking(i);
-        }
-        i += 1;
+    !lacking(i)
+}
+
+// The union of the words that `word` gives for the numbers below n.
+fn united<F: Fn(u32) -> u64>(n: u32, word: F) -> u64
+    requires { (i : ℕ) → i < n → F.pre word i }
+    ensures { (t : ℕ) (test : ℕ → Bool) → Tells (F.post word) n t test
+        → member result t ≡ any n test }
+{
+    let mut all = 0;
+    for i in 0..n {
+        all |= word(i);
     }
     all
 }
 
-// The sets that hold h, a set of the states below 6: those that have what h has.
+// The subsets of h, a set of the states below 6: the sets that have no state that h lacks. (A table of 64 words would be built anew at each call.)
+pub fn subsets(h: u32) -> u64
+    requires { h < lane_sets }
+    ensures { (t : ℕ) → t < lane_sets → member result t ≡ subset t h }
+{
+    !united(
+        LANE_STATES,
+        |i| if sets::member(h, i) { 0 } else { having(i) },
+    )
+}
+
+// The sets that hold h, a set of the states below 6: those that lack no state that h has.
 pub fn supersets(h: u32) -> u64
     requires { h < lane_sets }
     ensures { (t : ℕ) → t < lane_sets → member result t ≡ subset h t }
 {
-    let mut all = FULL;
-    let mut i: u32 = 0;
-    while i < LANE_STATES {
-        if sets::member(h, i) {
-            all = all & !lacking(i);
-        }
-        i += 1;
-    }
-    all
+    !united(
+        LANE_STATES,
+        |i| if sets::member(h, i) { lacking(i) } else { 0 },
+    )
 }
 
 // The sets of j states, of those below 6.
@@ -127,49 +135,36 @@ fn lane_with(bits: &[u64], lane: usize, i: u32) -> u64
     0
 }
 
-// The same, but a lane that has the state counts only with `own`.
-fn with_state(bits: &[u64], lane: usize, i: u32, own: bool) -> u64
+// The same, but no set where this lane has the state.
+fn other_with(bits: &[u64], lane: usize, i: u32) -> u64
     requires { i < high_states }
-    ensures { result ≡ with_state bits.now lane i own }
+    ensures { (t : ℕ) → member result t ≡ has_with bits.now lane i t }
 {
     let has = (lane >> i) % 2 == 1;
-    if own | !has {
-        return lane_with(bits, lane, i);
-    }
-    0
+    if has { 0 } else { lane_with(bits, lane, i) }
 }
 
-// This lane's sets with `own`, none without.
-fn own_word(bits: &[u64], lane: usize, own: bool) -> u64
-    requires { lane < length bits.now }
-    ensures { result ≡ cond own (get_or bits.now lane 0) 0 }
-{
-    if own { bits[lane] } else { 0 }
-}
-
-// What the lanes with one state more have, united; with `own` what this lane has too, and then no lane is tested for a state.
-pub fn larger(bits: &[u64], lane: usize, own: bool) -> u64
+// What the lanes with one state more have, united.
+pub fn larger(bits: &[u64], lane: usize) -> u64
     requires { Lane bits.now lane }
-    ensures { (t : ℕ) → member result t ≡ larger_or_own bits.now lane own t }
+    ensures { (t : ℕ) → member result t ≡ larger_has bits.now lane t }
 {
-    let mut all = own_word(bits, lane, own);
-    let mut i = 0;
-    while i < HIGH_STATES {
-        all = all | with_state(bits, lane, i, own);
-        i += 1;
-    }
-    all
+    united(HIGH_STATES, |i| other_with(bits, lane, i))
+}
+
+// What this lane and the lanes with one state more have, united: no lane is tested for a state.
+pub fn own_or_larger(bits: &[u64], lane: usize) -> u64
+    requires { Lane bits.now lane }
+    ensures { (t : ℕ) → member result t ≡ own_or_larger bits.now lane t }
+{
+    bits[lane] | united(HIGH_STATES, |i| lane_with(bits, lane, i))
 }
 
 // The sets of the word that lie in another of it with one state more.
 fn covered(word: u64) -> u64
     ensures { (t : ℕ) → t < lane_sets → member result t ≡ covered_by word t }
 {
-    let mut all = 0;
-    for i in 0..LANE_STATES {
-        all |= shifted(word, i);
-    }
-    all
+    united(LANE_STATES, |i| shifted(word, i))
 }
 
 // The sets that lack i and are in the word with it.
@@ -189,7 +184,7 @@ fn keep_tops(bits: &mut [u64], lane: usize)
     let word = bits[lane];
     if word != 0 {
         bits[lane] = 0; // so that its own sets don't count
-        bits[lane] = word & !(larger(bits, lane, true) | covered(word));
+        bits[lane] = word & !(own_or_larger(bits, lane) | covered(word));
     }
 }
 
@@ -288,7 +283,7 @@ fn spread(bits: &mut [u64])
     ensures { ByLane (up_has bits.old) bits.old bits.new }
 {
     for lane in (0..bits.len()).rev() {
-        bits[lane] = larger(bits, lane, true);
+        bits[lane] = own_or_larger(bits, lane);
     }
 }
 

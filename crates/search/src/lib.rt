@@ -126,7 +126,7 @@ fn pass(table: &[u32], low: &[u32], high: &[u32], family: &[u64], next: &mut [u6
     let mut lane = family.len();
     while 0 < lane {
         lane -= 1;
-        let covered = families::larger(next, lane, false);
+        let covered = families::larger(next, lane);
         next[lane] = pass_lane(table, low, high, family, lane as u32, covered);
     }
 }

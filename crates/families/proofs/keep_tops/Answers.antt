@@ -5,8 +5,8 @@ use lib.ListN.{set, length-set}
 use Rattle.families.proofs.Maximal.{topped_none, topped_some}
 use Rattle.families.proofs.keep_tops.Goals as goal
 
-pub larger-requires : goal.larger-requires
-larger-requires c =
+pub own_or_larger-requires : goal.own_or_larger-requires
+own_or_larger-requires c =
     let long = length-set c.args.bits.now c.args.lane 0 in
     record { here = omega (arith, long, c.requires.here); few = omega (arith, long, c.requires.few) }
 
@@ -21,5 +21,5 @@ returns-else-word-ne0 c = topped_none c.args.bits.now c.args.lane c.if-word-ne0.
 
 pub returns-then-word-ne0 : goal.returns-then-word-ne0
 returns-then-word-ne0 c =
-    topped_some c.args.bits.now c.args.lane c.larger.result c.covered.result c.requires.here (omega (arith, c.larger)) (omega (arith, c.covered))
-    c.larger.ensures c.covered.ensures
+    topped_some c.args.bits.now c.args.lane c.own_or_larger.result c.covered.result c.requires.here (omega (arith, c.own_or_larger)) (omega (arith, c.covered))
+    c.own_or_larger.ensures c.covered.ensures

@@ -11,4 +11,4 @@ pub loop-lane-preserved : goal.loop-lane-preserved
 loop-lane-preserved c =
     let lane : ℕ = c.loop-lane.lane in
     let e : lane ≡ lane - 1 + 1 = omega arith in
-    spreading_more c.args.bits.now c.loop-lane.bits (lane - 1) c.larger.result c.requires (subst (Spreading c.args.bits.now c.loop-lane.bits) e c.loop-lane.invariant) c.larger.ensures
+    spreading_more c.args.bits.now c.loop-lane.bits (lane - 1) c.own_or_larger.result c.requires (subst (Spreading c.args.bits.now c.loop-lane.bits) e c.loop-lane.invariant) c.own_or_larger.ensures
