@@ -10,8 +10,7 @@ use Rattle.games.specs.Places.{parked_words}
 use Rattle.games.specs.Stations.{table_a, table_e, parked_e, forked_q, parked_q}
 use Rattle.games.specs.Words.{game}
 use Rattle.walk.specs.declared.Walked.{Walked}
-use Rattle.walk.specs.declared.Walked.TheVariants.{Blocked, Post}
-use Rattle.walk.specs.Walk.{moved, members, along, walked}
+use Rattle.walk.specs.Walk.{passed, stopped, moved, members, along, walked}
 
 pub record Row : Type 0 where
   pub table : List ℕ
@@ -20,10 +19,10 @@ pub record Row : Type 0 where
   pub answer : Walked
 
 abbrev passes : List ℕ → (action set successors looked : ℕ) → Row
-passes w a s u c = record { table = w; action = a; set = s; answer = Post u c }
+passes w a s u c = record { table = w; action = a; set = s; answer = passed u c }
 
 abbrev stops : List ℕ → (action set member looked : ℕ) → Row
-stops w a s i c = record { table = w; action = a; set = s; answer = Blocked (record { 0 = i }) c }
+stops w a s i c = record { table = w; action = a; set = s; answer = stopped i c }
 
 pub data Rows : List Row → Type 0 where
   none : Rows []

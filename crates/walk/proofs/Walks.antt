@@ -13,9 +13,8 @@ use Rattle.sets.specs.Bounded.{count}
 use Rattle.sets.proofs.Bounded.{Lowest, count_le, select_ext, select_length, select_lowest, select_none}
 use Rattle.sets.proofs.Mask.{member_zero, member_below, member_low, lowest, common_lt_left, member_sub_same, member_sub_other, lowest_off}
 use Rattle.games.specs.Game.{Game}
-use Rattle.walk.specs.declared.Moved.TheVariants.{Blocked as Stuck, To}
-use Rattle.walk.specs.declared.Walked.TheVariants.{Blocked, Post}
-use Rattle.walk.specs.Walk.{moved, members, along, walked}
+use Rattle.std.specs.Prelude.{Some, None}
+use Rattle.walk.specs.Walk.{passed, stopped, moved, members, along, walked}
 
 -- ---- members, from the lowest
 
@@ -42,15 +41,15 @@ members_lowest n s i l =
 -- ---- the walk along them
 
 module _ (g : Game) (a : ℕ) where
-  pub along_none : (u c : ℕ) → along g a [] u c ≡ Post u c
+  pub along_none : (u c : ℕ) → along g a [] u c ≡ passed u c
   unfolding along
   along_none u c = refl
 
-  pub along_blocked : (i : ℕ) (l : List ℕ) (u c : ℕ) → moved g a i ≡ Stuck → along g a (i ∷ l) u c ≡ Blocked (record { 0 = i }) (c + 1)
+  pub along_blocked : (i : ℕ) (l : List ℕ) (u c : ℕ) → moved g a i ≡ None → along g a (i ∷ l) u c ≡ stopped i (c + 1)
   unfolding along
   along_blocked i l u c e = rw e
 
-  pub along_more : (i : ℕ) (l : List ℕ) (u c v : ℕ) → moved g a i ≡ To v → along g a (i ∷ l) u c ≡ along g a l (union u v) (c + 1)
+  pub along_more : (i : ℕ) (l : List ℕ) (u c v : ℕ) → moved g a i ≡ Some v → along g a (i ∷ l) u c ≡ along g a l (union u v) (c + 1)
   unfolding along
   along_more i l u c v e = rw e
 
@@ -74,7 +73,7 @@ module _ (g : Game) (a : ℕ) where
 
     module _ (rest u looked : ℕ) (h : Walking rest u looked) where
       -- nothing is left
-      pub walking_end : rest ≡ 0 → Post u looked ≡ walked g s a
+      pub walking_end : rest ≡ 0 → passed u looked ≡ walked g s a
       walking_end z =
           sym (along_none u looked) ∙ ap (λ (l : List ℕ). along g a l u looked) (sym (ap (members g.states) z ∙ members_none g.states)) ∙ h.answer
 
@@ -102,11 +101,11 @@ module _ (g : Game) (a : ℕ) where
         next_counted = omega (arith, next_less, h.few)
 
         -- where the action is blocked there, the walk ends
-        pub walking_blocked : moved g a (count_trailing_zeros 32 rest) ≡ Stuck → Blocked (record { 0 = count_trailing_zeros 32 rest }) (looked + 1) ≡ walked g s a
+        pub walking_blocked : moved g a (count_trailing_zeros 32 rest) ≡ None → stopped (count_trailing_zeros 32 rest) (looked + 1) ≡ walked g s a
         walking_blocked e = sym (along_blocked (count_trailing_zeros 32 rest) (members g.states (common rest (rest - 1))) u looked e) ∙ next_answer
 
         -- where it is not, the others are left
-        pub walking_more : (v : ℕ) → moved g a (count_trailing_zeros 32 rest) ≡ To v → Walking (common rest (rest - 1)) (union u v) (looked + 1)
+        pub walking_more : (v : ℕ) → moved g a (count_trailing_zeros 32 rest) ≡ Some v → Walking (common rest (rest - 1)) (union u v) (looked + 1)
         walking_more v e =
             record {
               small = common_lt_left g.states rest (rest - 1) h.small;

@@ -10,28 +10,19 @@ ghost use Rattle.walk.specs.Walk.{moved, walked};
 
 use games::{Action, State};
 
-// What one state comes to under an action.
-#[derive(Clone, Copy)]
-pub enum Moved {
-    // the action is blocked there
-    Blocked,
-    // its successors; a parked state has none
-    To(u32),
-}
-
-// The state's successors; where there are none, it is parked or blocked.
-pub fn move_from(table: &[u32], a: Action, i: State) -> Moved
+// The state's successors, none where the action is blocked there. A parked state leads to no state.
+pub fn move_from(table: &[u32], a: Action, i: State) -> Option<u32>
     requires { Sized table.now × (a.0 < (game table.now).actions) × (i.0 < (game table.now).states) }
     ensures { result ≡ moved (game table.now) a.0 i.0 }
 {
     let u = tables::successors(table, a, i);
     if u != 0 {
-        return Moved::To(u);
+        return Some(u);
     }
     if sets::member(tables::parked(table), i.0) {
-        return Moved::To(0);
+        return Some(0);
     }
-    Moved::Blocked
+    None
 }
 
 // The action is enabled in the state: it is not blocked there.
@@ -39,19 +30,16 @@ pub fn enabled(table: &[u32], a: Action, i: State) -> bool
     requires { Sized table.now × (a.0 < (game table.now).actions) × (i.0 < (game table.now).states) }
     ensures { result ≡ is_enabled (game table.now) i.0 a.0 }
 {
-    match move_from(table, a, i) {
-        Moved::Blocked => false,
-        Moved::To(_) => true,
-    }
+    move_from(table, a, i).is_some()
 }
 
-// What a set comes to under an action, and how many members were looked at.
+// What a set comes to under an action.
 #[derive(Clone, Copy)]
-pub enum Walked {
-    // the lowest member where the action is blocked, and the members up to and with it
-    Blocked(State, u32),
-    // the successors of the whole set, and all its members
-    Post(u32, u32),
+pub struct Walked {
+    // the successors of the whole set, or the lowest member where the action is blocked
+    pub post: Result<u32, State>,
+    // how many members were looked at: all, or those up to and with the blocked one
+    pub looked: u32,
 }
 
 // The lowest member is looked at and taken off, until one is blocked or none is left.
@@ -63,13 +51,19 @@ pub fn walk(table: &[u32], s: u32, a: Action) -> Walked
     let mut u: u32 = 0;
     let mut looked: u32 = 0;
     while rest != 0 {
-        let i = u32::trailing_zeros(rest);
-        let Moved::To(v) = move_from(table, a, State(i)) else {
-            return Walked::Blocked(State(i), looked + 1);
+        let i = State(u32::trailing_zeros(rest));
+        let Some(v) = move_from(table, a, i) else {
+            return Walked {
+                post: Err(i),
+                looked: looked + 1,
+            };
         };
         u = u | v;
         looked += 1;
         rest = rest & (rest - 1);
     }
-    Walked::Post(u, looked)
+    Walked {
+        post: Ok(u),
+        looked,
+    }
 }

@@ -48,7 +48,7 @@ loop-rest-smaller c =
 pub loop-rest-preserved : goal.loop-rest-preserved
 loop-rest-preserved c =
     let wide : (game c.args.table.now).states ≤ 32 = omega (arith, few_states c.args.table.now c.requires.0) in
-    walking_more _ _ _ _ _ _ c.loop-rest.invariant wide c.loop-rest-test.true c.in-To.v (sym c.move_from.ensures ∙ c.in-To.is)
+    walking_more _ _ _ _ _ _ c.loop-rest.invariant wide c.loop-rest-test.true c.in-Some.v (sym c.move_from.ensures ∙ c.in-Some.is)
 
 pub returns : goal.returns
 returns c = walking_end _ _ _ _ _ _ c.loop-rest.invariant c.loop-rest-test.false
