@@ -26,9 +26,9 @@ use Rattle.games.specs.Words.{game}
 use Rattle.tables.specs.Check.{checked}
 use Rattle.tables.proofs.Checks.{sized}
 use Rattle.tables.proofs.Bounds.{few_states}
-use Rattle.moves.specs.declared.Posted.TheVariants.{Blocked, Post}
+use Rattle.std.specs.Prelude.{Option, Some, None, unwrap_or}
 use Rattle.walk.proofs.Moves.{moved_enabled, moved_blocked}
-use Rattle.moves.specs.Halves.{posted, half_states, half_sets, side_words, blocked_mark, mark_of, mark, Doubled, Halved, Sided, Tabled}
+use Rattle.moves.specs.Halves.{posted, half_states, half_sets, side_words, blocked_mark, mark, Doubled, Halved, Sided, Tabled}
 use Rattle.std.specs.Prelude.{Ok}
 
 -- the union sees only the members below the bound
@@ -208,11 +208,11 @@ module _ (n k s : ℕ) (F : ℕ → ℕ) (within : k ≤ n) (few : k ≤ half_st
 -- the successors where the action is enabled, else the mark
 enabled_mark : (g : Game) (a i : ℕ) → enabled g i a ≡ true → mark g a i ≡ g.successors a i
 unfolding mark
-enabled_mark g a i h = ap mark_of (moved_enabled g a i h)
+enabled_mark g a i h = ap (λ (o : Option ℕ). unwrap_or o blocked_mark) (moved_enabled g a i h)
 
 blocked_mark_lem : (g : Game) (a i : ℕ) → enabled g i a ≡ false → mark g a i ≡ blocked_mark
 unfolding mark
-blocked_mark_lem g a i h = ap mark_of (moved_blocked g a i h)
+blocked_mark_lem g a i h = ap (λ (o : Option ℕ). unwrap_or o blocked_mark) (moved_blocked g a i h)
 
 module _ (g : Game) (A : Accepted g) (few : g.states ≤ max_states) (s a : ℕ) (b : a < g.actions) where
   unmarked : enabled_at g s a ≡ true → union_over g.states s (mark g a) ≡ post g s a
@@ -234,17 +234,17 @@ module _ (g : Game) (A : Accepted g) (few : g.states ≤ max_states) (s a : ℕ)
       (union_over_intro g.states s (mark g a) 16 w.0 w.1 w.2
       (ap (λ (x : ℕ). member x 16) (blocked_mark_lem g a w.0 w.3) ∙ member_single 16))
 
-  pub posted_open : (u : ℕ) → u ≡ union_over g.states s (mark g a) → u < blocked_mark → Post u ≡ posted g s a
+  pub posted_open : (u : ℕ) → u ≡ union_over g.states s (mark g a) → u < blocked_mark → Some u ≡ posted g s a
   unfolding posted
   posted_open u e l =
-      ⊎_elim (λ h. ap Post (e ∙ unmarked h) ∙ sym (ap (λ (c : Bool). cond c (Post (post g s a)) Blocked) h))
+      ⊎_elim (λ h. ap Some (e ∙ unmarked h) ∙ sym (ap (λ (c : Bool). cond c (Some (post g s a)) None) h))
       (λ h. let m = mark_shows h in absurd (omega arith)) (decided (enabled_at g s a))
 
-  pub posted_shut : (u : ℕ) → u ≡ union_over g.states s (mark g a) → blocked_mark ≤ u → Blocked ≡ posted g s a
+  pub posted_shut : (u : ℕ) → u ≡ union_over g.states s (mark g a) → blocked_mark ≤ u → None ≡ posted g s a
   unfolding posted
   posted_shut u e l =
       ⊎_elim (λ h. let m = unmarked h in let p = post_small in absurd (omega arith))
-      (λ h. sym (ap (λ (c : Bool). cond c (Post (post g s a)) Blocked) h)) (decided (enabled_at g s a))
+      (λ h. sym (ap (λ (c : Bool). cond c (Some (post g s a)) None) h)) (decided (enabled_at g s a))
 
 -- ---- filling a side, one action behind the other
 

@@ -13,49 +13,47 @@ use Rattle.sets.proofs.Mask.{union_over_lt}
 use Rattle.games.specs.Game.{Game, Accepted}
 use Rattle.games.specs.Step.{enabled_at, post, after, meets}
 use Rattle.walk.proofs.Promise.{told, stops_not}
-use Rattle.walk.specs.Promise.{Tells}
+use Rattle.walk.specs.Promise.{TellsOf}
 use Rattle.walk.specs.Walk.{walked}
-use Rattle.walk.specs.declared.Walked.{Walked}
-use Rattle.walk.specs.declared.Walked.TheVariants as walk
-use Rattle.moves.specs.declared.Posted.{Posted}
-use Rattle.moves.specs.declared.Posted.TheVariants.{Blocked, Post}
-use Rattle.moves.specs.Halves.{posted, unnumbered, AsWalked, shown_in}
+use Rattle.games.specs.declared.State.{State}
+use Rattle.std.specs.Prelude.{Option, Some, None, Result, Ok, Err}
+use Rattle.moves.specs.Halves.{posted, unnamed, AsWalked, shown_in}
 
-module _ (g : Game) (s a : ℕ) (r : Posted) (is : r ≡ posted g s a) where
-  pub posted_blocked : r ≡ Blocked → enabled_at g s a ≡ false
+module _ (g : Game) (s a : ℕ) (r : Option ℕ) (is : r ≡ posted g s a) where
+  pub posted_blocked : r ≡ None → enabled_at g s a ≡ false
   unfolding posted
   posted_blocked e =
       refuted (enabled_at g s a)
-      (λ h. let w : posted g s a ≡ Post (post g s a) = rw h in let z : ◌≡◌ {A = ℕ} 0 1 = cc in absurd (omega arith))
+      (λ h. let w : posted g s a ≡ Some (post g s a) = rw h in let z : ◌≡◌ {A = ℕ} 0 1 = cc in absurd (omega arith))
 
-  pub posted_post : (u : ℕ) → r ≡ Post u → (enabled_at g s a ≡ true) × (post g s a ≡ u)
+  pub posted_post : (u : ℕ) → r ≡ Some u → (enabled_at g s a ≡ true) × (post g s a ≡ u)
   unfolding posted
   posted_post u e =
       ⊎_elim
-      (λ h. (h, let w : posted g s a ≡ Post (post g s a) = rw h in (cc)))
-      (λ h. let w : posted g s a ≡ Blocked = rw h in let z : ◌≡◌ {A = ℕ} 0 1 = cc in absurd (omega arith))
+      (λ h. (h, let w : posted g s a ≡ Some (post g s a) = rw h in (cc)))
+      (λ h. let w : posted g s a ≡ None = rw h in let z : ◌≡◌ {A = ℕ} 0 1 = cc in absurd (omega arith))
       (decided (enabled_at g s a))
 
 -- ---- the walk's answer
 
 -- an answer that tells of the set and the action is the one of the half tables
-told_posted : (g : Game) (s a : ℕ) (r : Walked) → Tells g s a r → posted g s a ≡ unnumbered r
+told_posted : (g : Game) (s a : ℕ) (r : Result ℕ State) (c : ℕ) → TellsOf g s a r c → posted g s a ≡ unnamed r
 unfolding posted
-told_posted g s a (walk.Post u c) t = rw (t.enabled_at_is, t.successors)
-told_posted g s a (walk.Blocked i c) t = rw (stops_not g a s i.0 c t)
+told_posted g s a (Ok u) c t = rw (t.enabled_at_is, t.successors)
+told_posted g s a (Err i) c t = rw (stops_not g a s i.0 c t)
 
 pub as_walked : (g : Game) → AsWalked g
-as_walked g s a = told_posted g s a (walked g s a) (told g a s)
+as_walked g s a = let w = walked g s a in told_posted g s a w.post w.looked (told g a s)
 
 -- the successors are states of the game
-pub posted_below : (g : Game) → Accepted g → (s a : ℕ) → a < g.actions → (r : Posted) → r ≡ posted g s a → (u : ℕ) → r ≡ Post u → u < 2 ^ g.states
+pub posted_below : (g : Game) → Accepted g → (s a : ℕ) → a < g.actions → (r : Option ℕ) → r ≡ posted g s a → (u : ℕ) → r ≡ Some u → u < 2 ^ g.states
 unfolding post
 posted_below g A s a b r is u e =
     subst (λ (v : ℕ). v < 2 ^ g.states) (posted_post g s a r is u e).1 (union_over_lt g.states s (g.successors a) g.states (λ i l. A.successors_below a i b l))
 
-module _ (g : Game) (F : Family) (s a : ℕ) (r : Posted) (is : r ≡ posted g s a) where
+module _ (g : Game) (F : Family) (s a : ℕ) (r : Option ℕ) (is : r ≡ posted g s a) where
   -- the action meets the step where the sets after it are good
-  pub meets_shown : (u : ℕ) → r ≡ Post u → shown_in g F u ≡ meets g F s a
+  pub meets_shown : (u : ℕ) → r ≡ Some u → shown_in g F u ≡ meets g F s a
   unfolding meets after shown_in
   meets_shown u e =
       let w = posted_post g s a r is u e in
@@ -63,6 +61,6 @@ module _ (g : Game) (F : Family) (s a : ℕ) (r : Posted) (is : r ≡ posted g s
       (ap (λ (b : Bool). b && all g.observations (λ o. F (common (post g s a) (g.shown o)))) w.0
       ∙ ap (λ (v : ℕ). all g.observations (λ o. F (common v (g.shown o)))) w.1)
 
-  pub meets_blocked : r ≡ Blocked → false ≡ meets g F s a
+  pub meets_blocked : r ≡ None → false ≡ meets g F s a
   unfolding meets
   meets_blocked e = sym (and_false_left (all g.observations (λ o. F (after g s a o))) (posted_blocked g s a r is e))

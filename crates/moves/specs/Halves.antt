@@ -1,6 +1,6 @@
 -- The successors of every set in two reads: for each action a table for the lower half of the states and one for the upper half.
 -- Assumes nothing.
-use Rattle.std.specs.Prelude.{◌≡◌, Bool, cond, List, ℕ, ◌+◌, ◌*◌, ◌/◌, ◌%◌, ◌^◌, ◌≤◌, ◌<◌, length, get_or}
+use Rattle.std.specs.Prelude.{◌≡◌, Bool, cond, List, ℕ, ◌+◌, ◌*◌, ◌/◌, ◌%◌, ◌^◌, ◌≤◌, ◌<◌, length, get_or, Option, Some, None, Result, Ok, Err, unwrap_or}
 use Rattle.sets.specs.Mask.{common, union, union_over}
 use Rattle.sets.specs.Bounded.{all}
 use Rattle.sets.specs.Family.{Family}
@@ -10,22 +10,21 @@ use Rattle.games.specs.Step.{enabled_at, post}
 use Rattle.games.specs.Words.{game}
 use Rattle.tables.specs.Check.{checked}
 use Rattle.walk.specs.Walk.{moved, walked}
-use Rattle.walk.specs.declared.Moved.{Moved}
-use Rattle.walk.specs.declared.Moved.TheVariants as one
+use Rattle.games.specs.declared.State.{State}
 use Rattle.walk.specs.declared.Walked.{Walked}
-use Rattle.walk.specs.declared.Walked.TheVariants as walk
-use Rattle.moves.specs.declared.Posted.{Posted}
-use Rattle.moves.specs.declared.Posted.TheVariants.{Blocked, Post}
 use Rattle.std.specs.Prelude.{Ok}
 
 -- what a set comes to under an action: the successors of the whole set, where the action is enabled at all its members
-unfoldable pub posted : Game → ℕ → ℕ → Posted
-posted g s a = cond (enabled_at g s a) (Post (post g s a)) Blocked
+unfoldable pub posted : Game → ℕ → ℕ → Option ℕ
+posted g s a = cond (enabled_at g s a) (Some (post g s a)) None
 
 -- the walk's answer without its numbers
-abbrev pub unnumbered : Walked → Posted
-unnumbered (walk.Blocked i c) = Blocked
-unnumbered (walk.Post u c) = Post u
+abbrev pub unnamed : Result ℕ State → Option ℕ
+unnamed (Err i) = None
+unnamed (Ok u) = Some u
+
+abbrev pub unnumbered : Walked → Option ℕ
+unnumbered w = unnamed w.post
 
 -- it is the answer of one walk over the members: two reads of the half tables say what the walk says
 abbrev pub AsWalked : Game → Type 0
@@ -51,13 +50,8 @@ abbrev pub blocked_mark : ℕ
 blocked_mark = low_values
 
 -- what a member comes to in the walk, as a word: its successors, or the mark
-abbrev pub mark_of : Moved → ℕ
-mark_of one.Blocked = blocked_mark
-mark_of (one.To u) = u
-
--- a state's successors under an action, or the mark
 unfoldable pub mark : Game → (a i : ℕ) → ℕ
-mark g a i = mark_of (moved g a i)
+mark g a i = unwrap_or (moved g a i) blocked_mark
 
 -- an accepted table, an action of it, and the states from `first` on, no more than a half has
 pub record InHalf (table : List ℕ) (a first count : ℕ) : Type 0 where

@@ -9,7 +9,6 @@ ghost use Rattle.tables.specs.Layout.{Sized};
 ghost use Rattle.moves.specs.Halves.{posted, half_states, half_sets, side_words, mark as marked, InHalf, Doubled, Halved, Sided, Tabled, Ready};
 
 use games::{Action, State};
-use walk::Moved;
 
 // The states of a half, their sets, and the words for these.
 const HALF_STATES: u32 = (games::MAX_STATES + 1) / 2;
@@ -29,10 +28,8 @@ fn double(half: &mut [u32], size: usize, w: u32)
     requires { size + size ≤ length half.old }
     ensures { Doubled size w half.old half.new }
 {
-    let mut x: usize = 0;
-    while x < size {
+    for x in 0..size {
         half[size + x] = half[x] | w;
-        x += 1;
     }
 }
 
@@ -41,10 +38,7 @@ fn mark(table: &[u32], a: Action, i: State) -> u32
     requires { Sized table.now × (a.0 < (game table.now).actions) × (i.0 < (game table.now).states) }
     ensures { result ≡ marked (game table.now) a.0 i.0 }
 {
-    match walk::move_from(table, a, i) {
-        Moved::Blocked => BLOCKED,
-        Moved::To(u) => u,
-    }
+    walk::move_from(table, a, i).unwrap_or(BLOCKED)
 }
 
 // What every set of `count` states, from `first` on, leads to under the action.
@@ -54,11 +48,9 @@ fn fill_half(table: &[u32], a: Action, first: u32, count: u32, half: &mut [u32])
 {
     half[0] = 0;
     let mut size: usize = 1;
-    let mut i: u32 = 0;
-    while i < count {
+    for i in 0..count {
         double(half, size, mark(table, a, State(first + i)));
         size = size + size;
-        i += 1;
     }
 }
 
@@ -68,20 +60,17 @@ fn fill_side(table: &[u32], first: u32, count: u32, side: &mut [u32])
         × (first + count ≤ (game table.now).states) × (count ≤ half_states) }
     ensures { Sided (game table.now) first count (game table.now).actions side.new }
 {
-    let actions = tables::actions(table);
-    let mut a: u32 = 0;
-    while a < actions {
+    for a in 0..tables::actions(table) {
         let at = a as usize * HALF_WORDS;
         let end = at + HALF_WORDS;
         fill_half(table, Action(a), first, count, &mut side[at..end]);
-        a += 1;
     }
 }
 
 fn low_states(n: u32) -> u32
     ensures { result ≡ min n half_states }
 {
-    if n < HALF_STATES { n } else { HALF_STATES }
+    n.min(HALF_STATES)
 }
 
 // Room for one of the two tables.
@@ -102,26 +91,23 @@ pub fn fill(table: &[u32], low: &mut [u32], high: &mut [u32])
     fill_side(table, split, n - split, high);
 }
 
-// What a set comes to under an action.
+// An accepted table and the two tables of its moves.
 #[derive(Clone, Copy)]
-pub enum Posted {
-    // the action is not enabled at a member
-    Blocked,
-    // the successors of the whole set
-    Post(u32),
+pub struct Moves<'a> {
+    pub table: &'a [u32],
+    pub low: &'a [u32],
+    pub high: &'a [u32],
+    pub ghost ready: { Ready table.now low.now high.now },
 }
 
-// The set's successors under the action, in two reads.
-pub fn post(table: &[u32], low: &[u32], high: &[u32], s: u32, a: Action) -> Posted
-    requires { Ready table.now low.now high.now
-        × (s < 2 ^ (game table.now).states) × (a.0 < (game table.now).actions) }
-    ensures { result ≡ posted (game table.now) s a.0 }
-{
-    let at = (a.0 * HALF_SETS) as usize;
-    let u = low[at + (s % HALF_SETS) as usize] | high[at + (s / HALF_SETS) as usize];
-    if u < BLOCKED {
-        Posted::Post(u)
-    } else {
-        Posted::Blocked
+impl Moves<'_> {
+    // The set's successors under the action, in two reads; none where the action is not enabled at a member.
+    pub fn post(self, s: u32, a: Action) -> Option<u32>
+        requires { (s < 2 ^ (game self.table.now).states) × (a.0 < (game self.table.now).actions) }
+        ensures { result ≡ posted (game self.entry.table.now) s a.0 }
+    {
+        let at = (a.0 * HALF_SETS) as usize;
+        let u = self.low[at + (s % HALF_SETS) as usize] | self.high[at + (s / HALF_SETS) as usize];
+        if u < BLOCKED { Some(u) } else { None }
     }
 }

@@ -1,12 +1,10 @@
 -- `moves::mark` meets its contract: what the state comes to in the walk, as a word.
-use mathlib.Core.Path.{sym, ap, ◌∙◌}
-use Rattle.moves.specs.Halves.{mark_of, mark}
+use mathlib.Core.Path.{ap, ◌∙◌}
+use Prim.Native.Nat.{ℕ}
+use Rattle.std.specs.Prelude.{Option, unwrap_or}
+use Rattle.moves.specs.Halves.{blocked_mark, mark}
 use Rattle.moves.proofs.mark.Goals as goal
 
-pub returns-in-Blocked : goal.returns-in-Blocked
+pub returns : goal.returns
 unfolding mark
-returns-in-Blocked c = ap mark_of (sym c.in-Blocked.is ∙ c.move_from.ensures)
-
-pub returns-in-To : goal.returns-in-To
-unfolding mark
-returns-in-To c = ap mark_of (sym c.in-To.is ∙ c.move_from.ensures)
+returns c = c.unwrap_or.ensures ∙ ap (λ (o : Option ℕ). unwrap_or o blocked_mark) c.move_from.ensures

@@ -1,0 +1,22 @@
+-- `moves::post` meets its contract: the two entries united are the marked successors of the set, and only a mark is so large.
+use native.Mathlib.Omega.{arith}
+use Rattle.games.specs.Words.{game}
+use Rattle.tables.proofs.Checks.{sized, accepted}
+use Rattle.tables.proofs.Bounds.{few_actions, few_states}
+use Rattle.moves.proofs.Halving.{high_small, posted_open, posted_shut}
+use Rattle.moves.proofs.Moves.post.Goals as goal
+
+pub overflow_mul-at : goal.overflow_mul-at
+overflow_mul-at c = omega (arith, few_actions c.args.self.table.now (sized c.args.self.table.now c.args.self.ready.fine), c.requires.1)
+
+pub bounds-self-at : goal.bounds-self-at
+bounds-self-at c = omega (arith, few_actions c.args.self.table.now (sized c.args.self.table.now c.args.self.ready.fine), c.requires.1, c.args.self.ready.tabled.low_size)
+
+pub bounds-self-at-2 : goal.bounds-self-at-2
+bounds-self-at-2 c = omega (arith, few_actions c.args.self.table.now (sized c.args.self.table.now c.args.self.ready.fine), c.requires.1, c.args.self.ready.tabled.high_size, high_small c.args.self.table.now c.args.self.ready.fine c.args.s c.requires.0)
+
+pub returns-then-u-lt-BLOCKED : goal.returns-then-u-lt-BLOCKED
+returns-then-u-lt-BLOCKED c = posted_open (game c.args.self.table.now) (accepted c.args.self.table.now c.args.self.ready.fine) (few_states c.args.self.table.now (sized c.args.self.table.now c.args.self.ready.fine)) c.args.s c.args.a.0 c.requires.1 _ (c.args.self.ready.tabled.at c.args.a.0 c.args.s c.requires.1 c.requires.0) c.if-u-lt-BLOCKED.true
+
+pub returns-else-u-lt-BLOCKED : goal.returns-else-u-lt-BLOCKED
+returns-else-u-lt-BLOCKED c = posted_shut (game c.args.self.table.now) (accepted c.args.self.table.now c.args.self.ready.fine) (few_states c.args.self.table.now (sized c.args.self.table.now c.args.self.ready.fine)) c.args.s c.args.a.0 c.requires.1 _ (c.args.self.ready.tabled.at c.args.a.0 c.args.s c.requires.1 c.requires.0) c.if-u-lt-BLOCKED.false
