@@ -20,7 +20,7 @@ use Rattle.cards.specs.Checking.{FirstWrong}
 use Rattle.cards.proofs.Checked.{part_in, part_behind, shaped, firsts_in}
 use Rattle.cards.proofs.Passing.{pass_all, row_stop, row_pass, front_wrong, behind_front}
 use Rattle.moves.specs.Halves.{posted}
-use Rattle.moves.specs.declared.Posted.TheVariants.{Blocked, Post}
+use Rattle.std.specs.Prelude.{Some, None}
 use Rattle.moves.proofs.Posting.{posted_blocked, posted_post}
 use Rattle.pairs.specs.Pair.{checked}
 use Rattle.certificates.specs.Certificate.{lies, first_holds, set_fits, cell_holds, next_holds, word_holds, words_certified, certified, Safe}
@@ -67,17 +67,17 @@ module _ (g : Game) (k : List ℕ) (c s : ℕ) (set_is : s ≡ (automaton k).set
     enabled_decides = own_at ∙ rw (fit, action_is)
 
     -- the action is blocked at a member: so does it
-    pub blocked_wrong : posted g s a ≡ Blocked → FirstWrong (part_holds g k c) (part_length o) 0
-    blocked_wrong e = front_wrong (part_holds g k c) (part_length o) (enabled_decides ∙ posted_blocked g s a Blocked (sym e) refl)
+    pub blocked_wrong : posted g s a ≡ None → FirstWrong (part_holds g k c) (part_length o) 0
+    blocked_wrong e = front_wrong (part_holds g k c) (part_length o) (enabled_decides ∙ posted_blocked g s a None (sym e) refl)
 
-    module _ (u : ℕ) (Post-is : posted g s a ≡ Post u) where
+    module _ (u : ℕ) (some : posted g s a ≡ Some u) where
       pub posts : u ≡ post g (A.set c) (A.action c)
-      posts = sym (posted_post g s a (Post u) (sym Post-is) u refl).1 ∙ rw (set_is, action_is)
+      posts = sym (posted_post g s a (Some u) (sym some) u refl).1 ∙ rw (set_is, action_is)
 
       -- else the next words decide
       pub own_right : (r : ℕ) → FirstWrong (next_holds g A c) o r → FirstWrong (part_holds g k c) (part_length o) (1 + r)
       own_right r h =
-          behind_front (part_holds g k c) (next_holds g A c) o r next_at (enabled_decides ∙ (posted_post g s a (Post u) (sym Post-is) u refl).0) h
+          behind_front (part_holds g k c) (next_holds g A c) o r next_at (enabled_decides ∙ (posted_post g s a (Some u) (sym some) u refl).0) h
 
 -- ---- the words in their order
 

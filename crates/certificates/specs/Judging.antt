@@ -1,22 +1,22 @@
 -- What the functions of the judge of cards promise each other.
 -- Assumes nothing.
-use Rattle.std.specs.Prelude.{◌≡◌, Bool, List, ℕ, ◌+◌, ◌<◌, length}
+use Rattle.std.specs.Prelude.{◌≡◌, Bool, List, ℕ, ◌+◌, length, Option, IfSome}
 use Rattle.games.specs.Game.{Game}
 use Rattle.cards.specs.Card.{cell_place, card_observations}
 use Rattle.cards.specs.Checking.{Pass}
-use Rattle.moves.specs.Halves.{Ready}
+use Rattle.moves.specs.declared.Moves.{Moves}
 use Rattle.pairs.specs.Pair.{checked}
 use Rattle.certificates.specs.Certificate.{word_holds}
 use Rattle.std.specs.Prelude.{Ok}
 
 -- where there are half tables, they are those of the table's moves
-abbrev pub Halves : (table low high : List ℕ) → Type 0
-Halves w low high = 0 < length low → Ready w low high
+abbrev pub Halves : (table : List ℕ) → Option Moves → Type 0
+Halves w moves = IfSome moves (λ m. m.table.now ≡ w)
 
 -- a table and a card that go together, and the half tables, if any
-pub record Prepared (table low high card : List ℕ) : Type 0 where
+pub record Prepared (table : List ℕ) (moves : Option Moves) (card : List ℕ) : Type 0 where
   pub fine : checked table card ≡ Ok tt
-  pub halves : Halves table low high
+  pub halves : Halves table moves
 
 -- the words below place p hold
 abbrev pub HoldsBelow : Game → (card : List ℕ) → (p : ℕ) → Type 0

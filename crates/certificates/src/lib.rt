@@ -13,8 +13,7 @@ ghost use Rattle.certificates.specs.Certificate.{lies, first_holds, set_fits, ne
 ghost use Rattle.certificates.specs.Judging.{Halves, Prepared, HoldsBelow, part_holds};
 
 use games::{Action, Cell, Observation, Reason, Refusal};
-use moves::Posted;
-use walk::Walked;
+use moves::Moves;
 
 // From so many cells on the half tables of the moves are filled first: two reads for a cell's set, and no walk over its members.
 const MANY_CELLS: u32 = 48;
@@ -57,17 +56,14 @@ fn set_fits(table: &[u32], s: u32) -> bool
 }
 
 // What a set comes to under an action: by the half tables where there are any, else by one walk over its members.
-fn post(table: &[u32], low: &[u32], high: &[u32], s: u32, a: Action) -> Posted
-    requires { Sized table.now × Halves table.now low.now high.now
+fn post(table: &[u32], moves: Option<Moves>, s: u32, a: Action) -> Option<u32>
+    requires { Sized table.now × Halves table.now moves
         × (s < 2 ^ (game table.now).states) × (a.0 < (game table.now).actions) }
     ensures { result ≡ posted (game table.now) s a.0 }
 {
-    if 0 < low.len() {
-        return moves::post(table, low, high, s, a);
-    }
-    match walk::walk(table, s, a) {
-        Walked::Blocked(_, _) => Posted::Blocked,
-        Walked::Post(u, _) => Posted::Post(u),
+    match moves {
+        Some(halves) => halves.post(s, a),
+        None => walk::walk(table, s, a).post.ok(),
     }
 }
 
@@ -91,8 +87,8 @@ fn nexts_hold(table: &[u32], card: &[u32], cell: Cell, u: u32) -> u32
 }
 
 // How many words of a cell's part hold, its own and then its next words, before one that doesn't.
-fn part_holds(table: &[u32], low: &[u32], high: &[u32], card: &[u32], cell: Cell) -> u32
-    requires { Prepared table.now low.now high.now card.now × (cell.0 < card_cells card.now) }
+fn part_holds(table: &[u32], moves: Option<Moves>, card: &[u32], cell: Cell) -> u32
+    requires { Prepared table.now moves card.now × (cell.0 < card_cells card.now) }
     ensures { FirstWrong (part_holds (game table.now) card.now cell.0)
         (part_length (card_observations card.now)) result }
 {
@@ -100,16 +96,15 @@ fn part_holds(table: &[u32], low: &[u32], high: &[u32], card: &[u32], cell: Cell
     if !set_fits(table, s) {
         return 0;
     }
-    let posted = post(table, low, high, s, cards::cell_action(card, cell));
-    match posted {
-        Posted::Blocked => 0,
-        Posted::Post(u) => 1 + nexts_hold(table, card, cell, u),
+    match post(table, moves, s, cards::cell_action(card, cell)) {
+        None => 0,
+        Some(u) => 1 + nexts_hold(table, card, cell, u),
     }
 }
 
 // The parts of the cells in their order: the lowest word at fault stops the judge.
-fn judge_parts(table: &[u32], low: &[u32], high: &[u32], card: &[u32]) -> Result<(), Refusal>
-    requires { Prepared table.now low.now high.now card.now
+fn judge_parts(table: &[u32], moves: Option<Moves>, card: &[u32]) -> Result<(), Refusal>
+    requires { Prepared table.now moves card.now
         × HoldsBelow (game table.now) card.now (front_length (card_observations card.now)) }
     ensures { result ≡ words_certified (game table.now) card.now }
 {
@@ -117,7 +112,7 @@ fn judge_parts(table: &[u32], low: &[u32], high: &[u32], card: &[u32]) -> Result
     let o = cards::observations(card);
     let mut c: u32 = 0;
     while c < m {
-        let held = part_holds(table, low, high, card, Cell(c)) as usize;
+        let held = part_holds(table, moves, card, Cell(c)) as usize;
         if held < games::part_length(o) {
             return Err(Reason::NotSafe.at(cards::cell_place(o, Cell(c)) + held));
         }
@@ -135,7 +130,12 @@ fn judge_many(table: &[u32], card: &[u32]) -> Result<(), Refusal>
     let mut low = moves::side();
     let mut high = moves::side();
     moves::fill(table, &mut low, &mut high);
-    judge_parts(table, &low, &high, card)
+    let moves = Moves {
+        table,
+        low: &low,
+        high: &high,
+    };
+    judge_parts(table, Some(moves), card)
 }
 
 // Refusal 18: the first words, then the cells' parts.
@@ -148,7 +148,7 @@ fn judge_words(table: &[u32], card: &[u32]) -> Result<(), Refusal>
         return Err(Reason::NotSafe.at(1 + held as usize));
     }
     if cards::cells(card) < MANY_CELLS {
-        return judge_parts(table, &[], &[], card);
+        return judge_parts(table, None, card);
     }
     judge_many(table, card)
 }

@@ -13,8 +13,9 @@ use Rattle.sets.proofs.Bounded.{all_intro, all_more, all_refuted, any_more}
 use Rattle.games.specs.Game.{Game, Accepted}
 use Rattle.games.specs.Step.{safe, enabled_at, post, after, meets, step, good}
 use Rattle.games.proofs.Steps.{step_intro, good_empty}
+use Rattle.std.specs.Prelude.{Ok, Err}
+use Rattle.games.specs.declared.State.{State}
 use Rattle.walk.specs.Walk.{walked}
-use Rattle.walk.specs.declared.Walked.TheVariants.{Blocked, Post}
 use Rattle.walk.proofs.Promise.{post_is, blocked_is}
 
 module _ (g : Game) where
@@ -63,9 +64,9 @@ module _ (g : Game) where
   good_in k u o = good g k (common u (g.shown o))
 
   -- a blocked action does not meet the step
-  pub action_blocked : (F : Family) (s a i c : ℕ) → walked g s a ≡ Blocked (record { 0 = i }) c → false ≡ meets g F s a
+  pub action_blocked : (F : Family) (s a : ℕ) (i : State) → (walked g s a).post ≡ Err i → false ≡ meets g F s a
   unfolding meets
-  action_blocked F s a i c e = sym (and_false_left (all g.observations (λ o. F (after g s a o))) (blocked_is g a s i c e))
+  action_blocked F s a i e = sym (and_false_left (all g.observations (λ o. F (after g s a o))) (blocked_is g a s i e))
 
   -- the other turn, asked of those successors: b is the set that shows the observation, v the successors in it, r the answer
   pub asked : (k u o b v : ℕ) {r x : Bool} → b ≡ g.shown o → v ≡ common u b → r ≡ good g k v → r ≡ x → good_in k u o ≡ x
@@ -76,19 +77,19 @@ module _ (g : Game) where
   observation_good k u o h m = all_more o (good_in k u) ∙ and_intro h m
 
   -- a no settles it
-  pub observation_fails : (k s a u c o : ℕ) → walked g s a ≡ Post u c → o < g.observations → good_in k u o ≡ false → false ≡ meets g (good g k) s a
+  pub observation_fails : (k s a u o : ℕ) → (walked g s a).post ≡ Ok u → o < g.observations → good_in k u o ≡ false → false ≡ meets g (good g k) s a
   unfolding meets after
-  observation_fails k s a u c o e l m =
-      let h : good_in k (post g s a) o ≡ false = subst (λ (v : ℕ). good_in k v o ≡ false) (post_is g a s u c e).1 m in
+  observation_fails k s a u o e l m =
+      let h : good_in k (post g s a) o ≡ false = subst (λ (v : ℕ). good_in k v o ≡ false) (post_is g a s u e).1 m in
       sym (and_false_right (enabled_at g s a) (all_refuted g.observations (good_in k (post g s a)) o l h))
 
   -- where all observations pass, the action meets the step
-  pub all_observations : (k s a u c : ℕ) → walked g s a ≡ Post u c → all g.observations (good_in k u) ≡ true → true ≡ meets g (good g k) s a
+  pub all_observations : (k s a u : ℕ) → (walked g s a).post ≡ Ok u → all g.observations (good_in k u) ≡ true → true ≡ meets g (good g k) s a
   unfolding meets after
-  all_observations k s a u c e h =
-      let w = post_is g a s u c e in
+  all_observations k s a u e h =
+      let w = post_is g a s u e in
       sym (and_intro w.0 (subst (λ (v : ℕ). all g.observations (good_in k v) ≡ true) w.1 h))
 
   -- and with no round after it they all do
-  pub last_round : (k s a u c : ℕ) → walked g s a ≡ Post u c → k ≡ 0 → true ≡ meets g (good g k) s a
-  last_round k s a u c e z = all_observations k s a u c e (all_intro g.observations (good_in k u) (λ o l. sym (no_round k (common u (g.shown o)) z)))
+  pub last_round : (k s a u : ℕ) → (walked g s a).post ≡ Ok u → k ≡ 0 → true ≡ meets g (good g k) s a
+  last_round k s a u e z = all_observations k s a u e (all_intro g.observations (good_in k u) (λ o l. sym (no_round k (common u (g.shown o)) z)))

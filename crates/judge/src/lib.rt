@@ -8,7 +8,6 @@ ghost use Rattle.tables.specs.Check.{checked};
 ghost use Rattle.judge.specs.Judge.{answered, judged};
 
 use games::{Action, Observation, Reason, Refusal};
-use walk::Walked;
 
 // Document 01: k up to 4.
 const MOST_ROUNDS: u32 = 4;
@@ -45,7 +44,7 @@ fn observation_turn(table: &[u32], s: u32, a: Action, k: u32) -> bool
     requires { (checked table.now ≡ Ok tt) × (a.0 < (game table.now).actions) }
     ensures { result ≡ meets (game table.now) (good (game table.now) k) s a.0 }
 {
-    let Walked::Post(u, _) = walk::walk(table, s, a) else {
+    let Ok(u) = walk::walk(table, s, a).post else {
         return false; // blocked at a member
     };
     if k == 0 {

@@ -17,7 +17,8 @@ use Rattle.walk.specs.Promise.{TellsOf}
 use Rattle.walk.specs.Walk.{walked}
 use Rattle.games.specs.declared.State.{State}
 use Rattle.std.specs.Prelude.{Option, Some, None, Result, Ok, Err}
-use Rattle.moves.specs.Halves.{posted, unnamed, AsWalked, shown_in}
+use Rattle.std.specs.Result.{result_ok}
+use Rattle.moves.specs.Halves.{posted, AsWalked, shown_in}
 
 module _ (g : Game) (s a : ℕ) (r : Option ℕ) (is : r ≡ posted g s a) where
   pub posted_blocked : r ≡ None → enabled_at g s a ≡ false
@@ -37,7 +38,7 @@ module _ (g : Game) (s a : ℕ) (r : Option ℕ) (is : r ≡ posted g s a) where
 -- ---- the walk's answer
 
 -- an answer that tells of the set and the action is the one of the half tables
-told_posted : (g : Game) (s a : ℕ) (r : Result ℕ State) (c : ℕ) → TellsOf g s a r c → posted g s a ≡ unnamed r
+told_posted : (g : Game) (s a : ℕ) (r : Result ℕ State) (c : ℕ) → TellsOf g s a r c → posted g s a ≡ result_ok r
 unfolding posted
 told_posted g s a (Ok u) c t = rw (t.enabled_at_is, t.successors)
 told_posted g s a (Err i) c t = rw (stops_not g a s i.0 c t)

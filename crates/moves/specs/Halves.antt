@@ -1,6 +1,7 @@
 -- The successors of every set in two reads: for each action a table for the lower half of the states and one for the upper half.
 -- Assumes nothing.
-use Rattle.std.specs.Prelude.{◌≡◌, Bool, cond, List, ℕ, ◌+◌, ◌*◌, ◌/◌, ◌%◌, ◌^◌, ◌≤◌, ◌<◌, length, get_or, Option, Some, None, Result, Ok, Err, unwrap_or}
+use Rattle.std.specs.Prelude.{◌≡◌, Bool, cond, List, ℕ, ◌+◌, ◌*◌, ◌/◌, ◌%◌, ◌^◌, ◌≤◌, ◌<◌, length, get_or, Option, Some, None, unwrap_or}
+use Rattle.std.specs.Result.{result_ok}
 use Rattle.sets.specs.Mask.{common, union, union_over}
 use Rattle.sets.specs.Bounded.{all}
 use Rattle.sets.specs.Family.{Family}
@@ -10,7 +11,6 @@ use Rattle.games.specs.Step.{enabled_at, post}
 use Rattle.games.specs.Words.{game}
 use Rattle.tables.specs.Check.{checked}
 use Rattle.walk.specs.Walk.{moved, walked}
-use Rattle.games.specs.declared.State.{State}
 use Rattle.walk.specs.declared.Walked.{Walked}
 use Rattle.std.specs.Prelude.{Ok}
 
@@ -19,12 +19,8 @@ unfoldable pub posted : Game → ℕ → ℕ → Option ℕ
 posted g s a = cond (enabled_at g s a) (Some (post g s a)) None
 
 -- the walk's answer without its numbers
-abbrev pub unnamed : Result ℕ State → Option ℕ
-unnamed (Err i) = None
-unnamed (Ok u) = Some u
-
 abbrev pub unnumbered : Walked → Option ℕ
-unnumbered w = unnamed w.post
+unnumbered w = result_ok w.post
 
 -- it is the answer of one walk over the members: two reads of the half tables say what the walk says
 abbrev pub AsWalked : Game → Type 0

@@ -124,14 +124,17 @@ module _ (g : Game) (a : ℕ) where
         not_enabled j t = ⊎_elim (λ e. clash t (true_not e)) (λ (e : enabled g j a ≡ false). e) (decided (enabled g j a))
 
     -- what an answer says of the step
-    pub post_is : (u c : ℕ) → walked g s a ≡ passed u c → (enabled_at g s a ≡ true) × (u ≡ post g s a)
-    post_is u c e = let t = subst (Tells g s a) e told in (t.enabled_at_is, t.successors)
+    pub post_is : (u : ℕ) → (walked g s a).post ≡ Ok u → (enabled_at g s a ≡ true) × (u ≡ post g s a)
+    post_is u e =
+        let t = subst (λ (r : Result ℕ State). TellsOf g s a r (walked g s a).looked) e told in
+        (t.enabled_at_is, t.successors)
 
     pub stops_not : (i c : ℕ) → Stops g s a i c → enabled_at g s a ≡ false
     stops_not i c t = refuted (enabled_at g s a) (λ h. clash (enabled_at_is g s a h i t.state t.inside) t.blocked)
 
-    pub blocked_is : (i c : ℕ) → walked g s a ≡ stopped i c → enabled_at g s a ≡ false
-    blocked_is i c e = stops_not i c (subst (Tells g s a) e told)
+    pub blocked_is : (i : State) → (walked g s a).post ≡ Err i → enabled_at g s a ≡ false
+    blocked_is i e =
+        stops_not i.0 (walked g s a).looked (subst (λ (r : Result ℕ State). TellsOf g s a r (walked g s a).looked) e told)
 
 only_of : (g : Game) (s a : ℕ) (r : Result ℕ State) (c : ℕ) → TellsOf g s a r c → ◌≡◌ {A = Walked} (record { post = r; looked = c }) (walked g s a)
 only_of g s a (Ok u) c t = ap₂ passed t.successors t.looked ∙ sym (walked_passes g a s t.enabled_at_is)

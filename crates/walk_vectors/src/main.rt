@@ -8,7 +8,6 @@ ghost use Rattle.tables.specs.Layout.{Sized};
 
 use games::{Action, Checked};
 use std::io::{self, Read};
-use walk::Walked;
 
 // The most words that are read, and their bytes.
 const INPUT_WORDS: usize = 16384;
@@ -66,9 +65,10 @@ fn print_walk(rt: &impl Print, table: &[u32], s: u32, a: Action) -> io::Result<(
     decimal(rt, a.0 as u64)?;
     say(rt, b" ")?;
     decimal(rt, s as u64)?;
-    match walk::walk(table, s, a) {
-        Walked::Blocked(i, looked) => line(rt, b": blocked ", i.0 as u64, looked as u64),
-        Walked::Post(u, looked) => line(rt, b": post ", u as u64, looked as u64),
+    let walked = walk::walk(table, s, a);
+    match walked.post {
+        Err(i) => line(rt, b": blocked ", i.0 as u64, walked.looked as u64),
+        Ok(u) => line(rt, b": post ", u as u64, walked.looked as u64),
     }
 }
 

@@ -28,7 +28,7 @@ pub judge_parts-requires : goal.judge_parts-requires
 judge_parts-requires c =
     let card_fine : checked c.args.card.now ≡ Ok tt = (paired _ _ c.requires).card_fine in
     let fronts : HoldsBelow (game c.args.table.now) c.args.card.now (front_length (card_observations c.args.card.now)) = firsts_pass _ _ card_fine _ c.firsts_hold-held.ensures (omega (arith, c.if-held-observations.false, c.observations.ensures)) in
-    (record { fine = c.requires; halves = λ l. absurd (omega arith) }, fronts)
+    (record { fine = c.requires; halves = tt }, fronts)
 
 pub judge_many-requires : goal.judge_many-requires
 judge_many-requires c =

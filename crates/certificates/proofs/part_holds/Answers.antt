@@ -27,8 +27,8 @@ cell_action-requires c =
     let pair : Paired c.args.table.now c.args.card.now = paired _ _ c.requires.0.fine in
     (pair.card_fine, c.requires.1)
 
-pub post-posted-requires : goal.post-posted-requires
-post-posted-requires c =
+pub post-requires : goal.post-requires
+post-requires c =
     let pair : Paired c.args.table.now c.args.card.now = paired _ _ c.requires.0.fine in
     let fit : set_fits (game c.args.table.now) c.cell_set-s.result ≡ true = sym c.set_fits.ensures ∙ c.if-not-set_fits.false in (
       sized _ pair.table_fine,
@@ -45,12 +45,12 @@ nexts_hold-requires c =
 pub overflow_add-result : goal.overflow_add-result
 overflow_add-result c = omega (arith, c.nexts_hold.ensures.most)
 
-pub returns-in-Blocked : goal.returns-in-Blocked
-returns-in-Blocked c =
+pub returns-in-None : goal.returns-in-None
+returns-in-None c =
     let fit : set_fits (game c.args.table.now) c.cell_set-s.result ≡ true = sym c.set_fits.ensures ∙ c.if-not-set_fits.false in
     blocked_wrong _ _ _ _ c.cell_set-s.ensures fit _ c.cell_action.ensures (cc)
 
-pub returns-in-Post : goal.returns-in-Post
-returns-in-Post c =
+pub returns-in-Some : goal.returns-in-Some
+returns-in-Some c =
     let fit : set_fits (game c.args.table.now) c.cell_set-s.result ≡ true = sym c.set_fits.ensures ∙ c.if-not-set_fits.false in
-    own_right _ _ _ _ c.cell_set-s.ensures fit _ c.cell_action.ensures c.in-Post.u (cc) _ c.nexts_hold.ensures
+    own_right _ _ _ _ c.cell_set-s.ensures fit _ c.cell_action.ensures c.in-Some.u (cc) _ c.nexts_hold.ensures

@@ -1,5 +1,5 @@
 -- The two turns meet their contracts: each answer of either turn, and each turn of its loop, by the laws of `Turns`.
-use mathlib.Core.Path.{◌≡◌, sym, ◌∙◌}
+use mathlib.Core.Path.{◌≡◌, sym, ap, ◌∙◌}
 use Prim.Native.Nat.{◌-◌}
 use native.Mathlib.Omega.{arith}
 use borrow.Author.Rules.{rules}
@@ -7,6 +7,7 @@ use Rattle.sets.proofs.Bounded.{all_zero, any_zero}
 use Rattle.games.specs.Step.{meets, good}
 use Rattle.games.specs.Words.{game}
 use Rattle.tables.proofs.Checks.{sized, accepted}
+use Rattle.walk.specs.declared.Walked.{Walked}
 use Rattle.judge.proofs.Turns.{no_round, empty_good, bad_member, action_meets, action_fails, no_action, good_in, action_blocked, last_round, asked, observation_good, observation_fails, all_observations}
 use Rattle.judge.proofs.+action_turn_observation_turn.Goals as goal
 
@@ -53,17 +54,17 @@ observation_turn-walk-requires t c = (sized c.args.table.now c.requires.0, c.req
 
 pub observation_turn-returns-in_default : goal.observation_turn-returns-in_default
 observation_turn-returns-in_default t c =
-    action_blocked (game c.args.table.now) (good (game c.args.table.now) c.args.k) c.args.s c.args.a.0 c.in_default.field-0.0 c.in_default.field-1 (sym c.walk.ensures ∙ c.in_default.is)
+    action_blocked (game c.args.table.now) (good (game c.args.table.now) c.args.k) c.args.s c.args.a.0 c.in_default.field-0 (ap (λ (w : Walked). w.post) (sym c.walk.ensures) ∙ c.in_default.is)
 
 pub observation_turn-returns-then-k-eq0 : goal.observation_turn-returns-then-k-eq0
 observation_turn-returns-then-k-eq0 t c =
-    last_round (game c.args.table.now) c.args.k c.args.s c.args.a.0 c.in-Post.u c.in-Post.field-1 (sym c.walk.ensures ∙ c.in-Post.is) c.if-k-eq0.true
+    last_round (game c.args.table.now) c.args.k c.args.s c.args.a.0 c.in-Ok.u (ap (λ (w : Walked). w.post) (sym c.walk.ensures) ∙ c.in-Ok.is) c.if-k-eq0.true
 
 pub observation_turn-observations-end-requires : goal.observation_turn-observations-end-requires
 observation_turn-observations-end-requires t c = sized c.args.table.now c.requires.0
 
 pub observation_turn-loop-o-init : goal.observation_turn-loop-o-init
-observation_turn-loop-o-init t c = (search rules, all_zero (good_in (game c.args.table.now) c.args.k c.in-Post.u))
+observation_turn-loop-o-init t c = (search rules, all_zero (good_in (game c.args.table.now) c.args.k c.in-Ok.u))
 
 pub observation_turn-shown-requires : goal.observation_turn-shown-requires
 observation_turn-shown-requires t c = (sized c.args.table.now c.requires.0, search rules)
@@ -71,13 +72,13 @@ observation_turn-shown-requires t c = (sized c.args.table.now c.requires.0, sear
 pub observation_turn-returns-then-not-action_turn :
     goal.observation_turn-returns-then-not-action_turn
 observation_turn-returns-then-not-action_turn t c =
-    observation_fails (game c.args.table.now) c.args.k c.args.s c.args.a.0 c.in-Post.u c.in-Post.field-1 c.loop-o.o (sym c.walk.ensures ∙ c.in-Post.is) (search rules) (asked (game c.args.table.now) c.args.k c.in-Post.u c.loop-o.o _ _ c.shown.ensures c.common-seen.ensures c.action_turn.ensures c.if-not-action_turn.true)
+    observation_fails (game c.args.table.now) c.args.k c.args.s c.args.a.0 c.in-Ok.u c.loop-o.o (ap (λ (w : Walked). w.post) (sym c.walk.ensures) ∙ c.in-Ok.is) (search rules) (asked (game c.args.table.now) c.args.k c.in-Ok.u c.loop-o.o _ _ c.shown.ensures c.common-seen.ensures c.action_turn.ensures c.if-not-action_turn.true)
 
 pub observation_turn-loop-o-preserved : goal.observation_turn-loop-o-preserved
 observation_turn-loop-o-preserved t c =
-    (search rules, observation_good (game c.args.table.now) c.args.k c.in-Post.u c.loop-o.o c.loop-o.invariant.1 (asked (game c.args.table.now) c.args.k c.in-Post.u c.loop-o.o _ _ c.shown.ensures c.common-seen.ensures c.action_turn.ensures c.if-not-action_turn.false))
+    (search rules, observation_good (game c.args.table.now) c.args.k c.in-Ok.u c.loop-o.o c.loop-o.invariant.1 (asked (game c.args.table.now) c.args.k c.in-Ok.u c.loop-o.o _ _ c.shown.ensures c.common-seen.ensures c.action_turn.ensures c.if-not-action_turn.false))
 
 pub observation_turn-returns : goal.observation_turn-returns
 observation_turn-returns t c =
     let e : c.loop-o.o ≡ (game c.args.table.now).observations = omega arith in
-    all_observations (game c.args.table.now) c.args.k c.args.s c.args.a.0 c.in-Post.u c.in-Post.field-1 (sym c.walk.ensures ∙ c.in-Post.is) (rw e at c.loop-o.invariant.1)
+    all_observations (game c.args.table.now) c.args.k c.args.s c.args.a.0 c.in-Ok.u (ap (λ (w : Walked). w.post) (sym c.walk.ensures) ∙ c.in-Ok.is) (rw e at c.loop-o.invariant.1)
