@@ -19,17 +19,14 @@ use Rattle.fields.specs.RoundTrip.{ReadsBack}
 use Rattle.fields.specs.declared.ReadFields.{ReadFields}
 use Rattle.fields.proofs.RoundTrip.{read_then_write}
 use Rattle.solver.specs.Solve.{Promise}
-use Rattle.solver.specs.declared.Answer.{Answer}
-use Rattle.solver.specs.declared.Answer.TheVariants as answer
+use Rattle.solver.specs.Solve.{Answer}
+use Rattle.solver.specs.declared.Verdict.TheVariants as answer
 use Rattle.trimmer.specs.Trimmer.{Trims}
-use Rattle.trimmer.specs.declared.Answer.{Answer as TrimAnswer}
-use Rattle.trimmer.specs.declared.Answer.TheVariants as trim
+use Rattle.trimmer.specs.Trimmer.{Answer as TrimAnswer}
 use Rattle.kiss_writer.specs.Write.{Writes}
-use Rattle.kiss_writer.specs.declared.Answer.{Answer as WriteAnswer}
-use Rattle.kiss_writer.specs.declared.Answer.TheVariants as write
+use Rattle.kiss_writer.specs.Write.{Answer as WriteAnswer}
 use Rattle.kiss_reader.specs.Read.{Reads}
-use Rattle.kiss_reader.specs.declared.Answer.{Answer as ReadAnswer}
-use Rattle.kiss_reader.specs.declared.Answer.TheVariants as read
+use Rattle.kiss_reader.specs.Read.{Answer as ReadAnswer}
 use Rattle.answers.specs.Words.{done, check_words, solve_words, written_words, trim_words, text_words, read_words}
 use Rattle.abi.specs.Calls.{told, rewritten, ComesBack, card_told, ReadsAs}
 use Rattle.games.specs.declared.Reason.{Reason}

@@ -15,13 +15,13 @@ ghost use Rattle.runner.specs.Runs.{standing, ran_into};
 ghost use Rattle.show.specs.Show.{found};
 ghost use Rattle.certificates.specs.Certificate.{certified, Safe};
 ghost use Rattle.solver.specs.Solve.{buffers, solved, Promise};
-ghost use Rattle.solver.specs.declared.Answer.{Answer};
+ghost use Rattle.solver.specs.Solve.{Answer};
 ghost use Rattle.trimmer.specs.Trimmer.{buffers as rooms, trimmed_into, Trims};
-ghost use Rattle.trimmer.specs.declared.Answer.{Answer as TrimAnswer};
+ghost use Rattle.trimmer.specs.Trimmer.{Answer as TrimAnswer};
 ghost use Rattle.kiss_writer.specs.Write.{written_to, Writes};
-ghost use Rattle.kiss_writer.specs.declared.Answer.{Answer as WriteAnswer};
+ghost use Rattle.kiss_writer.specs.Write.{Answer as WriteAnswer};
 ghost use Rattle.kiss_reader.specs.Read.{read_into, Reads};
-ghost use Rattle.kiss_reader.specs.declared.Answer.{Answer as ReadAnswer};
+ghost use Rattle.kiss_reader.specs.Read.{Answer as ReadAnswer};
 ghost use Rattle.answers.specs.Words.{done, check_words, solve_words, judge_words, written_words, move_words, ran_words, show_words, trim_words, text_words, read_words};
 ghost use Rattle.abi.specs.Calls.{told, rewritten, ComesBack, card_told, given, ReadsAs};
 

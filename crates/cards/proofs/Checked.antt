@@ -19,7 +19,7 @@ use Rattle.cards.proofs.Spots.{spot_head, spot_first, spot_cell, spot_next}
 use Rattle.cards.proofs.Passing.{pass_stop, pass_all, pass_on, row_stop, row_pass}
 use Rattle.cards.specs.Checking.{Shaped, FitsBelow, names, RightNames}
 use Rattle.games.specs.declared.Reason.TheVariants as reason
-use Rattle.std.specs.Prelude.{Ok, Err}
+use Rattle.std.specs.Prelude.{Ok}
 
 -- the word at a place, by what stands there
 at_spot : (w : List ℕ) (p : ℕ) (x : Spot) → spot_at (card_observations w) p ≡ x → word_fits w p ≡ fits_at w x (get_or w p 0)

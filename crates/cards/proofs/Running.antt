@@ -5,13 +5,12 @@ use borrow.Author.Tests.{lt-leb}
 use Rattle.games.specs.Automaton.{Automaton, no_cell}
 use Rattle.games.specs.Fields.{low_field, action_field}
 use Rattle.games.specs.Answers.{refused}
-use Rattle.cards.specs.declared.Move.TheVariants.{Refused}
 use Rattle.cards.specs.Card.{first_place, cell_place, next_place, card_cells, card_observations, automaton, checked, Named}
 use Rattle.cards.specs.Run.{entered, enters, begun, followed, opened, stepped}
 use Rattle.cards.proofs.Checked.{fitting, cell_in, next_in}
 use Rattle.games.specs.declared.Reason.{Reason}
 use Rattle.games.specs.declared.Reason.TheVariants as reason
-use Rattle.std.specs.Prelude.{Ok, Err}
+use Rattle.std.specs.Prelude.{Ok}
 
 -- the fields of a card's automaton
 module _ (w : List ℕ) where

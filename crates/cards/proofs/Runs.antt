@@ -9,9 +9,7 @@ use Rattle.games.specs.Play.{Play, begin, more as longer, PlayOf, seen}
 use Rattle.games.specs.Automaton.{Automaton, no_cell, next_cell, cell_from, cell_after, action_after}
 use Rattle.games.specs.Demands.{UnderCard, Second}
 use Rattle.games.proofs.Winning.{next_cell_lem, Covers, covering_wins}
-use Rattle.games.specs.declared.Action.{Action}
-use Rattle.cards.specs.declared.Move.{Move}
-use Rattle.cards.specs.declared.Move.TheVariants.{Refused}
+use Rattle.cards.specs.Run.{Move}
 use Rattle.cards.specs.Card.{card_observations, automaton, checked, Fitting, Named}
 use Rattle.cards.specs.Kept.{Kept}
 use Rattle.cards.specs.Run.{as_cell, entered, enters, opened, stepped, cell_or, moved, ran_from, ran}
@@ -20,7 +18,7 @@ use Rattle.cards.proofs.Running.{named_cell, cannot_occur, enters_cell, begun_la
 use Rattle.games.specs.declared.Reason.{Reason}
 use Rattle.games.specs.declared.Reason.TheVariants as reason
 use Rattle.games.specs.Answers.{refused}
-use Rattle.std.specs.Prelude.{Ok}
+use Rattle.std.specs.Prelude.{Ok, Err}
 
 -- ---- one observation more
 
@@ -156,11 +154,16 @@ ran_none w e = no_cell_refused w 0 e
 pub not_entered : {X : Type 0} (n : Reason) (p c a : ℕ) → refused n p ≡ entered c a → X
 not_entered n p c a e = let z : ◌≡◌ {A = ℕ} 0 1 = cc in absurd (omega arith)
 
+-- the action of a move that enters a cell
+action_or : Move → ℕ
+action_or (Ok m) = m.action.0
+action_or (Err e) = 0
+
 -- the same move, the same cell and action
 pub same_entered : (c a d b : ℕ) → entered c a ≡ entered d b → (c ≡ d) × (a ≡ b)
+unfolding action_or
 same_entered c a d b e =
-    let action : ◌≡◌ {A = Action} (record { 0 = a }) (record { 0 = b }) = cc in
-    (ap (λ (m : Move). (cell_or m (as_cell 0)).0) e, ap (λ (x : Action). x.0) action)
+    (ap (λ (m : Move). (cell_or m (as_cell 0)).0) e, ap action_or e)
 
 module _ (w : List ℕ) (e : checked w ≡ Ok tt) (c a : ℕ) where
   abbrev A : Automaton
@@ -182,7 +185,7 @@ module _ (w : List ℕ) (e : checked w ≡ Ok tt) (c a : ℕ) where
   from_named : (h : List ℕ) (x j : ℕ) (r : Move) → r ≡ enters A x j → ((b : ℕ) → ran_from w (entered x b) h ≡ entered c a → cell_from A x h ≡ c)
       → ran_from w r h ≡ entered c a → cell_from A x h ≡ c
   from_named h x j r f go run =
-      ⊎_elim (λ z. no_way h r 14 j (f ∙ cannot_occur A o x j (eqb-true x no_cell z)) run)
+      ⊎_elim (λ z. no_way h r reason.CannotOccur j (f ∙ cannot_occur A o x j (eqb-true x no_cell z)) run)
       (λ z. go (A.action x) (sym (ap (λ (m : Move). ran_from w m h) (f ∙ enters_cell A o x j (eqb-false x no_cell z))) ∙ run))
       (decided (eqb x no_cell))
 
@@ -195,18 +198,18 @@ module _ (w : List ℕ) (e : checked w ≡ Ok tt) (c a : ℕ) where
       (λ l. ⊎_elim
       (λ k. ap (λ (x : ℕ). cell_from A x h) (next_cell_lem A d j l)
       ∙ from_named h (A.next d j) j (stepped w d j) (step ∙ followed_enters A o d j l k) (from_cell h (A.next d j)) run)
-      (λ k. no_way h (stepped w d j) 12 j (step ∙ followed_late A o d j l k) run)
+      (λ k. no_way h (stepped w d j) reason.NumberBeyond j (step ∙ followed_late A o d j l k) run)
       (lt_or_le j o))
-      (λ l. no_way h (stepped w d j) 12 d (step ∙ followed_outside A o d j l) run)
+      (λ l. no_way h (stepped w d j) reason.NumberBeyond d (step ∙ followed_outside A o d j l) run)
       (lt_or_le d A.size)
 
   pub ran_cell : (h : List ℕ) → ran w h ≡ entered c a → cell_after A h ≡ c
   unfolding ran cell_after
-  ran_cell [] run = not_entered 12 no_cell c a (sym (ran_none w e) ∙ run)
+  ran_cell [] run = not_entered reason.NumberBeyond no_cell c a (sym (ran_none w e) ∙ run)
   ran_cell (j ∷ h) run =
       let open-with = opened_fine w j e in
       ⊎_elim (λ l. from_named h (A.begins j) j (opened w j) (open-with ∙ begun_enters A o j l) (from_cell h (A.begins j)) run)
-      (λ l. no_way h (opened w j) 12 j (open-with ∙ begun_late A o j l) run)
+      (λ l. no_way h (opened w j) reason.NumberBeyond j (open-with ∙ begun_late A o j l) run)
       (lt_or_le j o)
 
 -- ---- whoever drew it

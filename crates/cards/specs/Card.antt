@@ -9,7 +9,7 @@ use Rattle.games.specs.Words.{front_length, part_length, card_length, card_head}
 use Rattle.games.specs.Answers.{Checked}
 use Rattle.games.specs.Answers.{refused}
 use Rattle.games.specs.declared.Reason.TheVariants as reason
-use Rattle.std.specs.Prelude.{Ok, Err}
+use Rattle.std.specs.Prelude.{Ok}
 
 -- the places of a card's words, for o observations: the head; the first cell by observation; a cell's part; its next cell by observation
 abbrev pub head_place : ℕ

@@ -317,6 +317,7 @@ pub fn follow(card: &[u32], cell: Cell, seen: Observation) -> Move
 }
 
 // Document 01's opening of a card with the first observation.
+#[tactic(auto, unfolding(crate::specs::Run::opened))]
 pub fn begin(card: &[u32], seen: Observation) -> Move
     ensures { result ≡ opened card.now seen.0 }
 {
@@ -325,6 +326,7 @@ pub fn begin(card: &[u32], seen: Observation) -> Move
 }
 
 // A later observation in a cell.
+#[tactic(auto, unfolding(crate::specs::Run::stepped))]
 pub fn step(card: &[u32], cell: Cell, seen: Observation) -> Move
     ensures { result ≡ stepped card.now cell.0 seen.0 }
 {

@@ -16,7 +16,7 @@ use Rattle.trimming.specs.Trim.{trimmed}
 use Rattle.trimming.proofs.Plays.{trimmed_kept}
 use Rattle.trimming.proofs.Certified.{trimmed_certified}
 use Rattle.solver.specs.Solve.{buffers, solved, written, Promise}
-use Rattle.solver.specs.declared.Answer.{Answer}
+use Rattle.solver.specs.Solve.{Answer}
 use Rattle.solver.proofs.Promises.{card_fits, promised, yes_given}
 use Rattle.control.specs.Control.{Controlled, Certified, TrimmedSafe, TrimmedCertified}
 use Rattle.std.specs.Prelude.{Ok}

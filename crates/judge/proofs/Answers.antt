@@ -12,7 +12,6 @@ use Rattle.games.specs.Words.{game}
 use Rattle.tables.specs.Check.{too_wide, checked}
 use Rattle.games.specs.Answers.{refused}
 use Rattle.judge.specs.Judge.{most_rounds, answered, judged}
-use Rattle.judge.specs.declared.Judged.TheVariants.{Good, NotGood, Refused}
 use Rattle.games.specs.declared.Reason.{Reason}
 use Rattle.games.specs.declared.Reason.TheVariants as reason
 use Rattle.std.specs.Prelude.{Ok, Err}

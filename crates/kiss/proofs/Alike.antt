@@ -13,8 +13,7 @@ use Rattle.sets.proofs.Logic.{lt_or_le, or_left, or_right, true_not}
 use Rattle.sets.proofs.Bounded.{any_intro, first_nothing, first_none}
 use Rattle.games.specs.Format.{max_sets}
 use Rattle.games.specs.Automaton.{Automaton, no_cell}
-use Rattle.cards.specs.declared.Move.{Move}
-use Rattle.cards.specs.declared.Move.TheVariants.{Entered, Refused}
+use Rattle.cards.specs.Run.{Move}
 use Rattle.cards.specs.Card.{automaton, card_cells, card_actions, card_observations, checked, Named, Fitting}
 use Rattle.cards.specs.Run.{enters, begun, followed, opened, stepped, moved, ran_from, ran}
 use Rattle.cards.proofs.Checked.{fitting}

@@ -12,8 +12,7 @@ use Rattle.sets.specs.Bounded.{found}
 use Rattle.sets.proofs.Logic.{lt_or_le, clash}
 use Rattle.sets.proofs.Bounded.{first_found}
 use Rattle.games.specs.Automaton.{Automaton, no_cell}
-use Rattle.cards.specs.declared.Move.{Move}
-use Rattle.cards.specs.declared.Move.TheVariants.{Entered, Refused}
+use Rattle.cards.specs.Run.{Move}
 use Rattle.cards.specs.Card.{automaton, card_cells, card_observations, checked, Named}
 use Rattle.cards.specs.Run.{entered, enters, begun, followed, opened, stepped, moved, ran_from, ran}
 use Rattle.cards.proofs.Checked.{fitting}

@@ -20,8 +20,7 @@ use Rattle.form.specs.declared.Cursor.{Cursor}
 use Rattle.form.proofs.Steps.{run_ok, run_stopped}
 use Rattle.kiss.specs.Profile.{blank, lines, profile, reading}
 use Rattle.kiss.specs.Idle.{idle}
-use Rattle.kiss_reader.specs.declared.Answer.{Answer}
-use Rattle.kiss_reader.specs.declared.Answer.TheVariants.{Read, Refused}
+use Rattle.kiss_reader.specs.Read.{Answer}
 use Rattle.kiss_reader.specs.declared.Head.{Head}
 use Rattle.kiss_reader.specs.declared.Sizes.{Sizes}
 use Rattle.kiss_reader.specs.declared.Carded.{Carded}

@@ -20,8 +20,7 @@ use Rattle.kiss.proofs.Leading.{lowest_idle}
 use Rattle.kiss.proofs.Final.{written_read}
 use Rattle.kiss.proofs.Promised.{of_text}
 use Rattle.kiss_reader.specs.Read.{by_room, of_card, told, read_into, Reads}
-use Rattle.kiss_reader.specs.declared.Answer.{Answer}
-use Rattle.kiss_reader.specs.declared.Answer.TheVariants.{Read, Refused}
+use Rattle.kiss_reader.specs.Read.{Answer}
 use Rattle.games.specs.declared.Reason.{Reason}
 use Rattle.games.specs.declared.Reason.TheVariants as reason
 use Rattle.games.specs.Answers.{refused}

@@ -15,8 +15,7 @@ use Rattle.kiss.specs.Text.{kiss_text}
 use Rattle.kiss.specs.Idle.{idle}
 use Rattle.kiss.proofs.Idling.{idle_found, idle_nothing}
 use Rattle.kiss_writer.specs.Write.{by_room, written_to}
-use Rattle.kiss_writer.specs.declared.Answer.{Answer}
-use Rattle.kiss_writer.specs.declared.Answer.TheVariants.{Written, Refused}
+use Rattle.kiss_writer.specs.Write.{Answer}
 use Rattle.games.specs.declared.Reason.{Reason}
 use Rattle.games.specs.declared.Reason.TheVariants as reason
 use Rattle.std.specs.Prelude.{Ok, Err}

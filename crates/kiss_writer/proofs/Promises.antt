@@ -19,8 +19,7 @@ use Rattle.kiss.specs.Idle.{idle, LowestIdle}
 use Rattle.kiss.proofs.Leading.{lowest_idle}
 use Rattle.kiss.proofs.Promised.{reads_back}
 use Rattle.kiss_writer.specs.Write.{by_room, written_to, Writes}
-use Rattle.kiss_writer.specs.declared.Answer.{Answer}
-use Rattle.kiss_writer.specs.declared.Answer.TheVariants.{Written, Refused}
+use Rattle.kiss_writer.specs.Write.{Answer}
 use Rattle.games.specs.declared.Reason.{Reason}
 use Rattle.games.specs.declared.Reason.TheVariants as reason
 use Rattle.std.specs.Prelude.{Ok, Err}

@@ -5,7 +5,7 @@ use mathlib.Core.List.{[], ◌++◌}
 use Rattle.sets.specs.Bounded.{gather}
 use Rattle.games.specs.Stations.{card_a, card_c}
 use Rattle.cards.specs.Card.{automaton}
-use Rattle.solver.specs.declared.Answer.TheVariants.{Yes, No, Refused}
+use Rattle.solver.specs.declared.Verdict.TheVariants.{Yes as SaysYes, No as SaysNo}
 use Rattle.text.specs.Text.{bytes}
 use Rattle.text.specs.Decimal.{last_digits, decimal}
 use Rattle.printout.specs.Lines.{field, cell_text, cell_field, yes_line, first_line, cell_line, next_line, no_line, refused_line}

@@ -16,12 +16,11 @@ use Rattle.games.proofs.Plays.{rounds_from_one, rounds_seen, some_seen}
 use Rattle.cards.specs.Card.{automaton, checked}
 use Rattle.cards.specs.Run.{entered, moved, ran, as_observation, advances}
 use Rattle.cards.specs.Kept.{Kept}
-use Rattle.cards.specs.declared.Move.{Move}
+use Rattle.cards.specs.Run.{Move}
 use Rattle.cards.specs.declared.Stood.{Stood}
 use Rattle.cards.proofs.Runs.{moved_entered, ran_one, ran_more}
 use Rattle.runner.specs.Runs.{ran_into}
 use Rattle.runner.specs.Control.{cell, action, Enters, Controls}
-use Rattle.runner.specs.declared.Ran.TheVariants.{Done}
 use Rattle.runner.proofs.Plays.{standing_one, standing_more, runner_goes, run_goes}
 use Rattle.std.specs.Prelude.{Ok}
 

@@ -14,15 +14,13 @@ use Rattle.games.specs.Answers.{Leaves, leaves}
 use Rattle.games.specs.declared.Cell.{Cell}
 use Rattle.games.specs.declared.Action.{Action}
 use Rattle.sets.proofs.Fills.{filled_none, filled_more, length_filled}
-use Rattle.cards.specs.declared.Move.{Move}
-use Rattle.cards.specs.declared.Move.TheVariants.{Entered, Refused}
+use Rattle.cards.specs.Run.{Move}
 use Rattle.games.specs.Answers.{refused}
 use Rattle.cards.specs.Card.{automaton, card_observations, checked}
 use Rattle.cards.specs.Run.{entered, begun, followed, opened, stepped, moved, ran}
 use Rattle.cards.proofs.Running.{opened_fine, stepped_fine}
 use Rattle.cards.proofs.Runs.{moved_entered, ran_take_one, ran_take_more}
-use Rattle.runner.specs.declared.Ran.{Ran}
-use Rattle.runner.specs.declared.Ran.TheVariants.{Done, Refused as Stopped}
+use Rattle.runner.specs.Runs.{Ran}
 use Rattle.runner.specs.Runs.{move_at, move_on, action_of, further, ran_up_to, with_actions, Writable, written, writes, ran_into}
 use Rattle.games.specs.declared.Reason.{Reason}
 use Rattle.games.specs.declared.Reason.TheVariants as reason

@@ -20,10 +20,9 @@ use Rattle.sets.proofs.Fills.{filled_ext}
 use Rattle.games.specs.Answers.{leaves}
 use Rattle.cards.specs.Card.{checked}
 use Rattle.cards.specs.Run.{entered, opened, stepped, moved, ran, as_cell, as_observation, stands, starts, advances}
-use Rattle.cards.specs.declared.Move.{Move}
+use Rattle.cards.specs.Run.{Move}
 use Rattle.cards.specs.declared.Stood.{Stood}
 use Rattle.cards.proofs.Runs.{moved_entered, ran_one, ran_more}
-use Rattle.runner.specs.declared.Ran.TheVariants.{Done}
 use Rattle.runner.specs.Runs.{standing_from, standing, move_at, action_of, further, ran_up_to, with_actions, ran_into}
 use Rattle.runner.proofs.Laws.{run_done, into_fine}
 use Rattle.std.specs.Prelude.{Ok}

@@ -10,10 +10,8 @@ use Rattle.games.specs.Stations.{card_a, card_c}
 use Rattle.cards.specs.Card.{automaton, head_fits, cell_named, cell_fits, part_spot, spot_at, word_fits, words_checked, checked}
 use Rattle.cards.specs.Run.{entered, enters, begun, followed, opened, stepped, moved, ran_from, ran, as_cell, stands}
 use Rattle.cards.specs.declared.Stood.{Stood}
-use Rattle.cards.specs.declared.Move.{Move}
-use Rattle.cards.specs.declared.Move.TheVariants.{Refused}
-use Rattle.runner.specs.declared.Ran.{Ran}
-use Rattle.runner.specs.declared.Ran.TheVariants.{Done, Refused as Stopped}
+use Rattle.cards.specs.Run.{Move}
+use Rattle.runner.specs.Runs.{Ran}
 use Rattle.runner.specs.Runs.{standing_from, standing, ran_up_to, writes, ran_into}
 use Rattle.games.specs.declared.Reason.TheVariants as reason
 use Rattle.games.specs.Answers.{refused}

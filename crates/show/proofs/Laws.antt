@@ -22,8 +22,7 @@ use Rattle.cards.proofs.Running.{size_of}
 use Rattle.pairs.specs.Pair.{checked}
 use Rattle.pairs.proofs.Pairing.{paired}
 use Rattle.show.specs.Show.{located, found, handed, part_of}
-use Rattle.show.specs.declared.Shown.{Shown}
-use Rattle.show.specs.declared.Shown.TheVariants.{Part, Refused}
+use Rattle.show.specs.Show.{Shown}
 use Rattle.games.specs.declared.Reason.{Reason}
 use Rattle.games.specs.declared.Reason.TheVariants as reason
 use Rattle.std.specs.Prelude.{Ok, Err}

@@ -14,8 +14,7 @@ use Rattle.tables.specs.Check.{limits_hold, head_right, size_checked, placed, fa
 use Rattle.cards.specs.Card.{automaton, head_fits, cell_named, cell_fits, part_spot, spot_at, word_fits, words_checked, checked}
 use Rattle.pairs.specs.Pair.{agree, checked as pair_checked}
 use Rattle.show.specs.Show.{located, found, handed, part_of}
-use Rattle.show.specs.declared.Shown.{Shown}
-use Rattle.show.specs.declared.Shown.TheVariants.{Part, Refused}
+use Rattle.show.specs.Show.{Shown}
 use Rattle.games.specs.declared.Reason.TheVariants as reason
 use Rattle.games.specs.Answers.{refused}
 

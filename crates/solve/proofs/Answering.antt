@@ -15,8 +15,8 @@ use Rattle.games.specs.Answers.{Leaves, leaves}
 use Rattle.games.specs.Format.{max_observations, low_values, number_values}
 use Rattle.games.specs.Words.{part_length, card_length}
 use Rattle.solver.specs.Solve.{Buffers, buffers, solved, written}
-use Rattle.solver.specs.declared.Answer.{Answer}
-use Rattle.solver.specs.declared.Answer.TheVariants.{Yes, No, Refused}
+use Rattle.solver.specs.Solve.{Answer}
+use Rattle.solver.specs.declared.Verdict.TheVariants.{Yes as SaysYes, No as SaysNo}
 use Rattle.text.specs.Text.{Wrote}
 use Rattle.printout.specs.Lines.{yes_line, card_text, no_line, refused_line, answer_text, unread_line}
 use Rattle.solve.specs.Bytes.{words_of}

@@ -20,8 +20,8 @@ use Rattle.games.specs.Answers.{refused}
 use Rattle.games.proofs.Decided.{verdict_yes}
 use Rattle.tables.specs.Check.{checked}
 use Rattle.solver.specs.Solve.{work_words, by_verdict, Buffers, buffers, searched, solved, WorkEnough}
-use Rattle.solver.specs.declared.Answer.{Answer}
-use Rattle.solver.specs.declared.Answer.TheVariants.{Yes as SaysYes, No as SaysNo, Refused}
+use Rattle.solver.specs.Solve.{Answer}
+use Rattle.solver.specs.declared.Verdict.TheVariants.{Yes as SaysYes, No as SaysNo}
 use Rattle.games.specs.declared.Reason.{Reason}
 use Rattle.games.specs.declared.Reason.TheVariants as reason
 use Rattle.std.specs.Prelude.{Ok, Err}

@@ -34,8 +34,8 @@ use Rattle.cards.proofs.Written.{Agree, card_long, written_checked, written_agre
 use Rattle.cards.specs.Kept.{Kept}
 use Rattle.cards.proofs.Runs.{covering_kept}
 use Rattle.solver.specs.Solve.{buffers, solved, WorkEnough, written, Promise}
-use Rattle.solver.specs.declared.Answer.{Answer}
-use Rattle.solver.specs.declared.Answer.TheVariants.{Yes as SaysYes, No as SaysNo, Refused}
+use Rattle.solver.specs.Solve.{Answer}
+use Rattle.solver.specs.declared.Verdict.TheVariants.{Yes as SaysYes, No as SaysNo}
 use Rattle.index.proofs.Settled.{cells_few}
 use Rattle.solver.proofs.Answers.{Ending, stopped, no_work, lost, no_card, granted, ends}
 use Rattle.games.specs.declared.Reason.{Reason}

@@ -18,8 +18,7 @@ use Rattle.cards.specs.Card.{card_cells, checked}
 use Rattle.trimming.specs.Trim.{trimmed}
 use Rattle.trimming.proofs.Promised.{promised as promised-of}
 use Rattle.trimmer.specs.Trimmer.{kept_cells, by_room, buffers, with_work, trimmed_into, Trims}
-use Rattle.trimmer.specs.declared.Answer.{Answer}
-use Rattle.trimmer.specs.declared.Answer.TheVariants.{Trimmed, Refused}
+use Rattle.trimmer.specs.Trimmer.{Answer}
 use Rattle.games.specs.declared.Reason.{Reason}
 use Rattle.games.specs.declared.Reason.TheVariants as reason
 use Rattle.std.specs.Prelude.{Ok, Err}

@@ -9,8 +9,7 @@ use Prim.Native.Nat.{ℕ, ◌<◌}
 use native.Mathlib.Omega.{arith}
 use Rattle.sets.proofs.Logic.{lt_or_le}
 use Rattle.games.specs.Automaton.{Automaton, no_cell}
-use Rattle.cards.specs.declared.Move.{Move}
-use Rattle.cards.specs.declared.Move.TheVariants.{Refused}
+use Rattle.cards.specs.Run.{Move}
 use Rattle.cards.specs.Card.{card_observations, automaton, checked, Named}
 use Rattle.cards.specs.Run.{entered, enters, begun, followed, opened, stepped, moved, ran_from, ran}
 use Rattle.cards.proofs.Checked.{fitting}

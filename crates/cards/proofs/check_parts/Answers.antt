@@ -79,8 +79,8 @@ right_nexts-named-requires c =
     c.cell_place-at.result + part_length (card_observations w) ≤ length w = part_in _ c.requires.0 _ _ there place in
     (c.requires.0, omega (arith, seen), omega (arith, inside, seen))
 
-pub overflow_add-result : goal.overflow_add-result
-overflow_add-result c =
+pub overflow_add-at-then-named-o : goal.overflow_add-at-then-named-o
+overflow_add-at-then-named-o c =
     let words : List ℕ = c.args.card.now in
     let seen : c.number_field-o.result ≡ card_observations words = c.number_field-o.ensures in
     let there : c.loop-c.c < card_cells words = omega (arith, c.loop-c-test.true, c.low_field-m.ensures) in
@@ -89,8 +89,8 @@ overflow_add-result c =
     c.cell_place-at.result + part_length (card_observations w) ≤ length w = part_in _ c.requires.0 _ _ there place in
     omega (arith, inside)
 
-pub overflow_add-result-then-named-o : goal.overflow_add-result-then-named-o
-overflow_add-result-then-named-o c =
+pub overflow_add-at-then-named-o-2 : goal.overflow_add-at-then-named-o-2
+overflow_add-at-then-named-o-2 c =
     let words : List ℕ = c.args.card.now in
     let seen : c.number_field-o.result ≡ card_observations words = c.number_field-o.ensures in
     let there : c.loop-c.c < card_cells words = omega (arith, c.loop-c-test.true, c.low_field-m.ensures) in

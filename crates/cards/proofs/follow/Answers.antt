@@ -4,10 +4,14 @@ use Rattle.cards.proofs.Running.{outside_told, late_told, next_named_at, followe
 use Rattle.cards.proofs.follow.Goals as goal
 
 pub returns-then-cells-cell : goal.returns-then-cells-cell
-returns-then-cells-cell c = outside_told _ _ _ (omega arith)
+returns-then-cells-cell c =
+    rw c.at.ensures
+    (outside_told _ _ _ (omega arith))
 
 pub returns-then-observations-seen : goal.returns-then-observations-seen
-returns-then-observations-seen c = late_told _ _ _ (omega arith) (omega arith)
+returns-then-observations-seen c =
+    rw c.at-then-observations-seen.ensures
+    (late_told _ _ _ (omega arith) (omega arith))
 
 pub enter-requires : goal.enter-requires
 enter-requires c = (c.requires, next_named_at _ c.requires _ _ _ (omega arith) (omega arith) c.next_cell.ensures)

@@ -1,6 +1,6 @@
 -- The step's answer, and the cell that it leads to.
 use Rattle.std.proofs.Common.{ap, ◌∙◌}
-use Rattle.cards.specs.declared.Move.{Move}
+use Rattle.cards.specs.Run.{Move}
 use Rattle.cards.specs.Run.{stands_after}
 use Rattle.cards.proofs.moving.Goals as goal
 

@@ -1,7 +1,7 @@
 -- The opening's answer, and the cell that it leads to.
 use Rattle.std.proofs.Common.{ap, ◌∙◌}
 use Rattle.games.specs.Automaton.{no_cell}
-use Rattle.cards.specs.declared.Move.{Move}
+use Rattle.cards.specs.Run.{Move}
 use Rattle.cards.specs.Run.{as_cell, stands_after}
 use Rattle.cards.proofs.opening.Goals as goal
 

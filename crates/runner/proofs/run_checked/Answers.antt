@@ -1,7 +1,6 @@
 -- A refusal on the way stands; else 15 where the buffer is short; else the second pass writes what the first has seen.
 use mathlib.Core.Path.{◌≡◌, sym, ◌∙◌}
 use lib.ListN.{length}
-use Rattle.runner.specs.declared.Ran.TheVariants.{Done}
 use Rattle.runner.specs.Runs.{ran_up_to}
 use Rattle.runner.proofs.Laws.{run_refused, run_short, run_done, writable}
 use Rattle.runner.proofs.run_checked.Goals as goal
