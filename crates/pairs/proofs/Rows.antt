@@ -16,7 +16,7 @@ use Rattle.tables.specs.Check.{limits_hold, head_right, size_checked, placed, fa
 use Rattle.cards.specs.Card.{head_fits, cell_named, cell_fits, part_spot, spot_at, word_fits, words_checked, checked as card_checked}
 use Rattle.pairs.specs.Pair.{agree, checked}
 use Rattle.games.specs.declared.Reason.TheVariants as reason
-use Rattle.std.specs.Prelude.{Ok, Err}
+use Rattle.std.specs.Prelude.{Ok}
 
 abbrev pub Row : Type 0
 Row = record { table : List ℕ; card : List ℕ; answer : Checked }

@@ -18,6 +18,7 @@ fn numbers_agree(table: &[u32], card: &[u32]) -> bool
 }
 
 // The table checks, 13, and 16 where the two don't go together.
+#[tactic(auto, unfolding(crate::specs::Pair::checked))]
 pub fn check(table: &[u32], card: &[u32]) -> Result<(), Refusal>
     ensures { result ≡ checked table.now card.now }
 {
