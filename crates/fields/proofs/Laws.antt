@@ -13,7 +13,7 @@ use lib.Pow.{pow_mono}
 use Rattle.sets.specs.Bounded.{all, first, nothing, filled_by}
 use Rattle.sets.proofs.Logic.{and_intro, and_false_right}
 use Rattle.sets.proofs.Bounded.{all_refuted, first_zero, first_skip, first_stop, first_nothing}
-use Rattle.games.specs.Answers.{unless, leaves}
+use Rattle.games.specs.Answers.{Checked, unless, leaves}
 use Rattle.games.specs.Format.{max_states, max_observations, max_moves}
 use Rattle.games.specs.Fields.{low_field}
 use Rattle.games.specs.Places.{move, place_of, place_at, Within, Limited}
@@ -32,20 +32,25 @@ use Rattle.tables.specs.Fields.{fields_shape, fields_of, field_at, game_of}
 use Rattle.tables.specs.declared.Fields.{Fields}
 use Rattle.tables.proofs.Bounds.{slot_inside}
 use Rattle.tables.proofs.Checks.{limits_hold_lem, by_words}
-use Rattle.fields.specs.Read.{no_fields, read_of}
+use Rattle.fields.specs.Read.{read_of}
 use Rattle.fields.specs.Write.{mask_of, words_length, slot_clean, unused_zero, slots_clean, wide_at, slots_checked, masks_checked, fields_checked, word_at, written_to, write_of}
 use Rattle.games.specs.declared.Reason.{Reason}
+use Rattle.games.specs.declared.Refusal.{Refusal}
 use Rattle.games.specs.declared.Reason.TheVariants as reason
-use Rattle.std.specs.Prelude.{Ok, Err}
+use Rattle.std.specs.Prelude.{Result, Ok, Err}
 
-module _ (w : List ℕ) where
-  pub read_fine : (f : Fields) → checked w ≡ Ok tt → f ≡ fields_of w → record { answer = Ok tt; fields = f } ≡ read_of w
-  unfolding read_of
-  read_fine f e g = rw (e, g)
+-- what was read, and of which table
+read_ok : (c : Checked) (r f : Fields) → ◌≡◌ {A = Result Fields Refusal} (unless c Err (Ok r)) (Ok f) → (c ≡ Ok tt) × (f ≡ r)
+read_ok (Ok tt) r f e = (refl, cc)
+read_ok (Err stop) r f e = absurd (cc)
 
-  pub read_refused : (k : Reason) (p : ℕ) (f : Fields) → checked w ≡ refused k p → f ≡ no_fields → record { answer = refused k p; fields = f } ≡ read_of w
-  unfolding read_of
-  read_refused k p f e g = rw (e, g)
+pub read_passed : (w : List ℕ) (f : Fields) → read_of w ≡ Ok f → (checked w ≡ Ok tt) × (f ≡ fields_of w)
+unfolding read_of
+read_passed w f e = read_ok (checked w) (fields_of w) f e
+
+pub read_fine : (w : List ℕ) (f : Fields) → checked w ≡ Ok tt → f ≡ fields_of w → Ok f ≡ read_of w
+unfolding read_of
+read_fine w f e g = rw (e, g)
 
 -- ---- the slots of the sets that the table has
 
@@ -145,19 +150,7 @@ module _ (f : Fields) where
 
   -- ---- one after the other
 
-  pub slots_stop : (k : Reason) (p : ℕ) → slots_checked f ≡ refused k p → fields_checked f ≡ refused k p
-  unfolding fields_checked
-  slots_stop k p e = rw e
-
-  pub masks_stop : (k : Reason) (p : ℕ) → slots_checked f ≡ Ok tt → masks_checked f ≡ refused k p → fields_checked f ≡ refused k p
-  unfolding fields_checked
-  masks_stop k p e d = rw (e, d)
-
   module _ (slots : slots_checked f ≡ Ok tt) (masks : masks_checked f ≡ Ok tt) where
-    pub sets_stop : (k : Reason) (p : ℕ) → sets_checked (game_of f) ≡ refused k p → fields_checked f ≡ refused k p
-    unfolding fields_checked
-    sets_stop k p e = rw (slots, masks, e)
-
     pub parked_end : sets_checked (game_of f) ≡ Ok tt → fields_checked f ≡ parked_checked (game_of f)
     unfolding fields_checked
     parked_end e = rw (slots, masks, e)
@@ -171,9 +164,9 @@ module _ (f : Fields) where
       let h = then_fine (sets_checked (game_of f)) (parked_checked (game_of f)) d.1 in
       (a.0, d.0, h.0, h.1)
 
-  pub write_refused : (k : Reason) (p : ℕ) (d : List ℕ) → fields_checked f ≡ refused k p → leaves (refused k p) d ≡ write_of f d
+  pub write_refused : (e : Refusal) (d : List ℕ) → fields_checked f ≡ Err e → leaves (Err e) d ≡ write_of f d
   unfolding write_of
-  write_refused k p d e = rw e
+  write_refused e d stop = rw stop
 
   pub write_fine : (d : List ℕ) → fields_checked f ≡ Ok tt → write_of f d ≡ written_to f d
   unfolding write_of

@@ -40,9 +40,9 @@ use Rattle.tables.proofs.Same.{field_is, sets_ext, parked_ext, sets_same, parked
 use Rattle.fields.specs.Read.{read_of}
 use Rattle.fields.specs.Write.{mask_of, word_at, words_length, slot_clean, unused_zero, parked_clean, slots_clean, wide_at, fields_checked, written_to, write_of}
 use Rattle.fields.specs.RoundTrip.{WritesBack, ReadsBack}
-use Rattle.fields.specs.declared.ReadFields.{ReadFields}
-use Rattle.fields.proofs.Laws.{slots_passed, slots_limited, fields_passed, mask_low, read_fine, masks_fine, narrow_at, slots_fine, parked_end, write_fine, write_refused, word_head, word_place, written_short, written_full}
-use Rattle.std.specs.Prelude.{Ok, Err}
+use Rattle.games.specs.declared.Refusal.{Refusal}
+use Rattle.fields.proofs.Laws.{slots_passed, slots_limited, fields_passed, mask_low, read_passed, masks_fine, narrow_at, slots_fine, parked_end, write_fine, write_refused, word_head, word_place, written_short, written_full}
+use Rattle.std.specs.Prelude.{Result, Ok, Err}
 
 -- ---- slots
 
@@ -149,19 +149,18 @@ module _ (w : List ℕ) (fine : checked w ≡ Ok tt) where
       parked_end f slots masks (sets_same w ∙ fine_sets w fine) ∙ parked_same w ∙ fine_parked w fine
 
   -- read, then write: the same words
-  pub read_then_write : (d : List ℕ) → length w ≤ length d → write_of (read_of w).fields d ≡ leaves (Ok (length w)) (w ++ drop (length w) d)
-  unfolding read_of
+  pub read_then_write : (d : List ℕ) → length w ≤ length d → write_of (fields_of w) d ≡ leaves (Ok (length w)) (w ++ drop (length w) d)
   read_then_write d l =
-      ap (λ (f : Fields). write_of f d) (rw fine)
-      ∙ write_fine (fields_of w) d fields_fine
+      write_fine (fields_of w) d fields_fine
       ∙ written_full (fields_of w) d (omega (arith, long))
       ∙ ap (λ (k : ℕ). leaves (Ok k) (filled_by k (word_at (fields_of w)) d)) long
       ∙ ap (λ (v : List ℕ). leaves (Ok (length w)) (v ++ drop (length w) d)) words_are
 
 -- what read answers is written back
-pub writes_back : (w : List ℕ) {r : ReadFields} → r ≡ read_of w → WritesBack w r
-unfolding read_of
-writes_back w e = subst (WritesBack w) (sym e) (λ fine. read_then_write w fine)
+pub writes_back : (w : List ℕ) {r : Result Fields Refusal} → r ≡ read_of w → WritesBack w r
+writes_back w e f told d l =
+    let read = read_passed w f (sym e ∙ told) in
+    ap (λ (g : Fields). write_of g d) read.1 ∙ read_then_write w read.0 d l
 
 -- ---- accepted fields, written and read
 
@@ -303,8 +302,9 @@ module _ (f : Fields) (fine : fields_checked f ≡ Ok tt) where
           moves = moved i;
         }
 
-    read_back : read_of (words_of f) ≡ record { answer = Ok tt; fields = f }
-    read_back = sym (read_fine (words_of f) f written_fine fields_back)
+    read_back : read_of (words_of f) ≡ Ok f
+    unfolding read_of
+    read_back = rw written_fine (ap (λ (g : Fields). Ok g) (sym fields_back))
 
 -- what a success of write says
 module _ (f : Fields) (d : List ℕ) (k : ℕ) where
@@ -323,11 +323,11 @@ module _ (f : Fields) (d : List ℕ) (k : ℕ) where
       let h = done_at (ltb (length d) (words_length f)) refl (ap (λ (o : Leaves Written (List ℕ)). o.answer) (sym w) ∙ e) in
       (c, h.0, ap (λ (o : Leaves Written (List ℕ)). o.left) w ∙ h.1)
   gave_at (Err stop) c e =
-      let z : ◌≡◌ {A = ℕ} 0 1 = cc (ap (λ (o : Leaves Written (List ℕ)). o.answer) (write_refused f stop.reason stop.place d c)) in
+      let z : ◌≡◌ {A = ℕ} 0 1 = cc (ap (λ (o : Leaves Written (List ℕ)). o.answer) (write_refused f stop d c)) in
       absurd (omega arith)
 
   -- write, then read what was written: the same fields
-  write_then_read : length f.shown ≡ max_observations → length f.moves ≡ max_moves → (write_of f d).answer ≡ Ok k → read_of (take k (write_of f d).left) ≡ record { answer = Ok tt; fields = f }
+  write_then_read : length f.shown ≡ max_observations → length f.moves ≡ max_moves → (write_of f d).answer ≡ Ok k → read_of (take k (write_of f d).left) ≡ Ok f
   write_then_read shown-slots move-slots e =
       let h = gave_at (fields_checked f) refl e in
       ap (λ (v : List ℕ). read_of (take k v)) h.2

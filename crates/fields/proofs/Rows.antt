@@ -29,7 +29,7 @@ pub reads_a : fields_of table_a ≡ fields_a
 unfolding fields_of parked_words gather
 reads_a = refl
 
-pub writes_a : write_of fields_a (replicate 11 9) ≡ leaves (Words 10) (table_a ++ (9 ∷ []))
+pub writes_a : write_of fields_a (replicate 11 9) ≡ leaves (Ok 10) (table_a ++ (9 ∷ []))
 unfolding write_of fields_checked slots_checked masks_checked sets_checked parked_checked departs has_successor limits_hold unused_zero wide_at parked_words place_at word_at bare_word game_of unseen written_to first any all gather
 writes_a = refl
 
@@ -47,7 +47,7 @@ writes_unused = refl
 abbrev fields_e : (marked : Bool) (move : ℕ) → Fields
 fields_e marked move = record { states = 1; actions = 1; observations = 1; start = 1; bad = 0; marked = marked; parked = 1; shown = 1 ∷ replicate (max_observations - 1) 0; moves = move ∷ replicate (max_moves - 1) 0 }
 
-pub writes_parked : write_of (fields_e true 0) (replicate 7 9) ≡ leaves (Words 6) (0x1101_0101 ∷ 0x2000_0001 ∷ 0x3000_0000 ∷ 0x6000_0001 ∷ 0x4000_0001 ∷ 0x5000_0000 ∷ 9 ∷ [])
+pub writes_parked : write_of (fields_e true 0) (replicate 7 9) ≡ leaves (Ok 6) (0x1101_0101 ∷ 0x2000_0001 ∷ 0x3000_0000 ∷ 0x6000_0001 ∷ 0x4000_0001 ∷ 0x5000_0000 ∷ 9 ∷ [])
 unfolding write_of fields_checked slots_checked masks_checked sets_checked parked_checked departs has_successor limits_hold unused_zero wide_at parked_words place_at word_at bare_word game_of unseen written_to first any all gather
 writes_parked = refl
 

@@ -14,6 +14,7 @@ use games::{Place, Reason, Refusal};
 use tables::Fields;
 
 // Checks a table and reads it into fields.
+#[tactic(auto, unfolding(crate::specs::Read::read_of))]
 pub fn read(table: &[u32]) -> Result<Fields, Refusal>
     ensures answers { result ≡ read_of table.now }
     ensures written_back { WritesBack table.now result }
@@ -102,6 +103,7 @@ fn check_departures(f: Fields) -> Result<(), Refusal>
 }
 
 // Refusals 2, 11, 5, 6, 7 and 19.
+#[tactic(auto, unfolding(crate::specs::Write::fields_checked))]
 fn check_fields(f: Fields) -> Result<(), Refusal>
     ensures { result ≡ fields_checked f }
 {

@@ -12,9 +12,8 @@ table_length-words-requires c = rw c.fields_shape.ensures (let most = c.requires
 
 pub returns-then-out-words : goal.returns-then-out-words
 returns-then-out-words c =
-    rw c.at.ensures
-    (let long : c.table_length-words.result ≡ words_length c.args.f = c.table_length-words.ensures ∙ ap table_length c.fields_shape.ensures in
-    written_none c.args.f c.args.out.now c.table_length-words.result long c.if-out-words.true)
+    let long : c.table_length-words.result ≡ words_length c.args.f = c.table_length-words.ensures ∙ ap table_length c.fields_shape.ensures in
+    rw c.at.ensures (written_none c.args.f c.args.out.now c.table_length-words.result long c.if-out-words.true)
 
 pub loop-p-init : goal.loop-p-init
 loop-p-init c = (search rules, search rules, filled_none (word_at c.args.f) c.args.out.now)
