@@ -36,7 +36,7 @@ module _ (g : Game) (k : List ℕ) where
       record {
         each_move = λ p played under i from_one most. runner_goes g A k runs p played under i from_one (omega (arith, rounds_seen p));
         whole_run = λ p played under d room.
-            subst (λ (n : ℕ). ran_into k (seen p) d ≡ leaves (Done n) (filled_by n (λ i. action k (take (suc i) (seen p))) d)) (rounds_seen p)
+            subst (λ (n : ℕ). ran_into k (seen p) d ≡ leaves (Ok n) (filled_by n (λ i. action k (take (suc i) (seen p))) d)) (rounds_seen p)
             (run_goes g A k runs right p played under d (omega (arith, rounds_seen p)));
       }
 

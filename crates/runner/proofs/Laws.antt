@@ -20,7 +20,7 @@ use Rattle.cards.specs.Card.{automaton, card_observations, checked}
 use Rattle.cards.specs.Run.{entered, begun, followed, opened, stepped, moved, ran}
 use Rattle.cards.proofs.Running.{opened_fine, stepped_fine}
 use Rattle.cards.proofs.Runs.{moved_entered, ran_take_one, ran_take_more}
-use Rattle.runner.specs.Runs.{Ran}
+use Rattle.runner.specs.Runs.{stopped, Ran}
 use Rattle.runner.specs.Runs.{move_at, move_on, action_of, further, ran_up_to, with_actions, Writable, written, writes, ran_into}
 use Rattle.games.specs.declared.Reason.{Reason}
 use Rattle.games.specs.declared.Reason.TheVariants as reason
@@ -42,10 +42,10 @@ module _ (w : List ℕ) (i c j : ℕ) {m : Move} (fine : checked w ≡ Ok tt) wh
   pub steps_fine : (i ≡ 0 → ⊥) → m ≡ followed (automaton w) (card_observations w) c j → m ≡ move_on w i c j
   steps_fine n f = steps w i c j n (f ∙ sym (stepped_fine w c j fine))
 
-further_done : (r : Ran) (m : Move) (j : ℕ) → further r m ≡ Done j → (i : ℕ) × (r ≡ Done i) × (j ≡ i + 1)
-further_done (Done i) (Entered c a) j e = (i, refl, (cc))
-further_done (Done i) (Err stop) j e = absurd (let z : ◌≡◌ {A = ℕ} 0 1 = cc in omega arith)
-further_done (Stopped n p i) m j e = absurd (let z : ◌≡◌ {A = ℕ} 0 1 = cc in omega arith)
+further_done : (r : Ran) (m : Move) (j : ℕ) → further r m ≡ Ok j → (i : ℕ) × (r ≡ Ok i) × (j ≡ i + 1)
+further_done (Ok i) (Ok m) j e = (i, refl, (cc))
+further_done (Ok i) (Err stop) j e = absurd (let z : ◌≡◌ {A = ℕ} 0 1 = cc in omega arith)
+further_done (Err s) m j e = absurd (let z : ◌≡◌ {A = ℕ} 0 1 = cc in omega arith)
 
 module _ (w h : List ℕ) where
   -- the action after the observation at a place
@@ -59,7 +59,7 @@ module _ (w h : List ℕ) where
   -- a loop that runs the card has taken i observations, and is in cell c
   pub record At (i c : ℕ) : Type 0 where
     pub within : i ≤ length h
-    pub taken : ran_up_to w h i ≡ Done i
+    pub taken : ran_up_to w h i ≡ Ok i
     pub here : (i ≡ 0) ⊎ ((0 < i) × ((a : ℕ) × (ran w (take i h) ≡ entered c a)))
 
   pub at_none : (c : ℕ) → At 0 c
@@ -84,7 +84,7 @@ module _ (w h : List ℕ) where
         (λ x. later_move i c x.1.0 x.0 l x.1.1) at.here
 
     -- the move is an entry: one observation more is taken
-    module _ (r : Cell) (a : Action) (e : move_on w i c (get_or h i 0) ≡ Entered r a) where
+    module _ (r : Cell) (a : Action) (e : move_on w i c (get_or h i 0) ≡ Ok (record { cell = r; action = a })) where
       pub at_more : At (i + 1) r.0
       at_more = record {
         within = omega arith;
@@ -97,28 +97,28 @@ module _ (w h : List ℕ) where
 
     -- the move is refused: so is the run
     module _ (number : Reason) (place : ℕ) (e : move_on w i c (get_or h i 0) ≡ refused number place) where
-      hit : ran_up_to w h (suc i) ≡ Stopped number place i
+      hit : ran_up_to w h (suc i) ≡ stopped number place i
       hit = up_to_more i ∙ ap₂ further at.taken (sym move_is ∙ e)
 
-      stays : (k : ℕ) → i < k → ran_up_to w h k ≡ Stopped number place i
+      stays : (k : ℕ) → i < k → ran_up_to w h k ≡ stopped number place i
       stays zero m = absurd (not-suc-le-zero m)
       stays (suc k) m =
-          ⊎_elim (λ (f : i ≡ k). subst (λ (n : ℕ). ran_up_to w h (suc n) ≡ Stopped number place i) f hit)
+          ⊎_elim (λ (f : i ≡ k). subst (λ (n : ℕ). ran_up_to w h (suc n) ≡ stopped number place i) f hit)
           (λ (f : i < k). up_to_more k ∙ ap (λ (r : Ran). further r (move_at w h k)) (stays k f)) (eq-or-lt_of_le (le_of_suc-le-suc m))
 
-      pub run_stops : Stopped number place i ≡ ran_up_to w h (length h)
+      pub run_stops : stopped number place i ≡ ran_up_to w h (length h)
       run_stops = sym (stays (length h) l)
 
-      pub no_stop : ran_up_to w h (length h) ≡ Done (length h) → ⊥
+      pub no_stop : ran_up_to w h (length h) ≡ Ok (length h) → ⊥
       no_stop f = let z : ◌≡◌ {A = ℕ} 0 1 = cc (stays (length h) l) in omega arith
 
-  pub run_ends : (i c : ℕ) → At i c → length h ≤ i → Done i ≡ ran_up_to w h (length h)
+  pub run_ends : (i c : ℕ) → At i c → length h ≤ i → Ok i ≡ ran_up_to w h (length h)
   run_ends i c at l =
       let e : i ≡ length h = omega (arith, at.within) in
-      sym (subst (λ (n : ℕ). ran_up_to w h n ≡ Done i) e at.taken)
+      sym (subst (λ (n : ℕ). ran_up_to w h n ≡ Ok i) e at.taken)
 
   -- as many are taken as there are
-  pub done_all : (k j : ℕ) → ran_up_to w h k ≡ Done j → j ≡ k
+  pub done_all : (k j : ℕ) → ran_up_to w h k ≡ Ok j → j ≡ k
   unfolding ran_up_to
   done_all zero j e = cc
   done_all (suc k) j e =
@@ -138,7 +138,7 @@ module _ (w h : List ℕ) where
     pub same_length : length d ≡ length d₀
     same_length = ap length s.front ∙ length_filled action_at i d₀ (omega (arith, s.at.within))
 
-    pub wrote_more : (r : Cell) (a : Action) → i < length h → move_on w i c (get_or h i 0) ≡ Entered r a → Wrote d₀ (set d i a.0) (i + 1) r.0
+    pub wrote_more : (r : Cell) (a : Action) → i < length h → move_on w i c (get_or h i 0) ≡ Ok (record { cell = r; action = a }) → Wrote d₀ (set d i a.0) (i + 1) r.0
     wrote_more r a l e = record {
       at = at_more i c s.at l r a e;
       front = ap₂ (λ (x : List ℕ) (v : ℕ). set x i v) s.front (action_is i c s.at l r a e) ∙ filled_more action_at i d₀ (omega arith);
@@ -152,35 +152,35 @@ module _ (w h : List ℕ) where
   -- ---- the outcome
 
   module _ (d : List ℕ) where
-    pub run_refused : (number : Reason) (place i : ℕ) → ran_up_to w h (length h) ≡ Stopped number place i → leaves (Stopped number place i) d ≡ writes w h d
+    pub run_refused : (number : Reason) (place i : ℕ) → ran_up_to w h (length h) ≡ stopped number place i → leaves (stopped number place i) d ≡ writes w h d
     unfolding writes
     run_refused number place i e = sym (ap (written w h d) e)
 
     -- a run that took k observations, by whether there is room
     room_for : ℕ → Bool → Leaves Ran (List ℕ)
-    room_for k b = cond b (leaves (refused reason.ShortList k k) d) (leaves (Done k) (with_actions w h k d))
+    room_for k b = cond b (leaves (stopped reason.ShortList k k) d) (leaves (Ok k) (with_actions w h k d))
 
-    pub run_short : (k : ℕ) → ran_up_to w h (length h) ≡ Done k → length d < k → leaves (refused reason.ShortList k k) d ≡ writes w h d
+    pub run_short : (k : ℕ) → ran_up_to w h (length h) ≡ Ok k → length d < k → leaves (stopped reason.ShortList k k) d ≡ writes w h d
     unfolding writes room_for
     run_short k e l = sym (ap (written w h d) e ∙ ap (room_for k) (lt-ltb (length d) k l))
 
-    pub run_done : (k : ℕ) (o : List ℕ) → ran_up_to w h (length h) ≡ Done k → k ≤ length d → o ≡ with_actions w h (length h) d → leaves (Done k) o ≡ writes w h d
+    pub run_done : (k : ℕ) (o : List ℕ) → ran_up_to w h (length h) ≡ Ok k → k ≤ length d → o ≡ with_actions w h (length h) d → leaves (Ok k) o ≡ writes w h d
     unfolding writes room_for
     run_done k o e l f =
         sym (ap (written w h d) e ∙ ap (room_for k) (le-ltb (length d) k l)
-        ∙ ap (λ (n : ℕ). leaves (Done k) (with_actions w h n d)) (done_all (length h) k e)
-        ∙ ap (leaves (Done k)) (sym f))
+        ∙ ap (λ (n : ℕ). leaves (Ok k) (with_actions w h n d)) (done_all (length h) k e)
+        ∙ ap (leaves (Ok k)) (sym f))
 
     -- the pass that writes may come
-    pub writable : (k : ℕ) → checked w ≡ Ok tt → ran_up_to w h (length h) ≡ Done k → k ≤ length d → Writable w h d
+    pub writable : (k : ℕ) → checked w ≡ Ok tt → ran_up_to w h (length h) ≡ Ok k → k ≤ length d → Writable w h d
     writable k c e l = record {
       right = c;
-      taken = e ∙ ap Done (done_all (length h) k e);
+      taken = e ∙ ap Ok (done_all (length h) k e);
       room = subst (λ (n : ℕ). n ≤ length d) (done_all (length h) k e) l;
     }
 
     -- the card is checked first
-    pub into_wrong : (number : Reason) (place : ℕ) → checked w ≡ refused number place → ran_into w h d ≡ leaves (Stopped number place 0) d
+    pub into_wrong : (number : Reason) (place : ℕ) → checked w ≡ refused number place → ran_into w h d ≡ leaves (stopped number place 0) d
     unfolding ran_into
     into_wrong number place e = rw (ran_into, e)
 

@@ -1,4 +1,4 @@
--- Ok that enter a cell on every play of a game under a card are never refused there: not where a runner is opened on them and moved
+-- Words that enter a cell on every play of a game under a card are never refused there: not where a runner is opened on them and moved
 -- by the play's observations, and not where they are run over these.
 -- Assumes nothing.
 use mathlib.Core.Path.{◌≡◌, refl, sym, ap, ap₂, subst, ◌∙◌}
@@ -77,16 +77,16 @@ module _ (w : List ℕ) (c a : List ℕ → ℕ) where
 
   -- the card enters a cell on each of them: the run takes them all and writes the actions
   module _ (h : List ℕ) (fine : checked w ≡ Ok tt) (each : (k : ℕ) → 0 < k → k ≤ length h → Enters (take k h)) where
-    taken : (k : ℕ) → k ≤ length h → ran_up_to w h k ≡ Done k
+    taken : (k : ℕ) → k ≤ length h → ran_up_to w h k ≡ Ok k
     unfolding ran_up_to
     taken zero l = refl
-    taken (suc k) l = ap₂ further (taken k (omega arith)) (each (suc k) (omega arith) l) ∙ ap Done (add-one k)
+    taken (suc k) l = ap₂ further (taken k (omega arith)) (each (suc k) (omega arith) l) ∙ ap Ok (add-one k)
 
-    run_enters : (d : List ℕ) → length h ≤ length d → ran_into w h d ≡ leaves (Done (length h)) (filled_by (length h) (λ i. a (take (suc i) h)) d)
+    run_enters : (d : List ℕ) → length h ≤ length d → ran_into w h d ≡ leaves (Ok (length h)) (filled_by (length h) (λ i. a (take (suc i) h)) d)
     run_enters d l =
         into_fine w h d fine
         ∙ sym (run_done w h d (length h) (with_actions w h (length h) d) (taken (length h) (omega arith)) l refl)
-        ∙ ap (leaves (Done (length h)))
+        ∙ ap (leaves (Ok (length h)))
         (filled_ext (λ i. action_of (move_at w h i)) (λ i. a (take (suc i) h)) (length h) d (λ i b. ap action_of (each (suc i) (omega arith) b)))
 
 -- ---- on the plays under the card
@@ -128,5 +128,5 @@ module _ (g : Game) (A : Automaton) (w : List ℕ) (enters : (p : Play) → Play
 
   -- and where the words are a card, the run over the play's observations takes them all
   pub run_goes : checked w ≡ Ok tt → (p : Play) → PlayOf g p → UnderCard A p → (d : List ℕ) → length (seen p) ≤ length d
-      → ran_into w (seen p) d ≡ leaves (Done (length (seen p))) (filled_by (length (seen p)) (λ i. action_after A (take (suc i) (seen p))) d)
+      → ran_into w (seen p) d ≡ leaves (Ok (length (seen p))) (filled_by (length (seen p)) (λ i. action_after A (take (suc i) (seen p))) d)
   run_goes fine p m u d l = run_enters w (cell_after A) (action_after A) (seen p) fine (beginning InCell enters p m u) d l

@@ -8,6 +8,7 @@ use Rattle.cards.specs.Card.{checked}
 use Rattle.cards.specs.Run.{Move, opened, stepped, ran, as_cell, as_observation, stands, starts, advances}
 use Rattle.cards.specs.declared.Stood.{Stood}
 use Rattle.runner.specs.declared.Stopped.{Stopped}
+use Rattle.games.specs.declared.Reason.{Reason}
 use Rattle.games.specs.declared.Reason.TheVariants as reason
 use Rattle.std.specs.Prelude.{Result, Ok, Err}
 use Rattle.std.specs.Prelude.{Ok, Err}
@@ -43,6 +44,9 @@ action_of (Err e) = 0
 abbrev pub Ran : Type 0
 Ran = Result ℕ Stopped
 
+abbrev pub stopped : Reason → (place taken : ℕ) → Ran
+stopped r p i = Err (record { refusal = record { reason = r; place = p }; taken = i })
+
 -- one observation more: it is taken, or refused with the number of those taken before it; a refusal stays
 abbrev pub further : Ran → Move → Ran
 further (Ok i) (Ok m) = Ok (i + 1)
@@ -64,12 +68,9 @@ pub record Writable (card seen out : List ℕ) : Type 0 where
   pub taken : ran_up_to card seen (length seen) ≡ Ok (length seen)
   pub room : length seen ≤ length out
 
-abbrev short : ℕ → Stopped
-short k = record { refusal = record { reason = reason.ShortList; place = k }; taken = k }
-
 -- a run that was not refused on the way: 15 where there is no word for each observation; else their actions stand in front
 abbrev pub written : (card seen out : List ℕ) → Ran → Leaves Ran (List ℕ)
-written w h d (Ok k) = cond (ltb (length d) k) (leaves (Err (short k)) d) (leaves (Ok k) (with_actions w h k d))
+written w h d (Ok k) = cond (ltb (length d) k) (leaves (stopped reason.ShortList k k) d) (leaves (Ok k) (with_actions w h k d))
 written w h d (Err s) = leaves (Err s) d
 
 -- the run of a checked card: 12 and 14 on the way, then 15

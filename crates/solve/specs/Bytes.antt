@@ -1,4 +1,4 @@
--- Ok as little-endian bytes (document 01, "The solving program").
+-- Words as little-endian bytes (document 01, "The solving program").
 -- Assumes nothing.
 use Rattle.std.specs.Prelude.{List, [], ◌∷◌, ℕ, ◌+◌, ◌*◌, get_or}
 use Rattle.sets.specs.Bounded.{gather}

@@ -1,4 +1,4 @@
--- Ok without the bit are checked as document 01 says.
+-- Words without the bit are checked as document 01 says.
 -- Assumes nothing.
 use mathlib.Core.Path.{◌≡◌, refl, ap, ◌∙◌}
 use mathlib.Core.Bool.{Bool, false, ◌&&◌}

@@ -1,4 +1,4 @@
--- Ok without the bit are checked as document 01 says: a statement that is proved of all words.
+-- Words without the bit are checked as document 01 says: a statement that is proved of all words.
 -- Assumes nothing.
 use Rattle.std.specs.Prelude.{◌≡◌, false, ◌&&◌, List, ℕ, ◌+◌, ◌*◌, ◌/◌, ◌^◌, eqb, get_or}
 use Rattle.games.specs.Answers.{unless}

@@ -4,10 +4,10 @@ use Rattle.runner.proofs.Laws.{into_wrong, into_fine}
 use Rattle.runner.proofs.run.Goals as goal
 
 pub run_checked-requires : goal.run_checked-requires
-run_checked-requires c = sym c.check.ensures ∙ c.in-Fine.is
+run_checked-requires c = sym c.check.ensures ∙ c.in-Ok.is
 
-pub returns-in-Refused : goal.returns-in-Refused
-returns-in-Refused c = sym (into_wrong _ _ _ c.in-Refused.number c.in-Refused.place (sym c.check.ensures ∙ c.in-Refused.is))
+pub returns-in-Err : goal.returns-in-Err
+returns-in-Err c = sym (into_wrong _ _ _ c.in-Err.refusal.reason c.in-Err.refusal.place (sym c.check.ensures ∙ c.in-Err.is))
 
-pub returns-in-Fine : goal.returns-in-Fine
-returns-in-Fine c = c.run_checked.ensures ∙ sym (into_fine _ _ _ (sym c.check.ensures ∙ c.in-Fine.is))
+pub returns-in-Ok : goal.returns-in-Ok
+returns-in-Ok c = c.run_checked.ensures ∙ sym (into_fine _ _ _ (sym c.check.ensures ∙ c.in-Ok.is))

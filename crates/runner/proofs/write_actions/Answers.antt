@@ -1,4 +1,4 @@
-use mathlib.Core.Path.{◌≡◌}
+use mathlib.Core.Path.{◌≡◌, sym, ◌∙◌}
 use native.Mathlib.Omega.{arith}
 use lib.ListN.{length}
 use Rattle.runner.proofs.Laws.{wrote_none, wrote_more, wrote_all, same_length, no_stop}
@@ -10,14 +10,14 @@ loop-i-init c = wrote_none _ _ _ _
 pub offset_bounds-seen-i : goal.offset_bounds-seen-i
 offset_bounds-seen-i c = omega arith
 
-pub shape_of-out-in-Refused : goal.shape_of-out-in-Refused
-shape_of-out-in-Refused c =
-    let refused : ⊥ = no_stop c.args.card.now c.args.seen.now c.loop-i.i c.loop-i.cell c.loop-i.invariant.at c.loop-i-test.true c.in-Refused.field-0 c.in-Refused.field-1 (cc) c.requires.taken in
+pub shape_of-out-in-Err : goal.shape_of-out-in-Err
+shape_of-out-in-Err c =
+    let refused : ⊥ = no_stop c.args.card.now c.args.seen.now c.loop-i.i c.loop-i.cell c.loop-i.invariant.at c.loop-i-test.true c.in-Err.field-0.reason c.in-Err.field-0.place (sym c.move_on.ensures ∙ c.in-Err.is) c.requires.taken in
     absurd refused
 
-pub returns-in-Refused : goal.returns-in-Refused
-returns-in-Refused c =
-    let refused : ⊥ = no_stop c.args.card.now c.args.seen.now c.loop-i.i c.loop-i.cell c.loop-i.invariant.at c.loop-i-test.true c.in-Refused.field-0 c.in-Refused.field-1 (cc) c.requires.taken in
+pub returns-in-Err : goal.returns-in-Err
+returns-in-Err c =
+    let refused : ⊥ = no_stop c.args.card.now c.args.seen.now c.loop-i.i c.loop-i.cell c.loop-i.invariant.at c.loop-i-test.true c.in-Err.field-0.reason c.in-Err.field-0.place (sym c.move_on.ensures ∙ c.in-Err.is) c.requires.taken in
     absurd refused
 
 pub offset_bounds-out-i : goal.offset_bounds-out-i
@@ -37,7 +37,7 @@ loop-i-smaller c = omega arith
 pub loop-i-preserved : goal.loop-i-preserved
 loop-i-preserved c =
     wrote_more c.args.card.now c.args.seen.now c.args.out.now c.loop-i.out c.loop-i.i c.loop-i.cell c.loop-i.invariant
-    c.requires.room c.in-Entered.entered c.in-Entered.action c.loop-i-test.true (cc)
+    c.requires.room c.in-Ok.entered.cell c.in-Ok.entered.action c.loop-i-test.true (sym c.move_on.ensures ∙ c.in-Ok.is)
 
 pub shape_of-out : goal.shape_of-out
 shape_of-out c =
