@@ -12,7 +12,10 @@ use lib.Pow.{pow_pos}
 use lib.Bits.{and_le_l}
 use lib.Count.{count_leading_zeros, leading_top}
 use lib.ListN.{length, get_or, set, length-set}
-use lib.Seq.{get_or-set_same, get_or-set_other}
+use lib.Seq.{get_or-set_same, get_or-set_other, ext_get_or}
+use Rattle.std.specs.Cmp.Lexicographic.{pointwise}
+use Rattle.std.proofs.lemmas.Slice.Eq.{slice_eq-Decides}
+use Rattle.std.proofs.lemmas.Bool.Decides.{Decides-eqb}
 use borrow.Author.Tests.{eqb-true, eqb-false, not-true}
 use Rattle.sets.specs.Mask.{member, common, union, subset}
 use Rattle.sets.proofs.Logic.{decided, clash, refuted, affirmed, same_truth, and_left, and_right, and_intro, or_cases, or_false_left, or_false_right, false_not}
@@ -209,5 +212,13 @@ module _ (g : Game) (bits : List ℕ) (S : Stage g bits) (next : List ℕ) where
 -- ---- comparing
 
 -- where two families have the same sets, their words are the same
-pub words_same : (d e : List ℕ) (i : ℕ) → get_or d i 0 < 2 ^ 64 → get_or e i 0 < 2 ^ 64 → ((s : ℕ) → has d s ≡ has e s) → get_or d i 0 ≡ get_or e i 0
+words_same : (d e : List ℕ) (i : ℕ) → get_or d i 0 < 2 ^ 64 → get_or e i 0 < 2 ^ 64 → ((s : ℕ) → has d s ≡ has e s) → get_or d i 0 ≡ get_or e i 0
 words_same d e i k l h = ext 64 (get_or d i 0) (get_or e i 0) k l (λ t m. sym (has_at d i t m) ∙ h (i * lane_sets + t) ∙ has_at e i t m)
+
+-- so `==` of their words tells whether they are the same family
+module _ (d e : List ℕ) (r : Bool) (is : r ≡ pointwise eqb d e) where
+  pub same_true : r ≡ true → d ≡ e
+  same_true = (slice_eq-Decides Decides-eqb d e r is).0
+
+  pub same_false : length d ≡ length e → ((j : ℕ) → get_or d j 0 < 2 ^ 64) → ((j : ℕ) → get_or e j 0 < 2 ^ 64) → r ≡ false → ((s : ℕ) → has d s ≡ has e s) → ⊥
+  same_false long u v f h = clash ((slice_eq-Decides Decides-eqb d e r is).1 (ext_get_or 0 d e long (λ j l. words_same d e j (u j) (v j) h))) f

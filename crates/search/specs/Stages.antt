@@ -1,6 +1,6 @@
 -- What one application of the step does to a family of sets that is kept as bits.
 -- Assumes nothing.
-use Rattle.std.specs.Prelude.{◌≡◌, Bool, true, false, not, ◌&&◌, List, ℕ, ◌+◌, ◌*◌, ◌^◌, ◌<◌, length}
+use Rattle.std.specs.Prelude.{◌≡◌, Bool, true, not, ◌&&◌, List, ℕ, ◌+◌, ◌*◌, ◌^◌, ◌<◌, length}
 use Rattle.sets.specs.Mask.{member}
 use Rattle.sets.specs.Family.{Family, DownClosed}
 use Rattle.families.specs.Bits.{lane_sets, lanes, has}
@@ -35,8 +35,3 @@ safely_enabled g a i = enabled g i a && not (member g.bad i)
 pub record EnabledStates (g : Game) (a bound mask : ℕ) : Type 0 where
   pub below : mask < 2 ^ bound
   pub at : (i : ℕ) → i < bound → member mask i ≡ safely_enabled g a i
-
--- the two have the same words; or not, and then not the same sets
-abbrev pub Same : Bool → List ℕ → List ℕ → Type 0
-Same true d e = d ≡ e
-Same false d e = ((s : ℕ) → has d s ≡ has e s) → ⊥

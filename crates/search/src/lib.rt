@@ -8,13 +8,13 @@ ghost use Rattle.games.specs.Words.{game};
 ghost use Rattle.games.specs.Step.{meets, step, good};
 ghost use Rattle.tables.specs.Check.{checked};
 ghost use Rattle.games.specs.Verdict.{starts_in};
-ghost use Rattle.moves.specs.Halves.{shown_in, Ready};
-ghost use Rattle.search.specs.Stages.{Stage, Sound, Passed, safely_enabled, EnabledStates, Same};
+ghost use Rattle.moves.specs.Halves.{shown_in};
+ghost use Rattle.search.specs.Stages.{Stage, Sound, Passed, safely_enabled, EnabledStates};
 ghost use Rattle.search.specs.Found.{Reached, Searched};
 
 use families::LANE_SETS;
 use games::{Action, MAX_ACTIONS, Observation, State};
-use moves::Posted;
+use moves::Moves;
 
 // The place of the last set of a lane.
 const LAST: u32 = LANE_SETS - 1;
@@ -27,14 +27,11 @@ fn shown_in(table: &[u32], family: &[u64], u: u32) -> bool
     if families::has(family, u) {
         return true;
     }
-    let o = tables::observations(table);
-    let mut j: u32 = 0;
-    while j < o {
+    for j in 0..tables::observations(table) {
         let t = u & tables::shown(table, Observation(j));
         if !families::has(family, t) {
             return false;
         }
-        j += 1;
     }
     true
 }
@@ -44,68 +41,53 @@ fn starts_in(table: &[u32], family: &[u64]) -> bool
     requires { (checked table.now ≡ Ok tt) × (length family.now ≡ lanes (game table.now).states) }
     ensures { result ≡ starts_in (game table.now) (is_in family.now) }
 {
-    let starts = tables::start_sets(table);
-    let mut j: u32 = 0;
-    while j < starts {
+    for j in 0..tables::start_sets(table) {
         if !families::has(family, tables::start_set(table, Observation(j))) {
             return false;
         }
-        j += 1;
     }
     true
 }
 
 // The action is enabled at all members of s, and leads to sets of the family.
-fn action_meets(table: &[u32], low: &[u32], high: &[u32], family: &[u64], s: u32, a: Action) -> bool
-    requires { Ready table.now low.now high.now × Stage (game table.now) family.now
-        × (s < 2 ^ (game table.now).states) × (a.0 < (game table.now).actions) }
-    ensures { result ≡ meets (game table.now) (is_in family.now) s a.0 }
+fn action_meets(moves: Moves, family: &[u64], s: u32, a: Action) -> bool
+    requires { Stage (game moves.table.now) family.now × (s < 2 ^ (game moves.table.now).states)
+        × (a.0 < (game moves.table.now).actions) }
+    ensures { result ≡ meets (game moves.entry.table.now) (is_in family.now) s a.0 }
 {
-    let posted = moves::post(table, low, high, s, a);
-    let Posted::Post(u) = posted else {
+    let Some(u) = moves.post(s, a) else {
         return false;
     };
-    shown_in(table, family, u)
+    shown_in(moves.table, family, u)
 }
 
 // The step: a set with no bad state for which one action meets it.
-fn meets_step(table: &[u32], low: &[u32], high: &[u32], family: &[u64], s: u32) -> bool
-    requires { Ready table.now low.now high.now × Stage (game table.now) family.now
-        × (s < 2 ^ (game table.now).states) }
-    ensures { result ≡ step (game table.now) (is_in family.now) s }
+fn meets_step(moves: Moves, family: &[u64], s: u32) -> bool
+    requires { Stage (game moves.table.now) family.now × (s < 2 ^ (game moves.table.now).states) }
+    ensures { result ≡ step (game moves.entry.table.now) (is_in family.now) s }
 {
-    if s & tables::bad(table) != 0 {
+    if s & tables::bad(moves.table) != 0 {
         return false;
     }
-    let actions = tables::actions(table);
-    let mut a: u32 = 0;
-    while a < actions {
-        if action_meets(table, low, high, family, s, Action(a)) {
+    for a in 0..tables::actions(moves.table) {
+        if action_meets(moves, family, s, Action(a)) {
             return true;
         }
-        a += 1;
     }
     false
 }
 
 // The step on the sets of one lane, from the largest down: a set that meets it settles its subsets. `covered` are subsets of sets found in other lanes.
-fn pass_lane(
-    table: &[u32],
-    low: &[u32],
-    high: &[u32],
-    family: &[u64],
-    lane: u32,
-    covered: u64,
-) -> u64
-    requires { Ready table.now low.now high.now × Stage (game table.now) family.now
-        × (lane < length family.now) × Sound (game table.now) (is_in family.now) lane covered }
-    ensures { Passed (game table.now) (is_in family.now) lane result }
+fn pass_lane(moves: Moves, family: &[u64], lane: u32, covered: u64) -> u64
+    requires { Stage (game moves.table.now) family.now × (lane < length family.now)
+        × Sound (game moves.table.now) (is_in family.now) lane covered }
+    ensures { Passed (game moves.entry.table.now) (is_in family.now) lane result }
 {
     let mut found = covered;
     let mut left = family[lane as usize] & !covered;
     while left != 0 {
         let h = LAST - u64::leading_zeros(left);
-        if meets_step(table, low, high, family, lane * LANE_SETS + h) {
+        if meets_step(moves, family, lane * LANE_SETS + h) {
             let below = families::subsets(h);
             found = found | below;
             left = left & !below;
@@ -117,17 +99,14 @@ fn pass_lane(
 }
 
 // One application of the step: the sets that meet it, into `next`.
-fn pass(table: &[u32], low: &[u32], high: &[u32], family: &[u64], next: &mut [u64])
-    requires { Ready table.now low.now high.now × Stage (game table.now) family.now
-        × (length next.old ≡ length family.now) }
-    ensures { Bits (game table.now).states (step (game table.now) (is_in family.now))
-        next.new }
+fn pass(moves: Moves, family: &[u64], next: &mut [u64])
+    requires { Stage (game moves.table.now) family.now × (length next.old ≡ length family.now) }
+    ensures { Bits (game moves.entry.table.now).states
+        (step (game moves.entry.table.now) (is_in family.now)) next.new }
 {
-    let mut lane = family.len();
-    while 0 < lane {
-        lane -= 1;
+    for lane in (0..family.len()).rev() {
         let covered = families::larger(next, lane);
-        next[lane] = pass_lane(table, low, high, family, lane as u32, covered);
+        next[lane] = pass_lane(moves, family, lane as u32, covered);
     }
 }
 
@@ -145,14 +124,11 @@ fn enabled_states(table: &[u32], a: Action) -> u32
     requires { (checked table.now ≡ Ok tt) × (a.0 < (game table.now).actions) }
     ensures { EnabledStates (game table.now) a.0 (game table.now).states result }
 {
-    let n = tables::states(table);
     let mut mask: u32 = 0;
-    let mut i: u32 = 0;
-    while i < n {
+    for i in 0..tables::states(table) {
         if safely_enabled(table, a, State(i)) {
             mask = mask | sets::single(i);
         }
-        i += 1;
     }
     mask
 }
@@ -164,50 +140,33 @@ fn first_family(table: &[u32], family: &mut [u64])
 {
     let actions = tables::actions(table);
     let mut masks = [0u32; MAX_ACTIONS as usize];
-    let mut a: u32 = 0;
-    while a < actions {
+    for a in 0..actions {
         masks[a as usize] = enabled_states(table, Action(a));
-        a += 1;
     }
     families::below(&masks[..actions as usize], tables::states(table), family);
 }
 
-// The two have the same words.
-fn same(first: &[u64], second: &[u64]) -> bool
-    requires { length first.now ≡ length second.now }
-    ensures { Same result first.now second.now }
-{
-    let mut i: usize = 0;
-    while i < first.len() {
-        if first[i] != second[i] {
-            return false;
-        }
-        i += 1;
-    }
-    true
-}
-
 // How the search ends: the families settled at k with the start sets in them, or a start set is not good for k.
-#[derive(Clone, Copy)]
+// (No Result: either end is an answer of the search, and none is an error.)
+#[derive(Clone, Copy, PartialEq, Eq, Debug)]
 pub enum Ended {
     Settled(u32),
     Lost(u32),
 }
 
 // Applies the step, from good for one round on, until a start set is lost or nothing changes.
-fn settle(table: &[u32], low: &[u32], high: &[u32], family: &mut [u64], next: &mut [u64]) -> Ended
-    requires { Ready table.now low.now high.now × Reached (game table.now) 1 family.old
-        × (length next.old ≡ length family.old) }
-    ensures { Searched (game table.now) result family.new }
+fn settle(moves: Moves, family: &mut [u64], next: &mut [u64]) -> Ended
+    requires { Reached (game moves.table.now) 1 family.old × (length next.old ≡ length family.old) }
+    ensures { Searched (game moves.entry.table.now) result family.new }
 {
     let mut k: u32 = 1;
     loop {
-        pass(table, low, high, family, next);
+        pass(moves, family, next);
         let round = k + 1;
-        if !starts_in(table, next) {
+        if !starts_in(moves.table, next) {
             return Ended::Lost(round);
         }
-        if same(family, next) {
+        if *family == *next {
             return Ended::Settled(k);
         }
         families::copy(next, family);
@@ -216,24 +175,18 @@ fn settle(table: &[u32], low: &[u32], high: &[u32], family: &mut [u64], next: &m
 }
 
 // The search: good for one round at once, then the step. `next` is scratch.
-pub fn search(
-    table: &[u32],
-    low: &[u32],
-    high: &[u32],
-    family: &mut [u64],
-    next: &mut [u64],
-) -> Ended
-    requires { Ready table.now low.now high.now
-        × (length family.old ≡ lanes (game table.now).states) × (length next.old ≡ length family.old) }
-    ensures { Searched (game table.now) result family.new }
+pub fn search(moves: Moves, family: &mut [u64], next: &mut [u64]) -> Ended
+    requires { (length family.old ≡ lanes (game moves.table.now).states)
+        × (length next.old ≡ length family.old) }
+    ensures { Searched (game moves.entry.table.now) result family.new }
 {
-    let all = sets::single(tables::states(table)) - 1;
-    first_family(table, family);
-    if !starts_in(table, family) {
+    let all = sets::single(tables::states(moves.table)) - 1;
+    first_family(moves.table, family);
+    if !starts_in(moves.table, family) {
         return Ended::Lost(1);
     }
     if families::has(family, all) {
         return Ended::Settled(0);
     }
-    settle(table, low, high, family, next)
+    settle(moves, family, next)
 }

@@ -1,12 +1,7 @@
 -- `search::enabled_states` meets its contract. The loop's invariant: the mask has just the states below i that are not bad and in which the action is enabled.
-use Prim.Native.Nat.{◌-◌, ◌≤◌}
-use Rattle.games.specs.Format.{max_states}
 use Rattle.games.specs.Words.{game}
 use Rattle.search.specs.Stages.{EnabledStates}
 use Rattle.search.proofs.enabled_states.Given as goal
 
 abbrev pub invariant-loop-i : goal.invariant-loop-i
-invariant-loop-i l = (l.n ≤ max_states) × (l.i ≤ l.n) × EnabledStates (game l.table) l.a.0 l.i l.mask
-
-abbrev pub decreases-loop-i : goal.decreases-loop-i
-decreases-loop-i l = l.n - l.i
+invariant-loop-i l = EnabledStates (game l.table) l.a.0 l.i l.mask

@@ -17,19 +17,22 @@ pub actions-actions-requires : goal.actions-actions-requires
 actions-actions-requires c = sized c.args.table.now c.requires.0
 
 pub loop-a-init : goal.loop-a-init
-loop-a-init c = (subst (λ (m : ℕ). m ≤ max_actions) (sym c.actions-actions.ensures) (few_actions c.args.table.now (sized c.args.table.now c.requires.0)), search rules, search rules, actions_none (game c.args.table.now) (replicate max_actions 0))
+loop-a-init c = (search rules, actions_none (game c.args.table.now) (replicate max_actions 0))
 
 pub enabled_states-requires : goal.enabled_states-requires
 enabled_states-requires c = (c.requires.0, omega arith)
 
+pub bounds-masks-a : goal.bounds-masks-a
+bounds-masks-a c = omega (arith, c.actions-actions.ensures, few_actions c.args.table.now (sized c.args.table.now c.requires.0))
+
 pub loop-a-preserved : goal.loop-a-preserved
-loop-a-preserved c = (c.loop-a.invariant.0, search rules, length-set c.loop-a.masks c.loop-a.a c.enabled_states.result ∙ c.loop-a.invariant.2, actions_more (game c.args.table.now) c.loop-a.masks c.loop-a.a c.enabled_states.result (omega (arith, c.loop-a.invariant.2)) c.enabled_states.ensures c.loop-a.invariant.3)
+loop-a-preserved c = (length-set c.loop-a.masks c.loop-a.a c.enabled_states.result ∙ c.loop-a.invariant.0, actions_more (game c.args.table.now) c.loop-a.masks c.loop-a.a c.enabled_states.result (omega (arith, c.loop-a.invariant.0, few_actions c.args.table.now (sized c.args.table.now c.requires.0), c.actions-actions.ensures)) c.enabled_states.ensures c.loop-a.invariant.1)
 
 pub slice_bounds-masks-end : goal.slice_bounds-masks-end
-slice_bounds-masks-end c = omega (arith, c.loop-a.invariant.2)
+slice_bounds-masks-end c = omega (arith, c.loop-a.invariant.0, few_actions c.args.table.now (sized c.args.table.now c.requires.0), c.actions-actions.ensures)
 
 pub slice_bounds-below-end : goal.slice_bounds-below-end
-slice_bounds-below-end c = sym (length-take-le _ _ (omega (arith, c.loop-a.invariant.2)))
+slice_bounds-below-end c = sym (length-take-le _ _ (omega (arith, c.loop-a.invariant.0, few_actions c.args.table.now (sized c.args.table.now c.requires.0), c.actions-actions.ensures)))
 
 pub states-requires : goal.states-requires
 states-requires c = sized c.args.table.now c.requires.0
@@ -40,8 +43,8 @@ below-requires c =
     let masks_of : List ℕ = take c.actions-actions.result c.loop-a.masks in
     let front : (length masks_of ≡ played.actions) × ByAction played played.actions masks_of = let g = played in
     let e : c.loop-a.a ≡ g.actions = omega arith in (
-      length-take-le _ _ (omega (arith, c.loop-a.invariant.2)) ∙ c.actions-actions.ensures,
-      subst (λ (n : ℕ). ByAction g g.actions (take n c.loop-a.masks)) (sym c.actions-actions.ensures) (actions_front g c.loop-a.masks (rw e at c.loop-a.invariant.3)),
+      length-take-le _ _ (omega (arith, c.loop-a.invariant.0, few_actions c.args.table.now (sized c.args.table.now c.requires.0), c.actions-actions.ensures)) ∙ c.actions-actions.ensures,
+      subst (λ (n : ℕ). ByAction g g.actions (take n c.loop-a.masks)) (sym c.actions-actions.ensures) (actions_front g c.loop-a.masks (rw e at c.loop-a.invariant.1)),
     ) in
     let f = front in
     record {
@@ -59,8 +62,8 @@ returns c =
     let masks_of : List ℕ = take c.actions-actions.result c.loop-a.masks in
     let front : (length masks_of ≡ played.actions) × ByAction played played.actions masks_of = let g = played in
     let e : c.loop-a.a ≡ g.actions = omega arith in (
-      length-take-le _ _ (omega (arith, c.loop-a.invariant.2)) ∙ c.actions-actions.ensures,
-      subst (λ (n : ℕ). ByAction g g.actions (take n c.loop-a.masks)) (sym c.actions-actions.ensures) (actions_front g c.loop-a.masks (rw e at c.loop-a.invariant.3)),
+      length-take-le _ _ (omega (arith, c.loop-a.invariant.0, few_actions c.args.table.now (sized c.args.table.now c.requires.0), c.actions-actions.ensures)) ∙ c.actions-actions.ensures,
+      subst (λ (n : ℕ). ByAction g g.actions (take n c.loop-a.masks)) (sym c.actions-actions.ensures) (actions_front g c.loop-a.masks (rw e at c.loop-a.invariant.1)),
     ) in
     let f = front in
     first_bits (game c.args.table.now) _ f.0 f.1 _ (rw c.states.ensures at c.below.ensures)

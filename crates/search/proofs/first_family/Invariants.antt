@@ -1,6 +1,5 @@
 -- `search::first_family` meets its contract. The loop's invariant: the first a masks are those of the actions below a.
 use mathlib.Core.Path.{◌≡◌}
-use Prim.Native.Nat.{◌-◌, ◌≤◌}
 use lib.ListN.{length}
 use Rattle.games.specs.Format.{max_actions}
 use Rattle.games.specs.Words.{game}
@@ -8,7 +7,4 @@ use Rattle.search.proofs.First.{ByAction}
 use Rattle.search.proofs.first_family.Given as goal
 
 abbrev pub invariant-loop-a : goal.invariant-loop-a
-invariant-loop-a l = (l.actions ≤ max_actions) × (l.a ≤ l.actions) × (length l.masks ≡ max_actions) × ByAction (game l.table) l.a l.masks
-
-abbrev pub decreases-loop-a : goal.decreases-loop-a
-decreases-loop-a l = l.actions - l.a
+invariant-loop-a l = (length l.masks ≡ max_actions) × ByAction (game l.table) l.a l.masks

@@ -1,4 +1,3 @@
-use borrow.Author.Rules.{rules}
 use mathlib.Core.Path.{◌≡◌, ◌∙◌}
 use native.Mathlib.Omega.{arith}
 use Rattle.sets.proofs.Bounded.{any_zero, any_more}
@@ -11,31 +10,31 @@ use Rattle.search.proofs.Turns.{step_bad, step_none, step_hit}
 use Rattle.search.proofs.meets_step.Goals as goal
 
 pub bad-requires : goal.bad-requires
-bad-requires c = sized c.args.table.now c.requires.0.fine
+bad-requires c = sized c.args.moves.table.now c.args.moves.ready.fine
 
 pub returns-then-s-bad-ne0 : goal.returns-then-s-bad-ne0
 returns-then-s-bad-ne0 c =
-    let g = game c.args.table.now in
+    let g = game c.args.moves.table.now in
     step_bad g (has c.args.family.now) c.args.s (rw c.bad.ensures at c.if-s-bad-ne0.true)
 
-pub actions-actions-requires : goal.actions-actions-requires
-actions-actions-requires c = sized c.args.table.now c.requires.0.fine
+pub actions-a-end-requires : goal.actions-a-end-requires
+actions-a-end-requires c = sized c.args.moves.table.now c.args.moves.ready.fine
 
 pub loop-a-init : goal.loop-a-init
-loop-a-init c = (search rules, any_zero _)
+loop-a-init c = any_zero _
 
 pub returns-then-action_meets : goal.returns-then-action_meets
 returns-then-action_meets c =
-    let g = game c.args.table.now in
+    let g = game c.args.moves.table.now in
     step_hit g (has c.args.family.now) c.args.s (rw c.bad.ensures at c.if-s-bad-ne0.false) c.loop-a.a (omega arith) (cc)
 
 pub loop-a-preserved : goal.loop-a-preserved
 loop-a-preserved c =
-    let g = game c.args.table.now in
-    (search rules, any_more c.loop-a.a (meets g (has c.args.family.now) c.args.s) ∙ or_false_intro c.loop-a.invariant.1 (cc))
+    let g = game c.args.moves.table.now in
+    (any_more c.loop-a.a (meets g (has c.args.family.now) c.args.s) ∙ or_false_intro c.loop-a.invariant (cc))
 
 pub returns : goal.returns
 returns c =
-    let g = game c.args.table.now in
+    let g = game c.args.moves.table.now in
     let e : c.loop-a.a ≡ g.actions = omega arith in
-    step_none g (has c.args.family.now) c.args.s (rw e at c.loop-a.invariant.1)
+    step_none g (has c.args.family.now) c.args.s (rw e at c.loop-a.invariant)

@@ -1,4 +1,3 @@
-use borrow.Author.Rules.{rules}
 use mathlib.Core.Path.{◌≡◌, sym, ◌∙◌}
 use native.Mathlib.Omega.{arith}
 use Rattle.sets.specs.Mask.{common}
@@ -18,11 +17,11 @@ has-requires c = rw c.requires.1.size (lane_there (game c.args.table.now).states
 pub returns-then-has : goal.returns-then-has
 returns-then-has c = shown_whole (game c.args.table.now) (has c.args.family.now) c.args.u c.requires.1.down (sym c.has.ensures ∙ c.if-has.true)
 
-pub observations-o-requires : goal.observations-o-requires
-observations-o-requires c = sized c.args.table.now c.requires.0
+pub observations-j-end-requires : goal.observations-j-end-requires
+observations-j-end-requires c = sized c.args.table.now c.requires.0
 
 pub loop-j-init : goal.loop-j-init
-loop-j-init c = (search rules, all_zero _)
+loop-j-init c = all_zero _
 
 pub shown-requires : goal.shown-requires
 shown-requires c = (sized c.args.table.now c.requires.0, omega arith)
@@ -36,14 +35,12 @@ returns-then-not-has c =
     (rw c.shown.ensures at (sym c.has-in-loop-j.ensures ∙ c.if-not-has.true))
 
 pub loop-j-preserved : goal.loop-j-preserved
-loop-j-preserved c = (
-  search rules,
-  all_more c.loop-j.j (λ i. has c.args.family.now (common c.args.u ((game c.args.table.now).shown i)))
-      ∙ and_intro c.loop-j.invariant.1 (rw c.shown.ensures at (sym c.has-in-loop-j.ensures ∙ c.if-not-has.false)),
-)
+loop-j-preserved c =
+    (all_more c.loop-j.j (λ i. has c.args.family.now (common c.args.u ((game c.args.table.now).shown i)))
+    ∙ and_intro c.loop-j.invariant (rw c.shown.ensures at (sym c.has-in-loop-j.ensures ∙ c.if-not-has.false)))
 
 pub returns : goal.returns
 returns c =
     let g = game c.args.table.now in
     let e : c.loop-j.j ≡ g.observations = omega arith in
-    shown_holds g (has c.args.family.now) c.args.u (rw e at c.loop-j.invariant.1)
+    shown_holds g (has c.args.family.now) c.args.u (rw e at c.loop-j.invariant)

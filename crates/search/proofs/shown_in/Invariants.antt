@@ -1,7 +1,6 @@
 -- `search::shown_in` meets its contract. The loop's invariant: for the observations below j, the states of u that show them form a set of the family.
 use mathlib.Core.Bool.{true}
 use mathlib.Core.Path.{◌≡◌}
-use Prim.Native.Nat.{◌≤◌, ◌-◌}
 use Rattle.sets.specs.Bounded.{all}
 use Rattle.sets.specs.Mask.{common}
 use Rattle.families.specs.Bits.{has}
@@ -9,7 +8,4 @@ use Rattle.games.specs.Words.{game}
 use Rattle.search.proofs.shown_in.Given as goal
 
 abbrev pub invariant-loop-j : goal.invariant-loop-j
-invariant-loop-j l = (l.j ≤ l.o) × (all l.j (λ i. has l.family (common l.u ((game l.table).shown i))) ≡ true)
-
-abbrev pub decreases-loop-j : goal.decreases-loop-j
-decreases-loop-j l = l.o - l.j
+invariant-loop-j l = all l.j (λ i. has l.family (common l.u ((game l.table).shown i))) ≡ true

@@ -1,4 +1,3 @@
-use borrow.Author.Rules.{rules}
 use mathlib.Core.Path.{◌≡◌, sym, ◌∙◌}
 use native.Mathlib.Omega.{arith}
 use Rattle.sets.proofs.Bounded.{all_zero, all_more}
@@ -11,11 +10,11 @@ use Rattle.games.proofs.Starts.{start_below, starts_passed, starts_stop}
 use Rattle.tables.proofs.Checks.{sized, accepted}
 use Rattle.search.proofs.starts_in.Goals as goal
 
-pub start_sets-starts-requires : goal.start_sets-starts-requires
-start_sets-starts-requires c = sized c.args.table.now c.requires.0
+pub start_sets-j-end-requires : goal.start_sets-j-end-requires
+start_sets-j-end-requires c = sized c.args.table.now c.requires.0
 
 pub loop-j-init : goal.loop-j-init
-loop-j-init c = (search rules, all_zero _)
+loop-j-init c = all_zero _
 
 pub start_set-requires : goal.start_set-requires
 start_set-requires c = (sized c.args.table.now c.requires.0, omega arith)
@@ -31,14 +30,12 @@ returns-then-not-has c =
     (rw c.start_set.ensures at (sym c.has.ensures ∙ c.if-not-has.true)))
 
 pub loop-j-preserved : goal.loop-j-preserved
-loop-j-preserved c = (
-  search rules,
-  all_more c.loop-j.j (λ i. has c.args.family.now (start_set (game c.args.table.now) i))
-      ∙ and_intro c.loop-j.invariant.1 (rw c.start_set.ensures at (sym c.has.ensures ∙ c.if-not-has.false)),
-)
+loop-j-preserved c =
+    (all_more c.loop-j.j (λ i. has c.args.family.now (start_set (game c.args.table.now) i))
+    ∙ and_intro c.loop-j.invariant (rw c.start_set.ensures at (sym c.has.ensures ∙ c.if-not-has.false)))
 
 pub returns : goal.returns
 returns c =
     let g = game c.args.table.now in
     let e : c.loop-j.j ≡ start_sets g = omega arith in
-    sym (starts_passed g (has c.args.family.now) (rw e at c.loop-j.invariant.1))
+    sym (starts_passed g (has c.args.family.now) (rw e at c.loop-j.invariant))
