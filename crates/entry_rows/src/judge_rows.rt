@@ -1,95 +1,111 @@
 // The plain judge: L, refusals 17 and 5 behind the table's.
 use judge::Judged;
-use rows::print::say;
-use rows::stations::{A, changed_a};
-use rows::{print, stations};
+use rows::print::{Refused, Told};
+use rows::stations::{self, A, Change, changed};
+use std::fmt::{self, Display};
 use std::io;
 
-pub fn judge(rt: &impl Print, name: &[u8], table: &[u32], mask: u32, k: u32) -> io::Result<()> {
-    say(rt, b"judge ")?;
-    say(rt, name)?;
-    say(rt, b" mask ")?;
-    print::decimal(rt, mask as u64)?;
-    say(rt, b" k ")?;
-    print::decimal(rt, k as u64)?;
-    match judge::judge(table, mask, k) {
-        Judged::Good => say(rt, b": good")?,
-        Judged::NotGood => say(rt, b": not good")?,
-        Judged::Refused(number, place) => print::refusal(rt, number, place)?,
+// Whether the set is good.
+#[derive(Clone, Copy)]
+struct IsGood(bool);
+
+impl Display for IsGood {
+    fn fmt<W: fmt::Write>(&self, f: &mut fmt::Formatter<W>) -> fmt::Result {
+        f.write_str(if self.0 { "good" } else { "not good" })
     }
-    say(rt, b"\n")
 }
 
-fn judge_a(rt: &impl Print, mask: u32, k: u32) -> io::Result<()> {
-    judge(rt, b"A", &A, mask, k)
+fn judged(answer: Judged) -> Told<IsGood> {
+    match answer {
+        Judged::Good => Told(Ok(IsGood(true))),
+        Judged::NotGood => Told(Ok(IsGood(false))),
+        Judged::Refused(number, place) => Told(Err(Refused(number, place))),
+    }
+}
+
+pub fn judge(
+    rt: &impl Print,
+    name: impl Display + Drop,
+    table: &[u32],
+    mask: u32,
+    k: u32,
+) -> io::Result<()> {
+    let answer = judged(judge::judge(table, mask, k));
+    println!(rt; "judge {name} mask {mask} k {k}: {answer}")
+}
+
+// Masks, and numbers of moves.
+pub fn judge_each(
+    rt: &impl Print,
+    name: &str,
+    table: &[u32],
+    asked: &[(u32, u32)],
+) -> io::Result<()> {
+    for (mask, k) in asked {
+        judge(rt, name, table, *mask, *k)?;
+    }
+    Ok(())
 }
 
 // A's lists: (7), (3), (1 2).
 fn station_a(rt: &impl Print) -> io::Result<()> {
-    judge_a(rt, 3, 1)?;
-    judge_a(rt, 3, 2)?;
-    judge_a(rt, 7, 0)?;
-    judge_a(rt, 7, 1)?;
-    judge_a(rt, 4, 1)?;
-    judge_a(rt, 1, 2)?;
-    judge_a(rt, 2, 2)?;
-    judge_a(rt, 1, 4)?;
-    judge_a(rt, 2, 4)?;
-    judge_a(rt, 0, 4)
-}
-
-fn judge_c(rt: &impl Print, mask: u32, k: u32) -> io::Result<()> {
-    judge(rt, b"C", &stations::C, mask, k)
-}
-
-fn judge_d(rt: &impl Print, k: u32) -> io::Result<()> {
-    judge(rt, b"D", &stations::D, 1, k)
-}
-
-fn judge_g(rt: &impl Print, k: u32) -> io::Result<()> {
-    judge(rt, b"G", &stations::G, 1, k)
-}
-
-fn judge_h(rt: &impl Print, mask: u32, k: u32) -> io::Result<()> {
-    judge(rt, b"H", &stations::H, mask, k)
-}
-
-fn judge_12(rt: &impl Print, mask: u32, k: u32) -> io::Result<()> {
-    judge(rt, b"n 12", &stations::STATES_12, mask, k)
+    judge_each(
+        rt,
+        "A",
+        &A,
+        &[
+            (3, 1),
+            (3, 2),
+            (7, 0),
+            (7, 1),
+            (4, 1),
+            (1, 2),
+            (2, 2),
+            (1, 4),
+            (2, 4),
+            (0, 4),
+        ],
+    )
 }
 
 fn stations(rt: &impl Print) -> io::Result<()> {
-    judge_c(rt, 3, 1)?;
-    judge_c(rt, 3, 2)?;
-    judge_c(rt, 1, 4)?;
-    judge_c(rt, 2, 4)?;
-    judge_d(rt, 0)?;
-    judge_d(rt, 1)?;
-    judge(rt, b"E", &stations::E, 1, 1)?;
-    judge(rt, b"F", &stations::F, 1, 4)?;
-    judge_g(rt, 3)?;
-    judge_g(rt, 4)?;
-    judge_h(rt, 1, 2)?;
-    judge_h(rt, 3, 2)?;
-    judge_12(rt, 4095, 4)?;
-    judge_12(rt, 4096, 4)
+    judge_each(rt, "C", &stations::C, &[(3, 1), (3, 2), (1, 4), (2, 4)])?;
+    judge_each(rt, "D", &stations::D, &[(1, 0), (1, 1)])?;
+    judge(rt, "E", &stations::E, 1, 1)?;
+    judge(rt, "F", &stations::F, 1, 4)?;
+    judge_each(rt, "G", &stations::G, &[(1, 3), (1, 4)])?;
+    judge_each(rt, "H", &stations::H, &[(1, 2), (3, 2)])?;
+    judge_each(rt, "n 12", &stations::STATES_12, &[(4095, 4), (4096, 4)])
 }
 
 // Refusals 17 and 5.
 fn refusals(rt: &impl Print) -> io::Result<()> {
-    judge_a(rt, 1, 5)?;
-    judge_a(rt, 1, 4294967295)?;
-    judge_a(rt, 8, 4)?;
-    judge_a(rt, 8, 0)?;
-    judge_a(rt, 4294967295, 4)?;
-    judge_a(rt, 8, 5)
+    judge_each(
+        rt,
+        "A",
+        &A,
+        &[
+            (1, 5),
+            (1, 4294967295),
+            (8, 4),
+            (8, 0),
+            (4294967295, 4),
+            (8, 5),
+        ],
+    )
 }
 
 fn refused_tables(rt: &impl Print) -> io::Result<()> {
-    judge(rt, b"no words", &[], 1, 1)?;
-    judge(rt, b"n 13", &stations::STATES_13, 1, 1)?;
-    let wide = changed_a(2, 0x30000008, 2, 0x30000008);
-    judge(rt, b"A with 30000008 at 2", &wide, 8, 9)
+    judge(rt, "no words", &[], 1, 1)?;
+    judge(rt, "n 13", &stations::STATES_13, 1, 1)?;
+    let wide = Change(2, 0x30000008);
+    judge(
+        rt,
+        format_args!("A with {wide}"),
+        &changed(A, &[wide]),
+        8,
+        9,
+    )
 }
 
 pub fn rows(rt: &impl Print) -> io::Result<()> {

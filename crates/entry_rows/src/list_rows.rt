@@ -1,140 +1,134 @@
 // Join and meet of mask lists: refusals 2, 5 and 15.
-use rows::print;
-use rows::print::say;
+use games::Written;
+use rows::print::{self, Numbers, Words};
 use rows::stations::GUARD;
 use std::io;
 
-fn print_call(
+// Two lists over so many states.
+#[derive(Clone, Copy)]
+struct Lists<'a>(u32, &'a [u32], &'a [u32]);
+
+// What an operation on two lists answers, and what it leaves in the buffer.
+fn combine<F: Fn(u32, &[u32], &[u32], &mut [u32]) -> Written>(
     rt: &impl Print,
-    n: u32,
-    first: &[u32],
-    second: &[u32],
-    words: usize,
-) -> io::Result<()> {
-    print::decimal(rt, n as u64)?;
-    say(rt, b" ")?;
-    print::numbers(rt, first)?;
-    say(rt, b" ")?;
-    print::numbers(rt, second)?;
-    say(rt, b" into ")?;
-    print::decimal(rt, words as u64)
+    name: &str,
+    operation: F,
+    lists: Lists,
+    out: &mut [u32],
+) -> io::Result<()>
+    requires { F.IsAlwaysCallable operation }
+{
+    let Lists(n, first, second) = lists;
+    let room = out.len();
+    let answer = print::written(operation(n, first, second, out));
+    let first = Numbers(first);
+    let second = Numbers(second);
+    let words = Words(out);
+    println!(rt; "{name} {n} {first} {second} into {room}: {answer} {words}")
 }
 
-fn join(rt: &impl Print, n: u32, first: &[u32], second: &[u32], out: &mut [u32]) -> io::Result<()> {
-    say(rt, b"join ")?;
-    print_call(rt, n, first, second, out.len())?;
-    print::written(rt, lists::join(n, first, second, out))?;
-    print::room(rt, out)
+fn join(rt: &impl Print, lists: Lists, out: &mut [u32]) -> io::Result<()> {
+    combine(rt, "join", lists::join, lists, out)
 }
 
-fn meet(rt: &impl Print, n: u32, first: &[u32], second: &[u32], out: &mut [u32]) -> io::Result<()> {
-    say(rt, b"meet ")?;
-    print_call(rt, n, first, second, out.len())?;
-    print::written(rt, lists::meet(n, first, second, out))?;
-    print::room(rt, out)
+fn meet(rt: &impl Print, lists: Lists, out: &mut [u32]) -> io::Result<()> {
+    combine(rt, "meet", lists::meet, lists, out)
 }
 
-fn join_3(rt: &impl Print, n: u32, first: &[u32], second: &[u32]) -> io::Result<()> {
-    let mut out = [GUARD; 3];
-    join(rt, n, first, second, &mut out)
+fn join_3(rt: &impl Print, lists: Lists) -> io::Result<()> {
+    join(rt, lists, &mut [GUARD; 3])
 }
 
-fn meet_3(rt: &impl Print, n: u32, first: &[u32], second: &[u32]) -> io::Result<()> {
-    let mut out = [GUARD; 3];
-    meet(rt, n, first, second, &mut out)
-}
-
-// Two lists of one mask each.
-fn join_ones(rt: &impl Print, n: u32, x: u32, y: u32) -> io::Result<()> {
-    let first = [x];
-    let second = [y];
-    join_3(rt, n, &first, &second)
-}
-
-fn meet_ones(rt: &impl Print, n: u32, x: u32, y: u32) -> io::Result<()> {
-    let first = [x];
-    let second = [y];
-    meet_3(rt, n, &first, &second)
+fn meet_3(rt: &impl Print, lists: Lists) -> io::Result<()> {
+    meet(rt, lists, &mut [GUARD; 3])
 }
 
 // J and K.
 fn stations(rt: &impl Print) -> io::Result<()> {
-    join_3(rt, 2, &[1, 2], &[3])?;
-    meet_3(rt, 3, &[3], &[1, 6])
+    join_3(rt, Lists(2, &[1, 2], &[3]))?;
+    meet_3(rt, Lists(3, &[3], &[1, 6]))
 }
 
 // Refusal 15, and a buffer that is just long enough.
 fn rooms(rt: &impl Print) -> io::Result<()> {
     let mut one = [GUARD; 1];
-    join(rt, 2, &[1], &[2], &mut one)?;
-    meet(rt, 2, &[3], &[1, 2], &mut one)?;
-    let mut two = [GUARD; 2];
-    join(rt, 2, &[1], &[2], &mut two)?;
-    join(rt, 2, &[1], &[2], &mut [])
-}
-
-fn meet_rooms(rt: &impl Print) -> io::Result<()> {
-    let mut two = [GUARD; 2];
-    meet(rt, 2, &[3], &[1, 2], &mut two)?;
-    meet(rt, 2, &[3], &[1, 2], &mut [])
+    join(rt, Lists(2, &[1], &[2]), &mut one)?;
+    meet(rt, Lists(2, &[3], &[1, 2]), &mut one)?;
+    join(rt, Lists(2, &[1], &[2]), &mut [GUARD; 2])?;
+    join(rt, Lists(2, &[1], &[2]), &mut [])?;
+    meet(rt, Lists(2, &[3], &[1, 2]), &mut [GUARD; 2])?;
+    meet(rt, Lists(2, &[3], &[1, 2]), &mut [])
 }
 
 // Empty lists, and the list of the empty set.
 fn empty(rt: &impl Print) -> io::Result<()> {
-    join_3(rt, 3, &[], &[])?;
-    meet_3(rt, 3, &[], &[])?;
-    join_3(rt, 3, &[], &[3])?;
-    meet_3(rt, 3, &[3], &[])?;
-    meet_3(rt, 3, &[], &[3])?;
-    join_3(rt, 3, &[0], &[])?;
-    meet_ones(rt, 3, 0, 3)?;
-    meet_ones(rt, 3, 1, 2)
+    join_3(rt, Lists(3, &[], &[]))?;
+    meet_3(rt, Lists(3, &[], &[]))?;
+    join_3(rt, Lists(3, &[], &[3]))?;
+    meet_3(rt, Lists(3, &[3], &[]))?;
+    meet_3(rt, Lists(3, &[], &[3]))?;
+    join_3(rt, Lists(3, &[0], &[]))?;
+    meet_3(rt, Lists(3, &[0], &[3]))?;
+    meet_3(rt, Lists(3, &[1], &[2]))
 }
 
 // Lists that are not ascending, or with repeats.
 fn unordered(rt: &impl Print) -> io::Result<()> {
-    join_3(rt, 2, &[2, 1, 2], &[1])?;
-    meet_3(rt, 3, &[6, 3, 3], &[5, 7])
+    join_3(rt, Lists(2, &[2, 1, 2], &[1]))?;
+    meet_3(rt, Lists(3, &[6, 3, 3], &[5, 7]))
 }
 
-// Widths and masks just inside and just outside.
-fn limits(rt: &impl Print) -> io::Result<()> {
-    join_ones(rt, 1, 1, 0)?;
-    join_ones(rt, 1, 2, 0)?;
-    join_ones(rt, 12, 4095, 1)?;
-    join_ones(rt, 12, 4096, 1)?;
-    join_ones(rt, 0, 0, 0)?;
-    join_ones(rt, 13, 1, 2)?;
-    join_ones(rt, 4294967295, 1, 2)?;
-    meet_ones(rt, 1, 1, 1)?;
-    meet_ones(rt, 1, 1, 2)?;
-    meet_ones(rt, 12, 4095, 2048)?;
-    meet_ones(rt, 12, 4095, 4294967295)?;
-    meet_ones(rt, 0, 0, 0)?;
-    meet_ones(rt, 13, 1, 2)
+// Widths and masks just inside and just outside, with a mask in each list.
+fn join_limits(rt: &impl Print) -> io::Result<()> {
+    for (n, x, y) in [
+        (1, 1, 0),
+        (1, 2, 0),
+        (12, 4095, 1),
+        (12, 4096, 1),
+        (0, 0, 0),
+        (13, 1, 2),
+        (4294967295, 1, 2),
+    ] {
+        join_3(rt, Lists(n, &[x], &[y]))?;
+    }
+    Ok(())
+}
+
+fn meet_limits(rt: &impl Print) -> io::Result<()> {
+    for (n, x, y) in [
+        (1, 1, 1),
+        (1, 1, 2),
+        (12, 4095, 2048),
+        (12, 4095, 4294967295),
+        (0, 0, 0),
+        (13, 1, 2),
+    ] {
+        meet_3(rt, Lists(n, &[x], &[y]))?;
+    }
+    Ok(())
 }
 
 // 2 before 5; the second list is counted on after the first.
 fn order(rt: &impl Print) -> io::Result<()> {
-    join_ones(rt, 13, 8192, 0)?;
-    join_ones(rt, 2, 4, 8)?;
-    join_3(rt, 2, &[1], &[2, 4])?;
-    meet_3(rt, 2, &[1], &[2, 4])
+    join_3(rt, Lists(13, &[8192], &[0]))?;
+    join_3(rt, Lists(2, &[4], &[8]))?;
+    join_3(rt, Lists(2, &[1], &[2, 4]))?;
+    meet_3(rt, Lists(2, &[1], &[2, 4]))
 }
 
 // 5 before 15.
 fn short(rt: &impl Print) -> io::Result<()> {
-    join(rt, 2, &[1, 2], &[4], &mut [])?;
-    meet(rt, 2, &[1, 2], &[3, 4], &mut [])
+    join(rt, Lists(2, &[1, 2], &[4]), &mut [])?;
+    meet(rt, Lists(2, &[1, 2], &[3, 4]), &mut [])
 }
 
 pub fn rows(rt: &impl Print) -> io::Result<()> {
     stations(rt)?;
     rooms(rt)?;
-    meet_rooms(rt)?;
     empty(rt)?;
     unordered(rt)?;
-    limits(rt)?;
+    join_limits(rt)?;
+    meet_limits(rt)?;
     order(rt)?;
     short(rt)
 }

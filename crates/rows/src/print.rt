@@ -1,121 +1,117 @@
-// Printing on standard output.
+// What the rows print: words, lists, and what an entry answers.
 use games::{Checked, Written};
-use std::io;
+use std::fmt::{self, Display};
 
-pub fn say(rt: &impl Print, text: &[u8]) -> io::Result<()> {
-    rt.write_all(text)
-}
+// A word, as eight hexadecimal digits.
+#[derive(Clone, Copy)]
+pub struct Word(pub u32);
 
-pub fn decimal(rt: &impl Print, n: u64) -> io::Result<()> {
-    rt.print(n)
-}
-
-fn digit(d: u32) -> u8 {
-    if d < 10 {
-        48 + d as u8
-    } else {
-        55 + (d % 16) as u8
+impl Display for Word {
+    fn fmt<W: fmt::Write>(&self, f: &mut fmt::Formatter<W>) -> fmt::Result {
+        let word = self.0;
+        write!(f, "{word:08X}")
     }
 }
 
-// Eight hexadecimal digits, as document 01 writes a word.
-pub fn word(rt: &impl Print, w: u32) -> io::Result<()> {
-    let text = [
-        digit(w / 268435456),
-        digit(w / 16777216 % 16),
-        digit(w / 1048576 % 16),
-        digit(w / 65536 % 16),
-        digit(w / 4096 % 16),
-        digit(w / 256 % 16),
-        digit(w / 16 % 16),
-        digit(w % 16),
-    ];
-    say(rt, &text)
-}
-
-// The item at a place of a list.
-fn item(rt: &impl Print, place: usize, w: u32, is_hex: bool) -> io::Result<()> {
-    if 0 < place {
-        say(rt, b" ")?;
-    }
-    if is_hex {
-        word(rt, w)
-    } else {
-        decimal(rt, w as u64)
-    }
-}
-
-fn items(rt: &impl Print, list: &[u32], is_hex: bool) -> io::Result<()> {
-    let mut i = 0;
-    while i < list.len() {
-        item(rt, i, list[i], is_hex)?;
-        i += 1;
+// The items of a list, with a space between them.
+fn spaced<W: fmt::Write, T: Display + Drop, F: Fn(u32) -> T>(
+    f: &mut fmt::Formatter<W>,
+    list: &[u32],
+    shown: F,
+) -> fmt::Result
+    requires { F.IsAlwaysCallable shown }
+{
+    for (i, item) in list.iter().enumerate() {
+        if 0 < i {
+            f.write_str(" ")?;
+        }
+        f.write(shown(*item))?;
     }
     Ok(())
 }
 
-// Numbers, as (1 2).
-pub fn numbers(rt: &impl Print, list: &[u32]) -> io::Result<()> {
-    say(rt, b"(")?;
-    items(rt, list, false)?;
-    say(rt, b")")
-}
+// A list of numbers, as (1 2).
+#[derive(Clone, Copy)]
+pub struct Numbers<'a>(pub &'a [u32]);
 
-// All words of a buffer, and the line's end.
-pub fn room(rt: &impl Print, words: &[u32]) -> io::Result<()> {
-    say(rt, b" [")?;
-    items(rt, words, true)?;
-    say(rt, b"]\n")
-}
-
-fn placed(rt: &impl Print, place: usize, w: u32) -> io::Result<()> {
-    word(rt, w)?;
-    say(rt, b" at ")?;
-    decimal(rt, place as u64)
-}
-
-// " with 30000001 at 1"
-pub fn change(rt: &impl Print, place: usize, w: u32) -> io::Result<()> {
-    say(rt, b" with ")?;
-    placed(rt, place, w)
-}
-
-// ", 30000001 at 1"
-pub fn replaced(rt: &impl Print, place: usize, w: u32) -> io::Result<()> {
-    say(rt, b", ")?;
-    placed(rt, place, w)
-}
-
-pub fn refusal(rt: &impl Print, number: u32, place: usize) -> io::Result<()> {
-    say(rt, b": refused ")?;
-    decimal(rt, number as u64)?;
-    say(rt, b" ")?;
-    decimal(rt, place as u64)
-}
-
-// What a check answers.
-pub fn checked(rt: &impl Print, answer: Checked) -> io::Result<()> {
-    match answer {
-        Checked::Fine => say(rt, b": fine"),
-        Checked::Refused(number, place) => refusal(rt, number, place),
+impl Display for Numbers<'_> {
+    fn fmt<W: fmt::Write>(&self, f: &mut fmt::Formatter<W>) -> fmt::Result {
+        f.write_str("(")?;
+        spaced(f, self.0, |n| n)?;
+        f.write_str(")")
     }
 }
 
-// The same, and the line's end.
-pub fn answer(rt: &impl Print, answer: Checked) -> io::Result<()> {
-    checked(rt, answer)?;
-    say(rt, b"\n")
+// All words of a buffer, as [00000001 00000002].
+#[derive(Clone, Copy)]
+pub struct Words<'a>(pub &'a [u32]);
+
+impl Display for Words<'_> {
+    fn fmt<W: fmt::Write>(&self, f: &mut fmt::Formatter<W>) -> fmt::Result {
+        f.write_str("[")?;
+        spaced(f, self.0, Word)?;
+        f.write_str("]")
+    }
 }
 
-pub fn wrote(rt: &impl Print, count: usize) -> io::Result<()> {
-    say(rt, b": wrote ")?;
-    decimal(rt, count as u64)
+// Why an entry refuses, and where.
+#[derive(Clone, Copy)]
+pub struct Refused(pub u32, pub usize);
+
+impl Display for Refused {
+    fn fmt<W: fmt::Write>(&self, f: &mut fmt::Formatter<W>) -> fmt::Result {
+        let number = self.0;
+        let place = self.1;
+        write!(f, "refused {number} {place}")
+    }
+}
+
+// What an entry answers.
+#[derive(Clone, Copy)]
+pub struct Told<T>(pub Result<T, Refused>);
+
+impl<T: Display> Display for Told<T> {
+    fn fmt<W: fmt::Write>(&self, f: &mut fmt::Formatter<W>) -> fmt::Result {
+        match &self.0 {
+            Ok(answer) => write!(f, "{answer}"),
+            Err(refusal) => write!(f, "{refusal}"),
+        }
+    }
+}
+
+// That a table or a card is fine.
+#[derive(Clone, Copy)]
+pub struct Fine;
+
+impl Display for Fine {
+    fn fmt<W: fmt::Write>(&self, f: &mut fmt::Formatter<W>) -> fmt::Result {
+        f.write_str("fine")
+    }
+}
+
+// How many words or bytes were written.
+#[derive(Clone, Copy)]
+pub struct Wrote(pub usize);
+
+impl Display for Wrote {
+    fn fmt<W: fmt::Write>(&self, f: &mut fmt::Formatter<W>) -> fmt::Result {
+        let count = self.0;
+        write!(f, "wrote {count}")
+    }
+}
+
+// What a check answers.
+pub fn checked(answer: Checked) -> Told<Fine> {
+    match answer {
+        Checked::Fine => Told(Ok(Fine)),
+        Checked::Refused(number, place) => Told(Err(Refused(number, place))),
+    }
 }
 
 // What a writer answers.
-pub fn written(rt: &impl Print, answer: Written) -> io::Result<()> {
+pub fn written(answer: Written) -> Told<Wrote> {
     match answer {
-        Written::Words(count) => wrote(rt, count),
-        Written::Refused(number, place) => refusal(rt, number, place),
+        Written::Words(count) => Told(Ok(Wrote(count))),
+        Written::Refused(number, place) => Told(Err(Refused(number, place))),
     }
 }

@@ -1,5 +1,6 @@
 // The stations of document 01, their cards, stations with parked states, and tables at the limits.
-ghost use Rattle.std.specs.Prelude.{◌≡◌, length};
+use crate::print::Word;
+use std::fmt::{self, Display};
 
 // What a lent buffer holds before a call.
 pub const GUARD: u32 = 0xEEEEEEEE;
@@ -32,6 +33,18 @@ pub const G: [u32; 8] = [
 pub const H: [u32; 11] = [
     0x10020203, 0x20000003, 0x30000004, 0x40000003, 0x40010006, 0x50000002, 0x50010000, 0x50020004,
     0x50100004, 0x50110001, 0x50120004,
+];
+
+// The stations by name.
+pub const STATIONS: [(&str, &[u32]); 8] = [
+    ("A", &A),
+    ("B", &B),
+    ("C", &C),
+    ("D", &D),
+    ("E", &E),
+    ("F", &F),
+    ("G", &G),
+    ("H", &H),
 ];
 
 // A with the bit for parked states, and none parked.
@@ -127,32 +140,33 @@ pub const F_CARD: [u32; 4] = [0x80110001, 0x90000000, 0xA0000001, 0xB0000000];
 
 pub const STATES_12_CARD: [u32; 4] = [0x80110001, 0x90000000, 0xA0000FFF, 0xB0000000];
 
-// One word changed.
-pub fn change(words: &mut [u32], place: usize, word: u32) {
-    if place < words.len() {
-        words[place] = word;
+// A word, and the place where it is put.
+#[derive(Clone, Copy)]
+pub struct Change(pub usize, pub u32);
+
+impl Change {
+    // Puts the word where there is such a place.
+    pub fn make(self, words: &mut [u32]) {
+        if let Some(word) = words.get_mut(self.0) {
+            *word = self.1;
+        }
     }
 }
 
-// A with one word changed, and then another.
-pub fn changed_a(place: usize, word: u32, other: usize, second: u32) -> [u32; 10]
-    ensures { 10 ≡ length result }
-{
-    let mut table = A;
-    if place < 10 && other < 10 {
-        table[place] = word;
-        table[other] = second;
+// As 30000001 at 1.
+impl Display for Change {
+    fn fmt<W: fmt::Write>(&self, f: &mut fmt::Formatter<W>) -> fmt::Result {
+        let place = self.0;
+        let word = Word(self.1);
+        write!(f, "{word} at {place}")
     }
-    table
 }
 
-// A's card with one word changed.
-pub fn changed_card(place: usize, word: u32) -> [u32; 6]
-    ensures { 6 ≡ length result }
-{
-    let mut card = A_CARD;
-    if place < 6 {
-        card[place] = word;
+// A table or a card with some words changed, one after the other.
+pub fn changed<const N: usize>(words: [u32; N], changes: &[Change]) -> [u32; N] {
+    let mut result = words;
+    for change in changes {
+        change.make(&mut result);
     }
-    card
+    result
 }
