@@ -1,7 +1,7 @@
 // A card's words, its opening and its steps: refusals 13, 12 and 14.
-use cards::{Move, Stood};
-use games::{Action, Cell, Observation};
-use rows::print::{self, Refused, Told};
+use cards::{Entered, Stood};
+use games::{Cell, Observation};
+use rows::print::{self, Told};
 use rows::stations::{A_CARD, C_CARD, Change, changed};
 use std::fmt::{self, Display};
 use std::io;
@@ -13,20 +13,13 @@ fn check(rt: &impl Print, name: impl Display + Drop, card: &[u32]) -> io::Result
 
 // The cell that was entered, and its action.
 #[derive(Clone, Copy)]
-struct Entered(Cell, Action);
+struct In(Entered);
 
-impl Display for Entered {
+impl Display for In {
     fn fmt<W: fmt::Write>(&self, f: &mut fmt::Formatter<W>) -> fmt::Result {
-        let cell = self.0.0;
-        let action = self.1.0;
+        let cell = self.0.cell.0;
+        let action = self.0.action.0;
         write!(f, "cell {cell} action {action}")
-    }
-}
-
-fn answered(answer: Move) -> Told<Entered> {
-    match answer {
-        Move::Entered(cell, action) => Told(Ok(Entered(cell, action))),
-        Move::Refused(number, place) => Told(Err(Refused(number, place))),
     }
 }
 
@@ -36,7 +29,7 @@ pub struct Standing(pub Stood);
 
 impl Display for Standing {
     fn fmt<W: fmt::Write>(&self, f: &mut fmt::Formatter<W>) -> fmt::Result {
-        let answer = answered(self.0.answer);
+        let answer = Told(self.0.answer.map(In));
         let cell = self.0.cell.0;
         write!(f, "{answer}, now in {cell}")
     }

@@ -1,6 +1,5 @@
 // The plain judge: L, refusals 17 and 5 behind the table's.
-use judge::Judged;
-use rows::print::{Refused, Told};
+use rows::print::Told;
 use rows::stations::{self, A, Change, changed};
 use std::fmt::{self, Display};
 use std::io;
@@ -15,14 +14,6 @@ impl Display for IsGood {
     }
 }
 
-fn judged(answer: Judged) -> Told<IsGood> {
-    match answer {
-        Judged::Good => Told(Ok(IsGood(true))),
-        Judged::NotGood => Told(Ok(IsGood(false))),
-        Judged::Refused(number, place) => Told(Err(Refused(number, place))),
-    }
-}
-
 pub fn judge(
     rt: &impl Print,
     name: impl Display + Drop,
@@ -30,7 +21,7 @@ pub fn judge(
     mask: u32,
     k: u32,
 ) -> io::Result<()> {
-    let answer = judged(judge::judge(table, mask, k));
+    let answer = Told(judge::judge(table, mask, k).map(IsGood));
     println!(rt; "judge {name} mask {mask} k {k}: {answer}")
 }
 

@@ -1,5 +1,5 @@
 // Join and meet of mask lists: refusals 2, 5 and 15.
-use games::Written;
+use games::Refusal;
 use rows::print::{self, Numbers, Words};
 use rows::stations::GUARD;
 use std::io;
@@ -9,7 +9,7 @@ use std::io;
 struct Lists<'a>(u32, &'a [u32], &'a [u32]);
 
 // What an operation on two lists answers, and what it leaves in the buffer.
-fn combine<F: Fn(u32, &[u32], &[u32], &mut [u32]) -> Written>(
+fn combine<F: Fn(u32, &[u32], &[u32], &mut [u32]) -> Result<usize, Refusal>>(
     rt: &impl Print,
     name: &str,
     operation: F,

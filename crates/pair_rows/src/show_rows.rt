@@ -1,27 +1,19 @@
 // Show: the move words of a cell's action, and refusals 13, 16 and 12 behind the table's.
 use games::Cell;
-use rows::print::{Refused, Told, Words};
+use rows::print::{Told, Words};
 use rows::stations::{self, A, A_CARD, C, C_CARD, Change, changed};
-use show::Shown;
+use show::Part;
 use std::fmt::{self, Display};
 use std::io;
 
 // Where the part of the table begins, and how many words it has.
 #[derive(Clone, Copy)]
-struct Part(usize, usize);
+struct Found(Part);
 
-impl Display for Part {
+impl Display for Found {
     fn fmt<W: fmt::Write>(&self, f: &mut fmt::Formatter<W>) -> fmt::Result {
-        let at = self.0;
-        let count = self.1;
-        write!(f, "part {at} {count}")
-    }
-}
-
-fn found(answer: Shown) -> Told<Part> {
-    match answer {
-        Shown::Part(at, count) => Told(Ok(Part(at, count))),
-        Shown::Refused(number, place) => Told(Err(Refused(number, place))),
+        let Part { offset, length } = self.0;
+        write!(f, "part {offset} {length}")
     }
 }
 
@@ -32,7 +24,7 @@ pub fn show(
     card: &[u32],
     cell: u32,
 ) -> io::Result<()> {
-    let answer = found(show::find(table, card, Cell(cell)));
+    let answer = Told(show::find(table, card, Cell(cell)).map(Found));
     let words = Words(show::show(table, card, Cell(cell)));
     println!(rt; "show {name} cell {cell}: {answer} {words}")
 }

@@ -1,4 +1,4 @@
-// Runs the rows for parked states (document 02, change 2) and prints what each entry answers and leaves in its buffers.
+// Runs the rows for parked states and prints what each entry answers and leaves in its buffers.
 #![tactic(auto)]
 
 mod answer_rows;

@@ -28,9 +28,8 @@ impl Display for Printed {
 }
 
 pub fn read(rt: &impl Print, name: impl Display + Drop, table: &[u32]) -> io::Result<()> {
-    let r = fields::read(table);
-    let answer = print::checked(r.answer);
-    let printed = Printed(r.fields);
+    let answer = print::checked(tables::check(table));
+    let printed = Printed(fields_of(table));
     println!(rt; "read {name}: {answer} {printed}")
 }
 
@@ -55,9 +54,21 @@ pub fn write(
     println!(rt; "write {name} into {room}: {answer} {words}")
 }
 
+// Beside a refused read all fields are 0.
+const NO_FIELDS: Fields = Fields {
+    states: 0,
+    actions: 0,
+    observations: 0,
+    start: 0,
+    bad: 0,
+    marked: false,
+    parked: 0,
+    shown: [0; tables::SHOWN_SLOTS],
+    moves: [0; tables::MOVE_SLOTS],
+};
+
 pub fn fields_of(table: &[u32]) -> Fields {
-    let r = fields::read(table);
-    r.fields
+    fields::read(table).unwrap_or(NO_FIELDS)
 }
 
 // What differs from A's fields.

@@ -1,5 +1,5 @@
 // What the rows print: words, lists, and what an entry answers.
-use games::{Checked, Written};
+use games::Refusal;
 use std::fmt::{self, Display};
 
 // A word, as eight hexadecimal digits.
@@ -56,25 +56,25 @@ impl Display for Words<'_> {
 
 // Why an entry refuses, and where.
 #[derive(Clone, Copy)]
-pub struct Refused(pub u32, pub usize);
+pub struct Refused(pub Refusal);
 
 impl Display for Refused {
     fn fmt<W: fmt::Write>(&self, f: &mut fmt::Formatter<W>) -> fmt::Result {
-        let number = self.0;
-        let place = self.1;
+        let number = self.0.reason.number();
+        let place = self.0.place;
         write!(f, "refused {number} {place}")
     }
 }
 
 // What an entry answers.
 #[derive(Clone, Copy)]
-pub struct Told<T>(pub Result<T, Refused>);
+pub struct Told<T>(pub Result<T, Refusal>);
 
 impl<T: Display> Display for Told<T> {
     fn fmt<W: fmt::Write>(&self, f: &mut fmt::Formatter<W>) -> fmt::Result {
         match &self.0 {
             Ok(answer) => write!(f, "{answer}"),
-            Err(refusal) => write!(f, "{refusal}"),
+            Err(refusal) => write!(f, "{}", Refused(*refusal)),
         }
     }
 }
@@ -89,6 +89,11 @@ impl Display for Fine {
     }
 }
 
+// What a check answers.
+pub fn checked(answer: Result<(), Refusal>) -> Told<Fine> {
+    Told(answer.map(|()| Fine))
+}
+
 // How many words or bytes were written.
 #[derive(Clone, Copy)]
 pub struct Wrote(pub usize);
@@ -100,18 +105,7 @@ impl Display for Wrote {
     }
 }
 
-// What a check answers.
-pub fn checked(answer: Checked) -> Told<Fine> {
-    match answer {
-        Checked::Fine => Told(Ok(Fine)),
-        Checked::Refused(number, place) => Told(Err(Refused(number, place))),
-    }
-}
-
 // What a writer answers.
-pub fn written(answer: Written) -> Told<Wrote> {
-    match answer {
-        Written::Words(count) => Told(Ok(Wrote(count))),
-        Written::Refused(number, place) => Told(Err(Refused(number, place))),
-    }
+pub fn written(answer: Result<usize, Refusal>) -> Told<Wrote> {
+    Told(answer.map(Wrote))
 }

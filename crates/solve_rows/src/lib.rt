@@ -1,33 +1,22 @@
 // Solving: the stations, refusals 8 and 9, and what is left in the buffers.
 #![tactic(auto)]
 
-use rows::print::{Refused, Told, Words};
+use rows::print::{Told, Words};
 use rows::stations::{self, A, B, Change, GUARD, changed};
-use solver::Answer;
+use solver::Verdict;
 use std::fmt::{self, Display};
 use std::io;
 
 // Yes, with the settled round and the cells; or no, with the round that lost the start.
 #[derive(Clone, Copy)]
-enum Verdict {
-    Yes(u32, u32),
-    No(u32),
-}
+struct Solved(Verdict);
 
-impl Display for Verdict {
+impl Display for Solved {
     fn fmt<W: fmt::Write>(&self, f: &mut fmt::Formatter<W>) -> fmt::Result {
-        match *self {
+        match self.0 {
             Verdict::Yes(settled, cells) => write!(f, "yes {settled} {cells}"),
             Verdict::No(round) => write!(f, "no {round}"),
         }
-    }
-}
-
-fn solved(answer: Answer) -> Told<Verdict> {
-    match answer {
-        Answer::Yes(settled, cells) => Told(Ok(Verdict::Yes(settled, cells))),
-        Answer::No(round) => Told(Ok(Verdict::No(round))),
-        Answer::Refused(number, place) => Told(Err(Refused(number, place))),
     }
 }
 
@@ -54,7 +43,7 @@ pub fn solve(
 ) -> io::Result<()> {
     let room = work.len();
     let words = card.len();
-    let answer = solved(solver::solve(table, work, card));
+    let answer = Told(solver::solve(table, work, card).map(Solved));
     let work = Work(work);
     let card = Words(card);
     println!(rt; "solve {name} work {room} card {words}: {answer}, work {work}, card {card}")

@@ -4,7 +4,7 @@ use entry_rows::card_rows::Standing;
 use games::Observation;
 use rows::print::{Numbers, Refused, Words, Wrote};
 use rows::stations::{A_CARD, C_CARD, Change, GUARD, changed};
-use runner::Ran;
+use runner::{Ran, Stopped};
 use std::fmt::{self, Display};
 use std::io;
 
@@ -15,11 +15,8 @@ struct Answered(Ran);
 impl Display for Answered {
     fn fmt<W: fmt::Write>(&self, f: &mut fmt::Formatter<W>) -> fmt::Result {
         match self.0 {
-            Ran::Done(count) => write!(f, "{}", Wrote(count)),
-            Ran::Refused(number, place, taken) => {
-                let refusal = Refused(number, place);
-                write!(f, "{refusal} after {taken}")
-            }
+            Ok(count) => write!(f, "{}", Wrote(count)),
+            Err(Stopped { refusal, taken }) => { write!(f, "{} after {taken}", Refused(refusal)) }
         }
     }
 }
