@@ -36,7 +36,7 @@ use Rattle.certificates.specs.Certificate.{lies, first_holds, set_fits, cell_hol
 use Rattle.certificates.proofs.Words.{first_word, cell_word, next_word_lem, lies_none, lies_some}
 use Rattle.certificates.proofs.Written.{Conditions}
 use Rattle.games.specs.declared.Reason.TheVariants as reason
-use Rattle.std.specs.Prelude.{Ok, Err}
+use Rattle.std.specs.Prelude.{Ok}
 
 -- ---- a word's condition
 

@@ -29,7 +29,7 @@ use Rattle.certificates.proofs.Words.{head_word_lem, first_word, cell_word, next
 use Rattle.certificates.proofs.Certified.{certified_safe}
 use Rattle.games.specs.declared.Reason.{Reason}
 use Rattle.games.specs.declared.Reason.TheVariants as reason
-use Rattle.std.specs.Prelude.{Ok, Err}
+use Rattle.std.specs.Prelude.{Ok}
 
 -- ---- a first and a next word, by the set and the cell that the code has
 

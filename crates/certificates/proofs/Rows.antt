@@ -20,7 +20,7 @@ use Rattle.cards.specs.Card.{head_fits, cell_named, cell_fits, part_spot, spot_a
 use Rattle.pairs.specs.Pair.{agree, checked}
 use Rattle.certificates.specs.Certificate.{lies, first_holds, set_fits, cell_holds, next_holds, word_holds, words_certified, certified}
 use Rattle.games.specs.declared.Reason.TheVariants as reason
-use Rattle.std.specs.Prelude.{Ok, Err}
+use Rattle.std.specs.Prelude.{Ok}
 
 abbrev pub Row : Type 0
 Row = record { table : List ℕ; card : List ℕ; answer : Checked }

@@ -107,4 +107,4 @@ module _ (w : List ℕ) (fine : table_checked w ≡ Ok tt) (A : Automaton) (F : 
   pub written_certified : certified w words ≡ Ok tt
   unfolding certified
   written_certified =
-      ap (λ (c : Checked). unless c Refused (words_certified g words)) (sym (fine_pair w words fine (written_checked A g.actions o F) same_numbers)) ∙ words_fine
+      ap (λ (c : Checked). unless c Err (words_certified g words)) (sym (fine_pair w words fine (written_checked A g.actions o F) same_numbers)) ∙ words_fine

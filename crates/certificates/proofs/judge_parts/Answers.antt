@@ -12,7 +12,7 @@ use Rattle.certificates.specs.Judging.{HoldsBelow}
 use Rattle.certificates.proofs.Judged.{part_stop, part_pass, all_hold}
 use Rattle.certificates.proofs.judge_parts.Goals as goal
 use Rattle.games.specs.declared.Reason.TheVariants as reason
-use Rattle.std.specs.Prelude.{Ok, Err}
+use Rattle.std.specs.Prelude.{Ok}
 
 pub cells-m-requires : goal.cells-m-requires
 cells-m-requires c = (paired _ _ c.requires.0.fine).card_fine
@@ -36,8 +36,8 @@ cell_place-requires c =
     let there : c.loop-c.c < card_cells words = omega (arith, c.loop-c-test.true, c.cells-m.ensures) in
     (omega (arith, seen), omega (arith, there))
 
-pub overflow_add-result : goal.overflow_add-result
-overflow_add-result c =
+pub overflow_add-cell_place : goal.overflow_add-cell_place
+overflow_add-cell_place c =
     let words : List ℕ = c.args.card.now in
     let fine : checked words ≡ Ok tt = (paired _ _ c.requires.0.fine).card_fine in
     let seen : c.observations-o.result ≡ card_observations words = c.observations-o.ensures in
@@ -49,7 +49,8 @@ overflow_add-result c =
 
 pub returns-then-held-part_length : goal.returns-then-held-part_length
 returns-then-held-part_length c =
-    let words : List ℕ = c.args.card.now in
+    rw c.at.ensures
+    (let words : List ℕ = c.args.card.now in
     let fine : checked words ≡ Ok tt = (paired _ _ c.requires.0.fine).card_fine in
     let seen : c.observations-o.result ≡ card_observations words = c.observations-o.ensures in
     let there : c.loop-c.c < card_cells words = omega (arith, c.loop-c-test.true, c.cells-m.ensures) in
@@ -57,7 +58,7 @@ returns-then-held-part_length c =
     let part : c.part_length.result ≡ part_length (card_observations words) = c.part_length.ensures ∙ ap part_length seen in
     let fewer : c.part_holds-held.result < part_length (card_observations words) = omega (arith, c.if-held-part_length.true, part) in
     ap (λ (p : ℕ). refused reason.NotSafe (p + c.part_holds-held.result)) place
-    ∙ part_stop _ _ fine _ there c.loop-c.invariant.0 _ c.part_holds-held.ensures fewer
+    ∙ part_stop _ _ fine _ there c.loop-c.invariant.0 _ c.part_holds-held.ensures fewer)
 
 pub overflow_add-c : goal.overflow_add-c
 overflow_add-c c =

@@ -16,8 +16,9 @@ observations-requires c =
 
 pub returns-then-held-observations : goal.returns-then-held-observations
 returns-then-held-observations c =
-    let card_fine : checked c.args.card.now ≡ Ok tt = (paired _ _ c.requires).card_fine in
-    firsts_stop _ _ card_fine _ c.firsts_hold-held.ensures (omega (arith, c.if-held-observations.true, c.observations.ensures))
+    rw c.at.ensures
+    (let card_fine : checked c.args.card.now ≡ Ok tt = (paired _ _ c.requires).card_fine in
+    firsts_stop _ _ card_fine _ c.firsts_hold-held.ensures (omega (arith, c.if-held-observations.true, c.observations.ensures)))
 
 pub cells-requires : goal.cells-requires
 cells-requires c =
