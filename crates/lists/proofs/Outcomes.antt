@@ -4,11 +4,11 @@ use mathlib.Core.Path.{◌≡◌, sym, ap, ◌∙◌, subst}
 use mathlib.Core.Bool.{Bool, false, cond, true}
 use mathlib.Core.List.{List, ◌++◌}
 use Prim.Native.Nat.{ℕ, ◌+◌, ◌^◌, ◌≤◌, ◌<◌}
-use lib.ListN.{length, drop}
-use borrow.Author.Tests.{lt-ltb, le-ltb}
-use Rattle.sets.specs.Bounded.{Found, nothing, found, first, at_found, reaches, first_from}
+use lib.ListN.{length, get_or, drop}
+use borrow.Author.Tests.{lt-ltb, le-ltb, lt-leb, le-leb}
+use Rattle.sets.specs.Bounded.{Found, nothing, found, at_found, reaches}
 use Rattle.sets.proofs.Logic.{true_not, false_not}
-use Rattle.sets.proofs.Reaching.{front_found}
+use Rattle.sets.proofs.Bounded.{first_none, first_is}
 use Rattle.games.specs.Format.{max_states}
 use Rattle.games.proofs.Limits.{within_high}
 use Rattle.games.specs.Answers.{leaves}
@@ -17,16 +17,7 @@ use Rattle.lists.specs.Lists.{is_width, foreign, fitted, outcome}
 use Rattle.lists.specs.Merging.{Masks}
 use Rattle.lists.proofs.Checks.{reaches_within, found_first, found_second, found_neither}
 use Rattle.games.specs.declared.Reason.TheVariants as reason
-use Rattle.std.specs.Prelude.{Ok, Err}
-
--- the width is right, and `end` is the first mask with a state too many
-pub record Width (n end : ℕ) : Type 0 where
-  pub right : is_width n ≡ true
-  pub power : end ≡ 2 ^ n
-
--- the list has no such mask
-abbrev pub Clean : ℕ → List ℕ → Type 0
-Clean end l = first (length l) (reaches l end) ≡ nothing
+use Rattle.std.specs.Prelude.{Ok, Option, Some, None, MatchOption}
 
 -- ---- the result and its room
 
@@ -45,39 +36,40 @@ fitted_fits r d w x e h f =
 
 -- ---- the refusals before it
 
-module _ (op : List ℕ → List ℕ → List ℕ) (n : ℕ) (k l d : List ℕ) where
-  -- the width is wrong
-  pub refused_width : is_width n ≡ false → leaves (refused reason.BadHead 0) d ≡ outcome op n k l d
-  unfolding outcome
-  refused_width e = sym (ap (λ (b : Bool). cond b (leaves (refused reason.BadHead 0) d) (at_found (foreign n (k ++ l)) (λ i. leaves (refused reason.StateBeyond i) d) (fitted (op k l) d))) (false_not e))
+-- what a search for a mask with a state too many finds
+pub foreign_is : (n : ℕ) (l : List ℕ) (end : ℕ) → end ≡ 2 ^ n → (r : Option ℕ)
+    → MatchOption r ((j : ℕ) → j < length l → get_or l j 0 < end) (λ i. (i < length l) × (end ≤ get_or l i 0) × ((j : ℕ) → j < i → get_or l j 0 < end))
+    → MatchOption r (foreign n l ≡ nothing) (λ i. (i < length l) × (foreign n l ≡ found i))
+foreign_is n l end e None f = rw (← e) (first_none (length l) (reaches l end) (λ j h. lt-leb end (get_or l j 0) (f j h)))
+foreign_is n l end e (Some i) w =
+    (w.0, rw (← e) (first_is (length l) (reaches l end) i w.0 (le-leb end (get_or l i 0) w.1) (λ j h. lt-leb end (get_or l j 0) (w.2 j h))))
 
-  module _ (end : ℕ) (w : Width n end) where
+module _ (n : ℕ) (k l : List ℕ) where
+  -- the width is wrong
+  pub refused_width : is_width n ≡ false → (op : List ℕ → List ℕ → List ℕ) (d : List ℕ) → outcome op n k l d ≡ leaves (refused reason.BadHead 0) d
+  unfolding outcome
+  refused_width e op d = ap (λ (b : Bool). cond b (leaves (refused reason.BadHead 0) d) (at_found (foreign n (k ++ l)) (λ i. leaves (refused reason.StateBeyond i) d) (fitted (op k l) d))) (false_not e)
+
+  module _ (w : is_width n ≡ true) where
     -- it is right: what the masks decide
-    checked : (f : Found) → first (length (k ++ l)) (reaches (k ++ l) end) ≡ f → at_found f (λ i. leaves (refused reason.StateBeyond i) d) (fitted (op k l) d) ≡ outcome op n k l d
+    decided_by : (f : Found) → foreign n (k ++ l) ≡ f → (op : List ℕ → List ℕ → List ℕ) (d : List ℕ) → outcome op n k l d ≡ at_found f (λ i. leaves (refused reason.StateBeyond i) d) (fitted (op k l) d)
     unfolding outcome
-    checked f e =
-        ap (λ (x : Found). at_found x (λ i. leaves (refused reason.StateBeyond i) d) (fitted (op k l) d)) (sym (subst (λ (x : ℕ). first (length (k ++ l)) (reaches (k ++ l) x) ≡ f) w.power e))
-        ∙ sym (ap (λ (b : Bool). cond b (leaves (refused reason.BadHead 0) d) (at_found (foreign n (k ++ l)) (λ i. leaves (refused reason.StateBeyond i) d) (fitted (op k l) d))) (true_not w.right))
+    decided_by f e op d =
+        ap (λ (b : Bool). cond b (leaves (refused reason.BadHead 0) d) (at_found (foreign n (k ++ l)) (λ i. leaves (refused reason.StateBeyond i) d) (fitted (op k l) d))) (true_not w)
+        ∙ ap (λ (x : Found). at_found x (λ i. leaves (refused reason.StateBeyond i) d) (fitted (op k l) d)) e
 
     -- a mask of the first list is refused
-    pub refused_first : (i : ℕ) → i ≡ first_from k 0 end → i < length k → leaves (refused reason.StateBeyond i) d ≡ outcome op n k l d
-    refused_first i e h = checked (found i) (found_first k l end i (front_found k end i e h))
+    pub refused_first : (i : ℕ) → foreign n k ≡ found i → (op : List ℕ → List ℕ → List ℕ) (d : List ℕ) → outcome op n k l d ≡ leaves (refused reason.StateBeyond i) d
+    refused_first i e = decided_by (found i) (found_first k l (2 ^ n) i e)
 
     -- one of the second list, counted on
-    pub refused_second : (j : ℕ) → Clean end k → j ≡ first_from l 0 end → j < length l → leaves (refused reason.StateBeyond (length k + j)) d ≡ outcome op n k l d
-    refused_second j c e h = checked (found (length k + j)) (found_second k l end j c (front_found l end j e h))
+    pub refused_second : (j : ℕ) → foreign n k ≡ nothing → foreign n l ≡ found j → (op : List ℕ → List ℕ → List ℕ) (d : List ℕ) → outcome op n k l d ≡ leaves (refused reason.StateBeyond (length k + j)) d
+    refused_second j c e = decided_by (found (length k + j)) (found_second k l (2 ^ n) j c e)
 
     -- none is
-    pub allowed : Clean end k → Clean end l → fitted (op k l) d ≡ outcome op n k l d
-    allowed a b = checked nothing (found_neither k l end a b)
+    pub allowed : foreign n k ≡ nothing → foreign n l ≡ nothing → (op : List ℕ → List ℕ → List ℕ) (d : List ℕ) → outcome op n k l d ≡ fitted (op k l) d
+    allowed a b = decided_by nothing (found_neither k l (2 ^ n) a b)
 
--- ---- the work done
-
-module _ (n end : ℕ) (k l : List ℕ) (w : Width n end) (a : Clean end k) (b : Clean end l) where
-  -- the lists are as the work asks for them
-  pub masks : Masks n k l
-  masks = record {
-    width = within_high n max_states w.right;
-    first = reaches_within n k (subst (λ (x : ℕ). Clean x k) w.power a);
-    second = reaches_within n l (subst (λ (x : ℕ). Clean x l) w.power b);
-  }
+    -- and the lists are as the work asks for them
+    pub masks : foreign n k ≡ nothing → foreign n l ≡ nothing → Masks n k l
+    masks a b = record { width = within_high n max_states w; first = reaches_within n k a; second = reaches_within n l b }

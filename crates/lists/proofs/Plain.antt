@@ -21,7 +21,7 @@ use Rattle.lists.specs.Lists.{is_width, foreign, fitted, outcome}
 use Rattle.lists.specs.Plain.{OfEither, OfBoth, MaximalOf}
 use Rattle.lists.proofs.Checks.{reaches_within, clean_first, clean_second}
 use Rattle.games.specs.declared.Reason.TheVariants as reason
-use Rattle.std.specs.Prelude.{Ok, Err}
+use Rattle.std.specs.Prelude.{Ok}
 
 -- ---- the definitions
 

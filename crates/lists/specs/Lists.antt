@@ -8,7 +8,7 @@ use Rattle.games.specs.Answers.{Leaves, leaves}
 use Rattle.games.specs.Answers.{Written}
 use Rattle.games.specs.Answers.{refused}
 use Rattle.games.specs.declared.Reason.TheVariants as reason
-use Rattle.std.specs.Prelude.{Ok, Err}
+use Rattle.std.specs.Prelude.{Ok}
 
 -- the widths of lists
 abbrev pub is_width : ℕ → Bool

@@ -1,42 +1,120 @@
 // Join and meet of two lists of sets (document 01, "Lists").
 #![tactic(auto)]
 
-ghost use Rattle.std.specs.Prelude.{◌≡◌, ℕ, ◌≤◌, length, take};
+ghost use Rattle.std.specs.Prelude.{◌≡◌, Bool, List, ℕ, ◌≤◌, ◌<◌, length, take, MatchOption, MatchResult, Ok, Err};
+ghost use Rattle.sets.specs.Mask.{member};
+ghost use Rattle.sets.specs.Bounded.{nothing, found};
+ghost use Rattle.sets.specs.Family.{join as join_of, meet as meet_of};
 ghost use Rattle.families.specs.Bits.{max_lanes, lanes, sets, Bits};
+ghost use Rattle.games.specs.Format.{max_states};
 ghost use Rattle.games.specs.Answers.{leaves};
-ghost use Rattle.lists.specs.Lists.{fitted, outcome, joined, met};
+ghost use Rattle.lists.specs.Lists.{foreign as foreign_in, fitted, outcome, joined, met};
 ghost use Rattle.lists.specs.Plain.{OfEither, OfBoth, MaximalOf};
-ghost use Rattle.lists.specs.Merging.{gathered, Merged, held, combined, Masks};
+ghost use Rattle.lists.specs.Merging.{Merged, held, Masks, Combines, both, either, join_laws, meet_laws};
 
 use games::{MAX_STATES, Reason, Refusal};
 
-// The common part for meet, the union for join.
-fn gather(meet: bool, a: u64, b: u64) -> u64
-    ensures { result ≡ gathered meet a b }
-{
-    if meet { a & b } else { a | b }
+// How two lists are made one, set by set.
+trait Combination {
+    // whether a set is kept, by whether each list holds it
+    ghost keeps: { Bool → Bool → Bool };
+
+    // the list that is made of two
+    ghost made: { ℕ → List ℕ → List ℕ → List ℕ };
+
+    // The kept sets of two words.
+    fn word(a: u64, b: u64) -> u64
+        ensures { (t : ℕ) → member result t ≡ keeps (member a t) (member b t) };
+
+    ghost laws: { Combines keeps made };
 }
 
-// The sets of both families for meet, of either for join, in place of the first.
-fn merge(meet: bool, a: &mut [u64], b: &[u64])
-    requires { length b.now ≡ length a.old }
-    ensures { Merged meet a.old b.now a.new }
-{
-    let mut i = 0;
-    while i < a.len() {
-        a[i] = gather(meet, a[i], b[i]);
-        i += 1;
+// The sets that either list holds: the maximal ones are the join.
+struct Either;
+
+impl Combination for Either {
+    ghost keeps = { either };
+
+    ghost made = { join_of };
+
+    ghost laws = { join_laws };
+
+    fn word(a: u64, b: u64) -> u64 {
+        a | b
     }
 }
 
-// What both lists hold for meet, either for join, as bits in `a`; `b` is work room.
-fn hold(meet: bool, n: u32, first: &[u32], second: &[u32], a: &mut [u64], b: &mut [u64])
-    requires { Masks n first.now second.now × (length a.old ≡ lanes n) × (length b.old ≡ lanes n) }
-    ensures { Bits n (held meet first.now second.now) a.new }
+// The sets that both lists hold: the maximal ones are the meet.
+struct Both;
+
+impl Combination for Both {
+    ghost keeps = { both };
+
+    ghost made = { meet_of };
+
+    ghost laws = { meet_laws };
+
+    fn word(a: u64, b: u64) -> u64 {
+        a & b
+    }
+}
+
+// Two lists of sets of n states.
+#[derive(Clone, Copy)]
+struct Lists<'t> {
+    n: u32,
+    first: &'t [u32],
+    second: &'t [u32],
+
+    ghost masks: { Masks n first.now second.now },
+}
+
+// The first mask that names a state from n up.
+fn foreign(n: u32, list: &[u32]) -> Option<usize>
+    requires { n ≤ max_states }
+    ensures { MatchOption result (foreign_in n list.now ≡ nothing) (λ i. (i < length list.now) × (foreign_in n list.now ≡ found i)) }
 {
-    families::below(first, n, a);
-    families::below(second, n, b);
-    merge(meet, a, b);
+    let end = sets::single(n);
+    list.iter().position(|mask| end <= *mask)
+}
+
+// The two, where all of their masks are of n states.
+fn checked<'t>(n: u32, first: &'t [u32], second: &'t [u32]) -> Result<Lists<'t>, Refusal>
+    ensures { MatchResult result
+        (λ lists. (lists.n ≡ n) × (lists.first.now ≡ first.now) × (lists.second.now ≡ second.now)
+        × ((op : List ℕ → List ℕ → List ℕ) (d : List ℕ) → outcome op n first.now second.now d ≡ fitted (op first.now second.now) d))
+        (λ refusal. (op : List ℕ → List ℕ → List ℕ) (d : List ℕ) → outcome op n first.now second.now d ≡ leaves (Err refusal) d) }
+{
+    if !games::within(n, MAX_STATES) {
+        return Err(Reason::BadHead.at(0));
+    }
+    if let Some(i) = foreign(n, first) {
+        return Err(Reason::StateBeyond.at(i));
+    }
+    if let Some(i) = foreign(n, second) {
+        return Err(Reason::StateBeyond.at(first.len() + i));
+    }
+    Ok(Lists { n, first, second })
+}
+
+// The kept sets of two families, in place of the first.
+fn merge<C: Combination>(a: &mut [u64], b: &[u64])
+    requires { length b.now ≡ length a.old }
+    ensures { Merged C.keeps a.old b.now a.new }
+{
+    for (i, word) in a.iter_mut().enumerate() {
+        *word = C::word(*word, b[i]);
+    }
+}
+
+// The kept sets of what the lists hold, as bits in `a`; `b` is work room.
+fn hold<C: Combination>(lists: Lists, a: &mut [u64], b: &mut [u64])
+    requires { (length a.old ≡ lanes lists.n) × (length b.old ≡ lanes lists.n) }
+    ensures { Bits lists.entry.n (held C.keeps lists.entry.first.now lists.entry.second.now) a.new }
+{
+    families::below(lists.first, lists.n, a);
+    families::below(lists.second, lists.n, b);
+    merge::<C>(a, b);
 }
 
 // The sets in front of `out`, ascending; refused where there are more than places.
@@ -52,51 +130,41 @@ fn fit(bits: &[u64], out: &mut [u32]) -> Result<usize, Refusal>
 }
 
 // The result in front of `out`, where it fits. `a` and `b` are work room.
-fn find(
-    meet: bool,
-    n: u32,
-    first: &[u32],
-    second: &[u32],
+fn find<C: Combination>(
+    lists: Lists,
     a: &mut [u64],
     b: &mut [u64],
     out: &mut [u32],
 ) -> Result<usize, Refusal>
-    requires { Masks n first.now second.now × (length a.old ≡ lanes n) × (length b.old ≡ lanes n) }
-    ensures { leaves result out.new ≡ fitted (combined meet n first.now second.now) out.old }
+    requires { (length a.old ≡ lanes lists.n) × (length b.old ≡ lanes lists.n) }
+    ensures { leaves result out.new ≡ fitted (C.made lists.entry.n lists.entry.first.now lists.entry.second.now) out.old }
 {
-    hold(meet, n, first, second, a, b);
-    families::maximal_bits(a, n, b);
+    hold::<C>(lists, a, b);
+    families::maximal_bits(a, lists.n, b);
     fit(b, out)
 }
 
 // The same, with its work room.
-fn deliver(meet: bool, n: u32, first: &[u32], second: &[u32], out: &mut [u32]) -> Result<usize, Refusal>
-    requires { Masks n first.now second.now }
-    ensures { leaves result out.new ≡ fitted (combined meet n first.now second.now) out.old }
+fn deliver<C: Combination>(lists: Lists, out: &mut [u32]) -> Result<usize, Refusal>
+    ensures { leaves result out.new ≡ fitted (C.made lists.entry.n lists.entry.first.now lists.entry.second.now) out.old }
 {
-    let end = families::lane_count(n);
+    let end = families::lane_count(lists.n);
     let mut a = [0u64; families::MAX_LANES];
     let mut b = [0u64; families::MAX_LANES];
-    find(meet, n, first, second, &mut a[..end], &mut b[..end], out)
+    find::<C>(lists, &mut a[..end], &mut b[..end], out)
 }
 
 // Join or meet: checks, then the result.
-fn combine(meet: bool, n: u32, first: &[u32], second: &[u32], out: &mut [u32]) -> Result<usize, Refusal>
-    ensures { leaves result out.new ≡ outcome (combined meet n) n first.now second.now out.old }
+fn combine<C: Combination>(
+    n: u32,
+    first: &[u32],
+    second: &[u32],
+    out: &mut [u32],
+) -> Result<usize, Refusal>
+    ensures { leaves result out.new ≡ outcome (C.made n) n first.now second.now out.old }
 {
-    if !games::within(n, MAX_STATES) {
-        return Err(Reason::BadHead.at(0));
-    }
-    let end = sets::single(n);
-    let i = sets::first_from(first, 0, end);
-    if i < first.len() {
-        return Err(Reason::StateBeyond.at(i));
-    }
-    let j = sets::first_from(second, 0, end);
-    if j < second.len() {
-        return Err(Reason::StateBeyond.at(first.len() + j));
-    }
-    deliver(meet, n, first, second, out)
+    let lists = checked(n, first, second)?;
+    deliver::<C>(lists, out)
 }
 
 // The maximal sets of both lists.
@@ -105,7 +173,7 @@ pub fn join(n: u32, first: &[u32], second: &[u32], out: &mut [u32]) -> Result<us
     ensures plain { (w : ℕ) → result ≡ Ok w
         → MaximalOf (OfEither first.now second.now) (take w out.new) }
 {
-    combine(false, n, first, second, out)
+    combine::<Either>(n, first, second, out)
 }
 
 // The maximal common parts of one set from each list.
@@ -114,5 +182,5 @@ pub fn meet(n: u32, first: &[u32], second: &[u32], out: &mut [u32]) -> Result<us
     ensures plain { (w : ℕ) → result ≡ Ok w
         → MaximalOf (OfBoth first.now second.now) (take w out.new) }
 {
-    combine(true, n, first, second, out)
+    combine::<Both>(n, first, second, out)
 }

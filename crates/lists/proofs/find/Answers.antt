@@ -1,4 +1,4 @@
--- `lists::find` meets its contract: the maximal sets of what both or either hold are the result.
+-- `lists::find` meets its contract: the maximal sets of what the lists hold are the list made.
 use mathlib.Core.Path.{ap, ◌∙◌}
 use mathlib.Core.List.{List}
 use Prim.Native.Nat.{ℕ}
@@ -10,14 +10,15 @@ use Rattle.lists.proofs.Merging.{held_closed, held_result}
 use Rattle.lists.proofs.find.Goals as goal
 
 pub maximal_bits-requires : goal.maximal_bits-requires
-maximal_bits-requires c = (held_closed c.args.n c.args.meet c.args.first.now c.args.second.now c.hold.new.a c.hold.ensures c.requires.0, search rules)
+maximal_bits-requires g c =
+    (held_closed g.C.Combination.keeps g.C.Combination.made g.met.C.Combination.laws c.args.lists.n c.args.lists.first.now c.args.lists.second.now c.hold.new.a c.hold.ensures c.args.lists.masks, search rules)
 
 pub fit-requires : goal.fit-requires
-fit-requires c = omega (arith, c.maximal_bits.ensures.0, lanes_few c.args.n c.requires.0.width, c.requires.2)
+fit-requires g c = omega (arith, c.maximal_bits.ensures.0, lanes_few c.args.lists.n c.args.lists.masks.width, c.requires.1)
 
 pub returns : goal.returns
-returns c =
+returns g c =
     c.fit.ensures
     ∙ ap (λ (x : List ℕ). fitted x c.args.out.now)
     (c.maximal_bits.ensures.1
-    ∙ held_result c.args.n c.args.meet c.args.first.now c.args.second.now c.hold.new.a c.hold.ensures c.requires.0)
+    ∙ held_result g.C.Combination.keeps g.C.Combination.made g.met.C.Combination.laws c.args.lists.n c.args.lists.first.now c.args.lists.second.now c.hold.new.a c.hold.ensures c.args.lists.masks)

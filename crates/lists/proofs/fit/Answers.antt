@@ -5,9 +5,7 @@ use Rattle.lists.proofs.Outcomes.{fitted_long, fitted_fits}
 use Rattle.lists.proofs.fit.Goals as goal
 
 pub returns-then-out-words : goal.returns-then-out-words
-returns-then-out-words c =
-    rw c.at.ensures
-    (fitted_long (sets c.args.bits.now) c.args.out.now c.size-words.result c.size-words.ensures c.if-out-words.true)
+returns-then-out-words c = rw c.at.ensures (fitted_long (sets c.args.bits.now) c.args.out.now c.size-words.result c.size-words.ensures c.if-out-words.true)
 
 pub returns : goal.returns
 returns c =
