@@ -34,7 +34,6 @@ use Rattle.tables.proofs.Bounds.{slot_inside}
 use Rattle.tables.proofs.Checks.{limits_hold_lem, by_words}
 use Rattle.fields.specs.Read.{read_of}
 use Rattle.fields.specs.Write.{mask_of, words_length, slot_clean, unused_zero, slots_clean, wide_at, slots_checked, masks_checked, fields_checked, word_at, written_to, write_of}
-use Rattle.games.specs.declared.Reason.{Reason}
 use Rattle.games.specs.declared.Refusal.{Refusal}
 use Rattle.games.specs.declared.Reason.TheVariants as reason
 use Rattle.std.specs.Prelude.{Result, Ok, Err}

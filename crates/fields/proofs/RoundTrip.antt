@@ -26,7 +26,6 @@ use Rattle.games.specs.declared.Shape.{Shape}
 use Rattle.games.specs.declared.Place.{Place}
 use Rattle.games.specs.declared.Place.TheVariants.{Start, Bad, Parked}
 use Rattle.games.specs.Answers.{Checked}
-use Rattle.games.specs.Answers.{refused}
 use Rattle.games.specs.Answers.{Written}
 use Rattle.games.proofs.Limits.{moves_below}
 use Rattle.games.proofs.Places.{place_back, place_within, place_from, place_below, place_there, slot_within}

@@ -1,7 +1,7 @@
 -- The judge's answers, one refusal after the other.
 -- Assumes nothing.
 use mathlib.Core.Path.{◌≡◌, sym, ap, ◌∙◌}
-use mathlib.Core.Bool.{Bool, true, false}
+use mathlib.Core.Bool.{Bool}
 use mathlib.Core.List.{List}
 use Prim.Native.Nat.{ℕ, ◌≤◌, ◌<◌}
 use lib.ListN.{length}
@@ -12,16 +12,11 @@ use Rattle.games.specs.Words.{game}
 use Rattle.tables.specs.Check.{too_wide, checked}
 use Rattle.games.specs.Answers.{refused}
 use Rattle.judge.specs.Judge.{most_rounds, answered, judged}
-use Rattle.games.specs.declared.Reason.{Reason}
 use Rattle.games.specs.declared.Reason.TheVariants as reason
-use Rattle.std.specs.Prelude.{Ok, Err}
+use Rattle.std.specs.Prelude.{Ok}
 
 module _ (w : List ℕ) (s k : ℕ) where
   -- the table checks come first
-  pub table_refused : (number : Reason) (place : ℕ) → checked w ≡ Stopped number place → refused number place ≡ judged w s k
-  unfolding judged
-  table_refused number place e = rw e
-
   pub table_fine : checked w ≡ Ok tt → answered w s k ≡ judged w s k
   unfolding judged
   table_fine e = rw e
@@ -43,11 +38,6 @@ module _ (w : List ℕ) (s k : ℕ) where
     names_no_state l = rw (le-ltb most_rounds k few, wide (le-leb (single n) s (rw first at l)))
 
     -- then the answer r of the action's turn
-    module _ (r : Bool) (below : s < v) (answer : r ≡ good (game w) k s) where
-      pub is_good : r ≡ true → Good ≡ answered w s k
-      unfolding answered
-      is_good e = rw (le-ltb most_rounds k few, wide (lt-leb (single n) s (rw first at below)), sym answer ∙ e)
-
-      pub not_good : r ≡ false → NotGood ≡ answered w s k
-      unfolding answered
-      not_good e = rw (le-ltb most_rounds k few, wide (lt-leb (single n) s (rw first at below)), sym answer ∙ e)
+    pub answers : (r : Bool) → s < v → r ≡ good (game w) k s → Ok r ≡ answered w s k
+    unfolding answered
+    answers r below answer = rw (le-ltb most_rounds k few, wide (lt-leb (single n) s (rw first at below)), sym answer)

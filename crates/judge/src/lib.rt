@@ -77,6 +77,7 @@ fn answer(table: &[u32], mask: u32, k: u32) -> Result<bool, Refusal>
 }
 
 // Is the set good for k rounds? The table checks come first.
+#[tactic(auto, unfolding(crate::specs::Judge::judged))]
 pub fn judge(table: &[u32], mask: u32, k: u32) -> Result<bool, Refusal>
     ensures { result ≡ judged table.now mask k }
 {

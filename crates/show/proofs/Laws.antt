@@ -25,14 +25,12 @@ use Rattle.show.specs.Show.{located, found, handed, part_of}
 use Rattle.show.specs.Show.{Shown}
 use Rattle.games.specs.declared.Reason.{Reason}
 use Rattle.games.specs.declared.Reason.TheVariants as reason
+use Rattle.games.specs.declared.Refusal.{Refusal}
+use Rattle.show.specs.declared.Part.{Part}
 use Rattle.std.specs.Prelude.{Ok, Err}
 
 module _ (w k : List ℕ) (c : ℕ) where
   -- the check of both comes first
-  pub pair_refused : (number : Reason) (place : ℕ) → checked w k ≡ Stopped number place → refused number place ≡ found w k c
-  unfolding found
-  pair_refused number place e = rw e
-
   pub pair_fine : checked w k ≡ Ok tt → located w k c ≡ found w k c
   unfolding found
   pair_fine e = rw e
@@ -43,7 +41,7 @@ module _ (w k : List ℕ) (c : ℕ) where
   no_such_cell l = rw (located, le-leb (automaton k).size c (subst (λ (i : ℕ). i ≤ c) (sym (size_of k)) l))
 
   -- else the part, by the action that the code read
-  pub part_told : c < card_cells k → (b at n : ℕ) → b ≡ (automaton k).action c → at ≡ place_of (shape_in w) (move b 0) → n ≡ (game w).states → Part at n ≡ located w k c
+  pub part_told : c < card_cells k → (b at n : ℕ) → b ≡ (automaton k).action c → at ≡ place_of (shape_in w) (move b 0) → n ≡ (game w).states → Ok (record { offset = at; length = n }) ≡ located w k c
   unfolding located
   part_told l b at n picked h s =
       let g : at ≡ place_of (shape_in w) (move ((automaton k).action c) 0) = h ∙ ap (λ (i : ℕ). place_of (shape_in w) (move i 0)) picked in
@@ -51,44 +49,44 @@ module _ (w k : List ℕ) (c : ℕ) where
 
 -- ---- the part lies in the table
 
-unless_part : (t : Checked) (s : Shown) (at n : ℕ) → unless t Refused s ≡ Part at n → (t ≡ Ok tt) × (s ≡ Part at n)
-unless_part (Ok tt) s at n e = (refl, e)
-unless_part (Err stop) s at n e = absurd (let z : ◌≡◌ {A = ℕ} 0 1 = cc in omega arith)
+unless_part : (t : Checked) (s : Shown) (part : Part) → unless t Err s ≡ Ok part → (t ≡ Ok tt) × (s ≡ Ok part)
+unless_part (Ok tt) s part e = (refl, e)
+unless_part (Err stop) s part e = absurd (cc)
 
-cond_part : (b : Bool) (x : Reason) (y : ℕ) (s : Shown) (at n : ℕ) → cond b (refused x y) s ≡ Part at n → (b ≡ false) × (s ≡ Part at n)
-cond_part true x y s at n e = absurd (let z : ◌≡◌ {A = ℕ} 0 1 = cc in omega arith)
-cond_part false x y s at n e = (refl, e)
+cond_part : (b : Bool) (x : Reason) (y : ℕ) (s : Shown) (part : Part) → cond b (refused x y) s ≡ Ok part → (b ≡ false) × (s ≡ Ok part)
+cond_part true x y s part e = absurd (cc)
+cond_part false x y s part e = (refl, e)
 
-module _ (w k : List ℕ) (c at n : ℕ) where
+module _ (w k : List ℕ) (c : ℕ) (part : Part) where
   -- an action of the table has its words there
   row_in : (b : ℕ) → checked w k ≡ Ok tt → b < (game w).actions → place_of (shape_in w) (move b 0) + (game w).states ≤ length w
   unfolding game
   row_in b e l = rw (sized w (paired w k e).table_fine).long (action_row (shape_in w) b l)
 
-  located_in : checked w k ≡ Ok tt → located w k c ≡ Part at n → at + n ≤ length w
+  located_in : checked w k ≡ Ok tt → located w k c ≡ Ok part → part.offset + part.length ≤ length w
   unfolding located
   located_in e f =
       let A = automaton k in
       let pair = paired w k e in
-      let three = cond_part (leb A.size c) 12 c _ at n f in
+      let three = cond_part (leb A.size c) reason.NumberBeyond c _ part f in
       let l : A.action c < (game w).actions = subst (λ (i : ℕ). A.action c < i) pair.actions ((fitting k pair.card_fine).action_below c (leb-false A.size c three.0)) in
-      let a : place_of (shape_in w) (move (A.action c) 0) ≡ at = cc in
-      let b : (game w).states ≡ n = cc in
+      let a : place_of (shape_in w) (move (A.action c) 0) ≡ part.offset = cc in
+      let b : (game w).states ≡ part.length = cc in
       subst (λ (i : ℕ). i ≤ length w) (ap₂ ◌+◌ a b) (row_in (A.action c) e l)
 
-  pub part_in : found w k c ≡ Part at n → at + n ≤ length w
+  pub part_in : found w k c ≡ Ok part → part.offset + part.length ≤ length w
   unfolding found
-  part_in e = let t = unless_part (checked w k) _ at n e in located_in t.0 t.1
+  part_in e = let t = unless_part (checked w k) _ part e in located_in t.0 t.1
 
 -- ---- what is handed back
 
 module _ (w k : List ℕ) (c : ℕ) (p : ℕ × ℕ) where
-  pub hands_part : (at n : ℕ) → found w k c ≡ Part at n → handed (take (at + n - at) (drop at w)) (p.0, at * 4 + p.1) ≡ part_of w p (found w k c)
-  hands_part at n e =
-      let l : at + n - at ≡ n = omega arith in
+  pub hands_part : (part : Part) → found w k c ≡ Ok part → handed (take (part.offset + part.length - part.offset) (drop part.offset w)) (p.0, part.offset * 4 + p.1) ≡ part_of w p (found w k c)
+  hands_part part e =
+      let l : part.offset + part.length - part.offset ≡ part.length = omega arith in
       rw (e, l)
 
-  pub hands_none : (number : Reason) (place : ℕ) → found w k c ≡ refused number place → handed [] (p.0, 0 * 4 + p.1) ≡ part_of w p (found w k c)
-  hands_none number place e =
+  pub hands_none : (stop : Refusal) → found w k c ≡ Err stop → handed [] (p.0, 0 * 4 + p.1) ≡ part_of w p (found w k c)
+  hands_none stop e =
       let l : 0 * 4 + p.1 ≡ p.1 = omega arith in
       rw (e, l)

@@ -17,6 +17,7 @@ use Rattle.show.specs.Show.{located, found, handed, part_of}
 use Rattle.show.specs.Show.{Shown}
 use Rattle.games.specs.declared.Reason.TheVariants as reason
 use Rattle.games.specs.Answers.{refused}
+use Rattle.std.specs.Prelude.{Ok}
 
 abbrev pub Row : Type 0
 Row = record { table : List ℕ; card : List ℕ; cell : ℕ; answer : Shown }
@@ -27,8 +28,8 @@ pub data Rows : List Row → Type 0 where
 
 pub rows : List Row
 rows =
-    record { table = table_a; card = card_a; cell = 0; answer = Part 4 3 }
-    ∷ record { table = table_a; card = card_a; cell = 1; answer = Part 7 3 }
+    record { table = table_a; card = card_a; cell = 0; answer = Ok (record { offset = 4; length = 3 }) }
+    ∷ record { table = table_a; card = card_a; cell = 1; answer = Ok (record { offset = 7; length = 3 }) }
     ∷ record { table = table_a; card = card_a; cell = 2; answer = refused reason.NumberBeyond 2 }
     ∷ record { table = table_a; card = set card_a 0 0x8021_0003; cell = 0; answer = refused reason.NoCard 6 }
     ∷ record { table = table_c; card = card_a; cell = 0; answer = refused reason.Disagree 0 }
@@ -41,5 +42,5 @@ unfolding rows found located pair_checked agree table_checked size_checked table
 every_row = row refl (row refl (row refl (row refl (row refl (row refl (row refl none))))))
 
 -- cell 1's action is dose: its words stand 28 bytes behind the table's first
-pub part_a : part_of table_a (5, 100) (Part 7 3) ≡ handed (0x5010_0004 ∷ 0x5011_0001 ∷ 0x5012_0004 ∷ []) (5, 128)
+pub part_a : part_of table_a (5, 100) (Ok (record { offset = 7; length = 3 })) ≡ handed (0x5010_0004 ∷ 0x5011_0001 ∷ 0x5012_0004 ∷ []) (5, 128)
 part_a = refl

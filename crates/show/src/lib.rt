@@ -30,6 +30,7 @@ fn locate(table: &[u32], card: &[u32], cell: Cell) -> Result<Part, Refusal>
 }
 
 // Where the part stands: the check of table and card, then 12.
+#[tactic(auto, unfolding(crate::specs::Show::found))]
 pub fn find(table: &[u32], card: &[u32], cell: Cell) -> Result<Part, Refusal>
     ensures { result ≡ found table.now card.now cell.0 }
 {

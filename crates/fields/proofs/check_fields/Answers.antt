@@ -1,7 +1,5 @@
 -- `fields::check_fields` meets its contract: one check after the other.
 use mathlib.Core.Path.{◌≡◌, sym, ◌∙◌}
-use Rattle.tables.specs.Check.{sets_checked}
-use Rattle.tables.specs.Fields.{game_of}
 use Rattle.fields.specs.Write.{slots_checked, masks_checked}
 use Rattle.fields.proofs.Laws.{slots_limited}
 use Rattle.fields.proofs.check_fields.Goals as goal

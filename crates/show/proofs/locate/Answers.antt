@@ -9,7 +9,7 @@ pub cells-requires : goal.cells-requires
 cells-requires c = (paired _ _ c.requires).card_fine
 
 pub returns-then-cells-cell : goal.returns-then-cells-cell
-returns-then-cells-cell c = no_such_cell _ _ _ (omega arith)
+returns-then-cells-cell c = rw c.at.ensures (no_such_cell _ _ _ (omega arith))
 
 pub cell_action-action-requires : goal.cell_action-action-requires
 cell_action-action-requires c = ((paired _ _ c.requires).card_fine, omega arith)
