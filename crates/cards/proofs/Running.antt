@@ -1,16 +1,18 @@
 -- Laws of the run: each move by its case, and what a card's automaton is.
 -- Assumes nothing.
-use Rattle.std.proofs.Common.{◌≡◌, ℕ, ◌+◌, ◌<◌, ◌≤◌, List, length, get_or, sym, refl, ap, ◌∙◌, subst, ⊎_elim, eq-eqb, ne_eqb, le-leb}
+use Rattle.std.proofs.Common.{◌≡◌, ℕ, ◌+◌, ◌<◌, ◌≤◌, List, length, get_or, sym, refl, ap, ◌∙◌, subst, ⊎_elim, eq-eqb, ne_eqb, le-leb, arith}
 use borrow.Author.Tests.{lt-leb}
 use Rattle.games.specs.Automaton.{Automaton, no_cell}
 use Rattle.games.specs.Fields.{low_field, action_field}
 use Rattle.games.specs.Answers.{refused}
 use Rattle.cards.specs.Card.{first_place, cell_place, next_place, card_cells, card_observations, automaton, checked, Named}
-use Rattle.cards.specs.Run.{entered, enters, begun, followed, opened, stepped}
+use Rattle.cards.specs.Run.{as_cell, led, enters_if, entered, enters, begun, followed, opened, stepped}
 use Rattle.cards.proofs.Checked.{fitting, cell_in, next_in}
 use Rattle.games.specs.declared.Reason.{Reason}
 use Rattle.games.specs.declared.Reason.TheVariants as reason
-use Rattle.std.specs.Prelude.{Ok}
+use Rattle.games.specs.declared.Cell.{Cell}
+use Rattle.std.specs.Option.{ForSome}
+use Rattle.std.specs.Prelude.{Ok, Option, Some}
 
 -- the fields of a card's automaton
 module _ (w : List ℕ) where
@@ -68,6 +70,14 @@ module _ (A : Automaton) (o : ℕ) where
   unfolding followed
   followed_enters c j k l = rw (followed, lt-leb A.size c k, lt-leb o j l)
 
+-- what a number names: the cell, where it is one
+pub led_some : (c : ℕ) (d : Cell) → led c ≡ Some d → (c ≡ no_cell → ⊥) × (d ≡ as_cell c)
+led_some c d e = grind arith
+
+pub enters_led : (A : Automaton) (c j : ℕ) → enters_if A (led c) j ≡ enters A c j
+unfolding enters
+enters_led A c j = grind arith
+
 -- opening and stepping on a checked card, by its automaton; and on words that are none
 pub opened_fine : (w : List ℕ) (j : ℕ) → checked w ≡ Ok tt → opened w j ≡ begun (automaton w) (card_observations w) j
 unfolding opened
@@ -103,8 +113,26 @@ module _ (w : List ℕ) (e : checked w ≡ Ok tt) where
   pub next_named_at : (c j x : ℕ) → c < card_cells w → j < card_observations w → x ≡ (automaton w).next c j → Named (automaton w) x
   next_named_at c j x l k f = subst (Named (automaton w)) (sym f) ((fitting w e).next_named c j (subst (λ (n : ℕ). c < n) (sym (size_of w)) l) k)
 
+  -- the cell that a word of the card leads to is one of its cells
+  led_below : (c : ℕ) (x : Option Cell) → Named (automaton w) c → x ≡ led c → ForSome x (λ d. d.0 < card_cells w)
+  led_below c x h f d g =
+      let some = led_some c d (sym f ∙ g) in
+      subst (λ (y : Cell). y.0 < card_cells w) (sym some.1) (cell_below c h some.0)
+
+  pub begins_led : (j : ℕ) (x : Option Cell) → j < card_observations w → x ≡ led ((automaton w).begins j) → ForSome x (λ d. d.0 < card_cells w)
+  begins_led j x l f = led_below ((automaton w).begins j) x ((fitting w e).begins_named j l) f
+
+  pub next_led : (c j : ℕ) (x : Option Cell) → c < card_cells w → j < card_observations w → x ≡ led ((automaton w).next c j)
+      → ForSome x (λ d. d.0 < card_cells w)
+  next_led c j x l k f = led_below ((automaton w).next c j) x ((fitting w e).next_named c j (subst (λ (n : ℕ). c < n) (sym (size_of w)) l) k) f
+
 -- the moves of a checked card, by what the code read
 module _ (w : List ℕ) where
+  pub begun_led : (j : ℕ) (x : Option Cell) → j < card_observations w → x ≡ led ((automaton w).begins j)
+      → enters_if (automaton w) x j ≡ begun (automaton w) (card_observations w) j
+  begun_led j x l f =
+      ap (λ (y : Option Cell). enters_if (automaton w) y j) f ∙ enters_led (automaton w) _ j ∙ sym (begun_enters (automaton w) (card_observations w) j l)
+
   pub enter_told : (c j x : ℕ) → (c ≡ no_cell → ⊥) → x ≡ (automaton w).action c → entered c x ≡ enters (automaton w) c j
   enter_told c j x n h = ap (entered c) h ∙ sym (enters_cell (automaton w) 0 c j n)
 
@@ -122,4 +150,11 @@ module _ (w : List ℕ) where
         → enters (automaton w) x j ≡ followed (automaton w) (card_observations w) c j
     followed_told x k f =
         ap (λ (i : ℕ). enters (automaton w) i j) f
+        ∙ sym (followed_enters (automaton w) (card_observations w) c j (subst (λ (n : ℕ). c < n) (sym (size_of w)) l) k)
+
+    pub followed_led : (x : Option Cell) → j < card_observations w → x ≡ led ((automaton w).next c j)
+        → enters_if (automaton w) x j ≡ followed (automaton w) (card_observations w) c j
+    followed_led x k f =
+        ap (λ (y : Option Cell). enters_if (automaton w) y j) f
+        ∙ enters_led (automaton w) _ j
         ∙ sym (followed_enters (automaton w) (card_observations w) c j (subst (λ (n : ℕ). c < n) (sym (size_of w)) l) k)

@@ -11,7 +11,7 @@ use Rattle.cards.specs.declared.Stood.{Stood}
 use Rattle.cards.specs.Card.{automaton, card_observations, checked}
 use Rattle.games.specs.declared.Reason.TheVariants as reason
 use Rattle.games.specs.Answers.{refused}
-use Rattle.std.specs.Prelude.{Result, Ok, Err}
+use Rattle.std.specs.Prelude.{Result, Ok, Err, Option, None, Some}
 
 -- a number as one of its column
 abbrev pub as_cell : ℕ → Cell
@@ -27,6 +27,15 @@ Move = Result Entered Refusal
 -- the cell entered and its action
 abbrev pub entered : (c a : ℕ) → Move
 entered c a = Ok (record { cell = as_cell c; action = record { 0 = a } })
+
+-- the cell that a first or next word names; 65,535 is none
+abbrev pub led : ℕ → Option Cell
+led c = cond (c == no_cell) None (Some (as_cell c))
+
+-- entering the cell that there is, with its action; 14 where there is none
+abbrev pub enters_if : Automaton → Option Cell → (j : ℕ) → Move
+enters_if A None j = refused reason.CannotOccur j
+enters_if A (Some c) j = entered c.0 (A.action c.0)
 
 -- what the observation j leads to: the cell c and its action, or 14 where the automaton says that j cannot occur
 unfoldable pub enters : Automaton → (c j : ℕ) → Move

@@ -10,7 +10,10 @@ ghost use Rattle.cards.specs.Checking.{Shaped, Pass, FitsBelow, names, RightName
 ghost use Rattle.cards.specs.Card.{automaton, card_cells, card_observations, card_actions, cell_place, Named};
 ghost use Rattle.cards.specs.Run.{enters, begun, followed, opened, stepped, stands_after, starts, advances};
 
+mod words;
+
 use games::{Action, Cell, Observation, Reason, Refusal};
+pub use words::Card;
 
 // A cell that was entered, and its action.
 #[derive(Clone, Copy, PartialEq, Eq, Debug)]
