@@ -22,6 +22,7 @@ use Rattle.trimming.proofs.Numbers.{new_none, no_none}
 use Rattle.trimming.proofs.Trimmed.{trimmed_checked, trimmed_observations, new_inside, new_action, new_next, new_begins}
 use Rattle.games.specs.declared.Reason.{Reason}
 use Rattle.games.specs.Answers.{refused}
+use Rattle.games.specs.declared.Reason.TheVariants as reason
 use Rattle.std.specs.Prelude.{Ok}
 
 -- a move of the trimmed card beside one of the card
@@ -57,7 +58,7 @@ module _ (w : List ℕ) (e : checked w ≡ Ok tt) where
       (λ l.
       let some : d ≡ no_cell → ⊥ = λ z. omega (arith, new_inside w e c l (r l), (fitting (trimmed w) right).cells) in
       both_enter c (A.action c) l (r l) (enters_cell B o d j some ∙ ap₂ entered f (ap B.action f ∙ new_action w e c l (r l))) (enters_cell A o c j (no_none A o (fitting w e).cells c l)))
-      (λ z. both_refuse 14 j (cannot_occur B o d j (f ∙ new_none A o c z)) (cannot_occur A o c j z))
+      (λ z. both_refuse reason.CannotOccur j (cannot_occur B o d j (f ∙ new_none A o c z)) (cannot_occur A o c j z))
       n
 
   -- the first observation
@@ -68,7 +69,7 @@ module _ (w : List ℕ) (e : checked w ≡ Ok tt) where
       ⊎_elim
       (λ l. rw (one, two, begun_enters B o j l, begun_enters A o j l)
       (enters_beside (A.begins j) (B.begins j) j ((fitting w e).begins_named j l) (λ b. reached_first A o (A.begins j) j l refl) (new_begins w e j l)))
-      (λ l. both_refuse 12 j (one ∙ begun_late B o j l) (two ∙ begun_late A o j l))
+      (λ l. both_refuse reason.NumberBeyond j (one ∙ begun_late B o j l) (two ∙ begun_late A o j l))
       (lt_or_le j o)
 
   -- a later one
@@ -81,7 +82,7 @@ module _ (w : List ℕ) (e : checked w ≡ Ok tt) where
       ⊎_elim
       (λ l. rw (one, two, followed_enters B o d j in_b l, followed_enters A o c j b l)
       (enters_beside (A.next c j) (B.next d j) j ((fitting w e).next_named c j b l) (λ k. reached_next A o c (A.next c j) j b r l refl k) (new_next w e c b r j l)))
-      (λ l. both_refuse 12 j (one ∙ followed_late B o d j in_b l) (two ∙ followed_late A o c j b l))
+      (λ l. both_refuse reason.NumberBeyond j (one ∙ followed_late B o d j in_b l) (two ∙ followed_late A o c j b l))
       (lt_or_le j o)
 
   moved_beside : (r s : Move) (j : ℕ) → Pair r s → Pair (moved (trimmed w) r j) (moved w s j)
@@ -97,7 +98,7 @@ module _ (w : List ℕ) (e : checked w ≡ Ok tt) where
 
   pub ran_beside : (h : List ℕ) → Pair (ran (trimmed w) h) (ran w h)
   unfolding ran
-  ran_beside [] = both_refuse 12 no_cell (ran_none (trimmed w) right) (ran_none w e)
+  ran_beside [] = both_refuse reason.NumberBeyond no_cell (ran_none (trimmed w) right) (ran_none w e)
   ran_beside (j ∷ h) = ran_from_beside h (opened (trimmed w) j) (opened w j) (opened_beside j)
 
   pub same_runs : SameRuns w

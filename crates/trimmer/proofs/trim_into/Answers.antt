@@ -30,11 +30,12 @@ card_length-need-requires c =
 
 pub returns-then-out-need : goal.returns-then-out-need
 returns-then-out-need c =
-    let words : List ℕ = c.args.card.now in
+    rw c.at.ensures
+    (let words : List ℕ = c.args.card.now in
     let need_is : c.card_length-need.result ≡ length (trimmed words) = c.card_length-need.ensures ∙ ap (card_length _) c.observations.ensures
     ∙ ap (λ (n : ℕ). card_length n (card_observations words)) c.mark_reached-kept.ensures.many
     ∙ sym (trimmed_long words) in
-    room_short words c.args.out.now _ need_is c.if-out-need.true
+    room_short words c.args.out.now _ need_is c.if-out-need.true)
 
 pub write_marked-requires : goal.write_marked-requires
 write_marked-requires c =
