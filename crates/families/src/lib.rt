@@ -205,14 +205,6 @@ fn unpack(word: u64, base: u32, k: usize, out: &mut [u32]) -> usize
     at
 }
 
-// A family's words, copied.
-pub fn copy(from: &[u64], out: &mut [u64])
-    requires { length from.now ≡ length out.old }
-    ensures { out.new ≡ from.now }
-{
-    out.copy_from_slice(from);
-}
-
 // The maximal sets, as bits in `found`. The lanes are done from the lowest: those above a lane are then still the family's.
 pub fn maximal_bits(bits: &[u64], n: u32, found: &mut [u64])
     requires { Closed n bits.now × (length found.old ≡ length bits.now) }

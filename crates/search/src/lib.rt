@@ -169,7 +169,7 @@ fn settle(moves: Moves, family: &mut [u64], next: &mut [u64]) -> Ended
         if *family == *next {
             return Ended::Settled(k);
         }
-        families::copy(next, family);
+        family.copy_from_slice(next);
         k = round;
     }
 }

@@ -1,6 +1,5 @@
 pub mod Logic
 pub mod Bounded
 pub mod Fills
-pub mod Reaching
 pub mod Mask
 pub mod Family

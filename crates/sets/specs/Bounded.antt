@@ -40,14 +40,6 @@ count (suc n) test = cond (test n) (suc (count n test)) (count n test)
 abbrev pub reaches : List ℕ → ℕ → ℕ → Bool
 reaches l bound i = leb bound (get_or l i 0)
 
--- and it does not stand before place `from`
-abbrev pub reaches_from : List ℕ → ℕ → ℕ → ℕ → Bool
-reaches_from l from bound i = leb from i && reaches l bound i
-
--- the first place from `from` on whose number is `bound` or more; the length where there is none
-unfoldable pub first_from : List ℕ → ℕ → ℕ → ℕ
-first_from l from bound = or_else (first (length l) (reaches_from l from bound)) (length l)
-
 -- the numbers below the bound that pass, ascending
 unfoldable pub select : ℕ → (ℕ → Bool) → List ℕ
 select zero test = []

@@ -2,7 +2,7 @@
 #![tactic(auto)]
 
 ghost use Rattle.std.specs.Prelude.{◌≡◌, ◌<◌, ◌≤◌, length};
-ghost use Rattle.sets.specs.Bounded.{fill as filled, first_from};
+ghost use Rattle.sets.specs.Bounded.{fill as filled};
 ghost use Rattle.sets.specs.Mask.{member as is_member, common as common_part, union as united, subset as is_subset, single as one, without as lacking};
 
 pub fn member(s: u32, i: u32) -> bool
@@ -49,23 +49,5 @@ pub fn fill(d: &mut [u32], end: usize, v: u32)
     requires { end ≤ length d.old }
     ensures { d.new ≡ filled end v d.old }
 {
-    let mut i = 0;
-    while i < end {
-        d[i] = v;
-        i += 1;
-    }
-}
-
-// The first place from `from` on whose mask is `bound` or more; the length where there is none.
-pub fn first_from(list: &[u32], from: usize, bound: u32) -> usize
-    ensures { result ≡ first_from list.now from bound }
-{
-    let mut i = from;
-    while i < list.len() {
-        if bound <= list[i] {
-            return i;
-        }
-        i += 1;
-    }
-    list.len()
+    d[..end].fill(v);
 }

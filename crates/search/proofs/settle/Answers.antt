@@ -86,13 +86,13 @@ returns-then-eq c =
     let passed : Bits played.states (good played (c.loop-k.k + 1)) left = good_next played fine c.loop-k.k c.loop-k.family c.loop-k.invariant.3.family left c.pass.ensures in
     turn_settled played fine c.loop-k.k c.loop-k.family c.loop-k.invariant.3 left passed (same_true _ _ c.eq.result c.eq.ensures c.if-eq.true)
 
-pub copy-requires : goal.copy-requires
-copy-requires c =
+pub copy_from_slice-requires : goal.copy_from_slice-requires
+copy_from_slice-requires c =
     let played : Game = game c.args.moves.table.now in
     let fine : Accepted played = accepted c.args.moves.table.now c.args.moves.ready.fine in
     let left : List ℕ = c.pass.new.next in
     let passed : Bits played.states (good played (c.loop-k.k + 1)) left = good_next played fine c.loop-k.k c.loop-k.family c.loop-k.invariant.3.family left c.pass.ensures in
-    let as_long : length left ≡ length c.loop-k.family = passed.size ∙ sym c.loop-k.invariant.3.family.size in
+    let as_long : length c.loop-k.family ≡ length left = c.loop-k.invariant.3.family.size ∙ sym passed.size in
     as_long
 
 pub loop-k-smaller : goal.loop-k-smaller
@@ -108,8 +108,8 @@ loop-k-preserved c =
     let fine : Accepted played = accepted c.args.moves.table.now c.args.moves.ready.fine in
     let left : List ℕ = c.pass.new.next in
     let passed : Bits played.states (good played (c.loop-k.k + 1)) left = good_next played fine c.loop-k.k c.loop-k.family c.loop-k.invariant.3.family left c.pass.ensures in
-    let e : c.copy.new.out ≡ left = c.copy.ensures in
-    let words : (j : ℕ) → get_or c.copy.new.out j 0 < 2 ^ 64 = λ j. omega (arith, c.type_inv.family j) in (
+    let e : c.copy_from_slice.new.self ≡ left = c.copy_from_slice.ensures.after in
+    let words : (j : ℕ) → get_or c.copy_from_slice.new.self j 0 < 2 ^ 64 = λ j. omega (arith, c.type_inv.family j) in (
       c.loop-k.invariant.0,
       ap length (sym e),
       words,
