@@ -5,8 +5,6 @@ use Rattle.text.specs.Text.{bytes}
 use Rattle.text.specs.Decimal.{last_digits, decimal, digit_of}
 use Rattle.text.specs.Read.{matched, skipped, number, no_number, misplaced, further_digits, number_of, read_decimal}
 use Rattle.text.specs.declared.Cursor.TheVariants.{At, Wrong}
-use Rattle.games.specs.declared.Reason.TheVariants as reason
-use Rattle.games.specs.Answers.{refused}
 
 -- ---- written
 
@@ -48,6 +46,6 @@ a_run : skipped (bytes "next ") (bytes "next 40 0") (At 0) ≡ At 5
 unfolding skipped matched
 a_run = refl
 
-another_run : skipped (bytes "nest ") (bytes "next 40 0") (At 0) ≡ refused reason.BadHead
+another_run : skipped (bytes "nest ") (bytes "next 40 0") (At 0) ≡ Wrong 2
 unfolding skipped matched
 another_run = refl
