@@ -12,7 +12,7 @@ use Rattle.games.specs.declared.Reason.{Reason}
 use Rattle.games.specs.declared.Reason.TheVariants as reason
 use Rattle.games.specs.declared.Cell.{Cell}
 use Rattle.std.specs.Option.{ForSome}
-use Rattle.std.specs.Prelude.{Ok, Option, Some}
+use Rattle.std.specs.Prelude.{Ok, Option, None, Some}
 
 -- the fields of a card's automaton
 module _ (w : List ℕ) where
@@ -73,6 +73,9 @@ module _ (A : Automaton) (o : ℕ) where
 -- what a number names: the cell, where it is one
 pub led_some : (c : ℕ) (d : Cell) → led c ≡ Some d → (c ≡ no_cell → ⊥) × (d ≡ as_cell c)
 led_some c d e = grind arith
+
+pub led_none : (c : ℕ) → led c ≡ None → c ≡ no_cell
+led_none c e = grind arith
 
 pub enters_led : (A : Automaton) (c j : ℕ) → enters_if A (led c) j ≡ enters A c j
 unfolding enters
