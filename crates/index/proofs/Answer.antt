@@ -18,8 +18,7 @@ use Rattle.games.specs.declared.Cell.{Cell}
 use Rattle.games.specs.Automaton.{state_count, holding}
 use Rattle.games.specs.Tightest.{Tightest}
 use Rattle.games.proofs.Holding.{holding_unheld}
-use Rattle.index.specs.declared.Held.{Held}
-use Rattle.index.specs.declared.Held.TheVariants.{By, Nowhere}
+use Rattle.std.specs.Prelude.{Option, Some, None}
 use Rattle.index.specs.Index.{held_by, named, TightestSet}
 use Rattle.index.proofs.Sizes.{has_below, listed_has}
 
@@ -58,21 +57,21 @@ module _ (tops : List ℕ) where
 -- ---- the answer
 
 module _ (l : List ℕ) (s : ℕ) where
-  pub held_nowhere : holds l s ≡ false → Nowhere ≡ held_by l s
+  pub held_nowhere : holds l s ≡ false → None ≡ held_by l s
   unfolding held_by
   held_nowhere h = rw h
 
-  pub held_cell : (c : ℕ) → holds l s ≡ true → holding l s ≡ c → By (record { 0 = c }) ≡ held_by l s
+  pub held_cell : (c : ℕ) → holds l s ≡ true → holding l s ≡ c → Some (record { 0 = c }) ≡ held_by l s
   unfolding held_by
   held_cell c h e = rw (h, e)
 
-  module _ (r : Held) (is : r ≡ held_by l s) where
-    pub nowhere_unheld : r ≡ Nowhere → holds l s ≡ false
+  module _ (r : Option Cell) (is : r ≡ held_by l s) where
+    pub nowhere_unheld : r ≡ None → holds l s ≡ false
     nowhere_unheld e =
         refuted (holds l s)
         (λ h. let w = held_cell (holding l s) h refl in let z : ◌≡◌ {A = ℕ} 0 1 = cc in absurd (omega arith))
 
-    pub by_holding : (c : Cell) → r ≡ By c → (holds l s ≡ true) × (c.0 ≡ holding l s)
+    pub by_holding : (c : Cell) → r ≡ Some c → (holds l s ≡ true) × (c.0 ≡ holding l s)
     by_holding c e =
         ⊎_elim
         (λ h. (h, let w = held_cell (holding l s) h refl in let same : c ≡ record { 0 = holding l s } = cc in ap (λ (x : Cell). x.0) same))

@@ -23,28 +23,27 @@ use Rattle.families.proofs.Lanes.{subset_lane}
 use Rattle.games.specs.Format.{max_states}
 use Rattle.games.specs.Automaton.{state_count}
 use Rattle.games.proofs.Holding.{count_few}
-use Rattle.index.specs.declared.Top.{Top}
-use Rattle.index.specs.declared.Top.TheVariants.{Set, Nothing}
+use Rattle.std.specs.Prelude.{Option, Some, None}
 use Rattle.index.specs.Index.{stands_in, Fits, is_in, lowest_in, told, Searched, TightestSet}
 use Rattle.index.proofs.Sizes.{by_ones, lane_states_lem, subset_states, subset_whole, has_lane, has_below, has_small, listed_has, has_listed}
 use Rattle.index.proofs.Marking.{mask_set}
 
 -- ---- what a layer's search told
 
-is_set : Top → Bool
-is_set (Set s) = true
-is_set Nothing = false
+is_set : Option ℕ → Bool
+is_set (Some s) = true
+is_set None = false
 
-set_of : Top → ℕ
-set_of (Set s) = s
-set_of Nothing = 0
+set_of : Option ℕ → ℕ
+set_of (Some s) = s
+set_of None = 0
 
-pub told_set : (f : Found) (s : ℕ) → told f ≡ Set s → f ≡ found s
+pub told_set : (f : Found) (s : ℕ) → told f ≡ Some s → f ≡ found s
 unfolding is_set set_of
 told_set nothing s e = absurd (false≢true (ap is_set e))
 told_set (found u) s e = ap found (ap set_of e)
 
-pub told_nothing : (f : Found) → told f ≡ Nothing → f ≡ nothing
+pub told_nothing : (f : Found) → told f ≡ None → f ≡ nothing
 unfolding is_set
 told_nothing nothing e = refl
 told_nothing (found u) e = absurd (false≢true (sym (ap is_set e)))

@@ -1,27 +1,23 @@
 -- What the search for a holding cell answers, and what it is helped by.
 -- Assumes nothing.
-use Rattle.std.specs.Prelude.{◌≡◌, Bool, true, cond, ◌&&◌, List, ℕ, ◌+◌, ◌-◌, ◌*◌, ◌/◌, ◌%◌, ◌≤◌, ◌<◌, eqb, ltb, length, get_or, take}
+use Rattle.std.specs.Prelude.{◌≡◌, Bool, true, cond, ◌&&◌, List, ℕ, ◌+◌, ◌-◌, ◌*◌, ◌/◌, ◌%◌, ◌≤◌, ◌<◌, eqb, ltb, length, get_or, take, Option, Some, None, unwrap_or}
 use Rattle.sets.specs.Mask.{member, subset}
 use Rattle.sets.specs.Bounded.{Found, nothing, found, first, any, count}
 use Rattle.sets.specs.Family.{holds}
 use Rattle.families.specs.Bits.{lane_states, lane_sets, max_lanes, has, sets}
 use Rattle.games.specs.Format.{max_states, max_cells}
 use Rattle.games.specs.Automaton.{no_cell, state_count, holding}
-use Rattle.index.specs.declared.Held.{Held}
-use Rattle.index.specs.declared.Held.TheVariants.{By, Nowhere}
-use Rattle.index.specs.declared.Top.{Top}
-use Rattle.index.specs.declared.Top.TheVariants.{Set, Nothing}
+use Rattle.games.specs.declared.Cell.{Cell}
 
 -- ---- the answer
 
 -- the cell that is named for s, where some set of the list holds s
-unfoldable pub held_by : List ℕ → ℕ → Held
-held_by l s = cond (holds l s) (By (record { 0 = holding l s })) Nowhere
+unfoldable pub held_by : List ℕ → ℕ → Option Cell
+held_by l s = cond (holds l s) (Some (record { 0 = holding l s })) None
 
 -- the cell that an answer names
-abbrev pub named : Held → ℕ
-named (By cell) = cell.0
-named Nowhere = no_cell
+abbrev pub named : Option Cell → ℕ
+named cell = (unwrap_or cell (record { 0 = no_cell })).0
 
 -- ---- what helps. `tops` are the cells' sets as bits
 
@@ -62,9 +58,9 @@ is_in tops lanes above k s = member lanes (s / lane_sets) && (has tops s && (mem
 unfoldable pub lowest_in : (tops : List ℕ) (lanes above k : ℕ) → Found
 lowest_in tops lanes above k = first (length tops * lane_sets) (is_in tops lanes above k)
 
-abbrev pub told : Found → Top
-told nothing = Nothing
-told (found s) = Set s
+abbrev pub told : Found → Option ℕ
+told nothing = None
+told (found s) = Some s
 
 -- ---- the search
 

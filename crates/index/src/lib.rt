@@ -17,23 +17,6 @@ pub const LAYERS: usize = MAX_STATES as usize + 1;
 // A mask for each set of the states below 6, and one for each number of them.
 pub const MASKS: usize = LANE_SETS as usize + LANE_STATES as usize + 1;
 
-// What holds a set of states.
-#[derive(Clone, Copy)]
-pub enum Held {
-    // the tightest cell whose set holds it, or NO_CELL where it has no state
-    By(Cell),
-    // no cell's set does
-    Nowhere,
-}
-
-// What a layer has for a set of states.
-#[derive(Clone, Copy)]
-enum Top {
-    // the lowest of its sets that hold it
-    Set(u32),
-    Nothing,
-}
-
 // The cells in front of the work, and from `base` on a note for each set: at a cell's set one more than its number, else 0.
 pub fn note_cells(tops: &[u64], base: usize, work: &mut [u32]) -> usize
     requires { Room tops.now base work.old }
@@ -42,11 +25,9 @@ pub fn note_cells(tops: &[u64], base: usize, work: &mut [u32]) -> usize
     let end = base + base;
     sets::fill(&mut work[base..end], base, 0);
     let count = families::write(tops, work);
-    let mut c: usize = 0;
-    while c < count {
+    for c in 0..count {
         let s = work[c];
         work[base + s as usize] = c as u32 + 1;
-        c += 1;
     }
     count
 }
@@ -57,12 +38,9 @@ pub fn mark_layers(cells: &[u32], layers: &mut [u64])
         × (layers.old ≡ replicate (1 + max_states) 0) }
     ensures { Layers cells.now layers.new }
 {
-    let mut c: usize = 0;
-    while c < cells.len() {
-        let s = cells[c];
+    for &s in cells {
         let k = u32::count_ones(s) as usize;
         layers[k] = layers[k] | (1 << (s / LANE_SETS));
-        c += 1;
     }
 }
 
@@ -82,82 +60,87 @@ pub fn mark_masks(masks: &mut [u64])
     requires { length masks.old ≡ mask_count }
     ensures { Masks masks.new }
 {
-    let mut i: usize = 0;
-    while i < masks.len() {
-        masks[i] = mask_at(i as u32);
-        i += 1;
+    for (i, mask) in masks.iter_mut().enumerate() {
+        *mask = mask_at(i as u32);
     }
 }
 
-// The lowest cell of k states, of those in the lanes, that `above` has.
-fn in_layer(tops: &[u64], masks: &[u64], lanes: u64, above: u64, k: u32) -> Top
-    requires { Fits tops.now lanes k × Masks masks.now }
-    ensures { result ≡ told (lowest_in tops.now lanes above k) }
-{
-    let mut rest = lanes;
-    while rest != 0 {
-        let x = u64::trailing_zeros(rest);
-        let lane = x as usize;
-        let size = (LANE_SETS + k - u32::count_ones(x)) as usize;
-        let hit = tops[lane] & above & masks[size];
-        if hit != 0 {
-            return Top::Set(x * LANE_SETS + u64::trailing_zeros(hit));
+// The settled cells with what helps to search them.
+#[derive(Clone, Copy)]
+pub struct Cells<'a> {
+    // the sets that a cell's set holds
+    pub family: &'a [u64],
+    // the cells' sets
+    pub tops: &'a [u64],
+    // for each number of states, the lanes of the cells that have so many
+    pub layers: &'a [u64],
+    pub masks: &'a [u64],
+    // where the notes begin: there is one for each set of the game's states
+    pub base: usize,
+    pub ghost indexed: { Index family.now tops.now layers.now masks.now },
+}
+
+impl Cells<'_> {
+    // The lowest cell of k states, of those in the lanes, that `above` has.
+    fn in_layer(self, lanes: u64, above: u64, k: u32) -> Option<u32>
+        requires { Fits self.tops.now lanes k }
+        ensures { result ≡ told (lowest_in self.entry.tops.now lanes above k) }
+    {
+        let mut rest = lanes;
+        while rest != 0 {
+            let x = u64::trailing_zeros(rest);
+            let lane = x as usize;
+            let size = (LANE_SETS + k - u32::count_ones(x)) as usize;
+            let hit = self.tops[lane] & above & self.masks[size];
+            if hit != 0 {
+                return Some(x * LANE_SETS + u64::trailing_zeros(hit));
+            }
+            rest = rest - (1 << x);
         }
-        rest = rest - (1 << x);
+        None
     }
-    Top::Nothing
-}
 
-// The tightest cell's set that holds t. A set of as many states as t that holds it is t; then the layers are gone through.
-fn tightest(tops: &[u64], layers: &[u64], masks: &[u64], t: u32) -> u32
-    requires { Searched tops.now layers.now masks.now × (t / lane_sets < length tops.now)
-        × (holds (sets tops.now) t ≡ true) }
-    ensures { TightestSet tops.now t result }
-{
-    if families::has(tops, t) {
-        return t;
-    }
-    let lane = (t / LANE_SETS) as usize;
-    let place = (t % LANE_SETS) as usize;
-    let mut k = u32::count_ones(t) + 1;
-    while k <= MAX_STATES {
-        let at = k as usize;
-        let found = in_layer(tops, masks, layers[at] & masks[lane], masks[place], k);
-        if let Top::Set(s) = found {
-            return s;
+    // The tightest cell's set that holds t. A set of as many states as t that holds it is t; then the layers are gone through.
+    fn tightest(self, t: u32) -> u32
+        requires { (t / lane_sets < length self.tops.now) × (holds (sets self.tops.now) t ≡ true) }
+        ensures { TightestSet self.entry.tops.now t result }
+    {
+        if families::has(self.tops, t) {
+            return t;
         }
-        k += 1;
+        let held = self.masks[(t / LANE_SETS) as usize];
+        let above = self.masks[(t % LANE_SETS) as usize];
+        for k in u32::count_ones(t) + 1..=MAX_STATES {
+            let lanes = self.layers[k as usize] & held;
+            if let Some(s) = self.in_layer(lanes, above, k) {
+                return s;
+            }
+        }
+        unreachable!()
     }
-    0
-}
 
-// The cell that holds t. What is found is noted, since few sets are asked for often; a set that is not in the family is in no cell.
-pub fn holding(
-    family: &[u64],
-    tops: &[u64],
-    layers: &[u64],
-    masks: &[u64],
-    base: usize,
-    work: &mut [u32],
-    t: u32,
-) -> Held
-    requires { Index family.now tops.now layers.now masks.now × Noted tops.now base work.old
-        × (t / lane_sets < length tops.now) × (t < base) }
-    ensures { (result ≡ held_by (sets tops.now) t) × Noted tops.now base work.new }
-{
-    if t == 0 {
-        return Held::By(Cell(NO_CELL));
+    // The cell that holds t, `NO_CELL` where t has no state; none where no cell's set holds it. What is found is noted, since few sets
+    // are asked for often; a set that is not in the family is in no cell.
+    pub fn holding(self, work: &mut [u32], t: u32) -> Option<Cell>
+        requires { Noted self.tops.now self.base work.old × (t / lane_sets < length self.tops.now)
+            × (t < self.base) }
+        ensures { (result ≡ held_by (sets self.entry.tops.now) t)
+            × Noted self.entry.tops.now self.entry.base work.new }
+    {
+        if t == 0 {
+            return Some(Cell(NO_CELL));
+        }
+        let at = self.base + t as usize;
+        let note = work[at];
+        if note != 0 {
+            return Some(Cell(note - 1));
+        }
+        if !families::has(self.family, t) {
+            return None;
+        }
+        let s = self.tightest(t);
+        let number = work[self.base + s as usize];
+        work[at] = number;
+        Some(Cell(number - 1))
     }
-    let at = base + t as usize;
-    let note = work[at];
-    if note != 0 {
-        return Held::By(Cell(note - 1));
-    }
-    if !families::has(family, t) {
-        return Held::Nowhere;
-    }
-    let s = tightest(tops, layers, masks, t);
-    let number = work[base + s as usize];
-    work[at] = number;
-    Held::By(Cell(number - 1))
 }

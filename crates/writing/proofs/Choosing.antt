@@ -20,8 +20,7 @@ use Rattle.games.specs.Fields.{word}
 use Rattle.games.specs.Automaton.{holding, chosen}
 use Rattle.games.proofs.Steps.{step_action}
 use Rattle.games.proofs.Settling.{cells_hold, settled_step}
-use Rattle.moves.specs.declared.Posted.{Posted}
-use Rattle.moves.specs.declared.Posted.TheVariants.{Blocked, Post}
+use Rattle.std.specs.Prelude.{Option, Some, None}
 use Rattle.moves.specs.Halves.{posted, shown_in}
 use Rattle.moves.proofs.Posting.{posted_post, meets_blocked, meets_shown}
 use Rattle.writing.specs.Writing.{SettledSet, set_words}
@@ -78,11 +77,11 @@ module _ (g : Game) (s o last a : ℕ) (out : List ℕ) (w : NoneMeets g s o las
       let h = step_action g (settled g) s (sym (settled_step g A s c.below) ∙ c.is_settled) in
       clash h.2 (first_nothing a (meets g (settled g) s) w.none h.0 (omega (arith, w.actions_are, h.1)))
 
-module _ (g : Game) (s a : ℕ) (r : Posted) (is : r ≡ posted g s a) where
-  pub blocked_fails : r ≡ Blocked → meets g (settled g) s a ≡ false
+module _ (g : Game) (s a : ℕ) (r : Option ℕ) (is : r ≡ posted g s a) where
+  pub blocked_fails : r ≡ None → meets g (settled g) s a ≡ false
   blocked_fails e = sym (meets_blocked g (settled g) s a r is e)
 
-  module _ (u : ℕ) (e : r ≡ Post u) where
+  module _ (u : ℕ) (e : r ≡ Some u) where
     pub uncovered_fails : (j : ℕ) → j < g.observations → settled g (common u (g.shown j)) ≡ false → meets g (settled g) s a ≡ false
     unfolding shown_in
     uncovered_fails j l f =

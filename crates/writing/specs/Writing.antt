@@ -10,17 +10,12 @@ use Rattle.games.specs.Verdict.{start_sets, start_set, settled, cells}
 use Rattle.games.specs.Automaton.{holding, chosen}
 use Rattle.games.specs.Fields.{word}
 use Rattle.games.specs.Words.{game, card_head}
-use Rattle.tables.specs.Check.{checked}
-use Rattle.index.specs.Index.{Index}
-use Rattle.std.specs.Prelude.{Ok}
 
--- an accepted table with its cells, as bits, and their index
-pub record Listed (table family tops layers masks : List ℕ) (base : ℕ) : Type 0 where
-  pub fine : checked table ≡ Ok tt
+-- the cells of an accepted table, as bits, and the number of the sets of its states
+pub record Listed (table tops : List ℕ) (base : ℕ) : Type 0 where
   pub are : sets tops ≡ cells (game table)
   pub wide : length tops ≡ lanes (game table).states
   pub all_sets : base ≡ 2 ^ (game table).states
-  pub index : Index family tops layers masks
 
 -- a settled set
 pub record SettledSet (g : Game) (s : ℕ) : Type 0 where

@@ -4,150 +4,82 @@
 ghost use Rattle.std.specs.Prelude.{◌≡◌, ◌≤◌, ◌++◌, length, drop};
 ghost use Rattle.games.specs.Words.{game, front_length, part_length, card_length, card_of};
 ghost use Rattle.families.specs.Bits.{sets as sets_of};
-ghost use Rattle.index.specs.Index.{named as named_by, Noted};
-ghost use Rattle.moves.specs.Halves.{Tabled};
+ghost use Rattle.index.specs.Index.{Noted};
 ghost use Rattle.writing.specs.Writing.{Listed, SettledSet, front_words, set_words};
 
 use games::{Action, Cell, NO_CELL, Observation};
-use index::Held;
-use moves::Posted;
+use index::Cells;
+use moves::Moves;
 
-// The cell that a first word names.
-fn named(held: Held) -> Cell
-    ensures { result.0 ≡ named_by held }
-{
-    match held {
-        Held::By(cell) => cell,
-        Held::Nowhere => Cell(NO_CELL),
-    }
+// An accepted table's moves, and its settled cells with what helps to search them.
+#[derive(Clone, Copy)]
+pub struct Settled<'a> {
+    pub moves: Moves<'a>,
+    pub cells: Cells<'a>,
+    pub ghost listed: { Listed moves.table.now cells.tops.now cells.base },
 }
 
-// The card's head and first cells.
-fn write_front(
-    table: &[u32],
-    family: &[u64],
-    tops: &[u64],
-    layers: &[u64],
-    masks: &[u64],
-    base: usize,
-    work: &mut [u32],
-    count: u32,
-    out: &mut [u32],
-)
-    requires { Listed table.now family.now tops.now layers.now masks.now base × Noted tops.now base work.old
-        × (count ≡ length (sets_of tops.now)) × (length out.old ≡ front_length (game table.now).observations) }
-    ensures { (out.new ≡ front_words (game table.now)) × Noted tops.now base work.new }
-{
-    let sets = tables::start_sets(table);
-    let mut j: u32 = 0;
-    while j < sets {
-        let first = named(index::holding(
-            family,
-            tops,
-            layers,
-            masks,
-            base,
-            work,
-            tables::start_set(table, Observation(j)),
-        ));
-        out[1 + j as usize] = cards::naming(games::KIND_FIRST, first, Observation(j));
-        j += 1;
+impl Settled<'_> {
+    // The card's head and first cells.
+    fn write_front(self, work: &mut [u32], count: u32, out: &mut [u32])
+        requires { Noted self.cells.tops.now self.cells.base work.old
+            × (count ≡ length (sets_of self.cells.tops.now))
+            × (length out.old ≡ front_length (game self.moves.table.now).observations) }
+        ensures { (out.new ≡ front_words (game self.entry.moves.table.now))
+            × Noted self.entry.cells.tops.now self.entry.cells.base work.new }
+    {
+        let table = self.moves.table;
+        for j in 0..tables::start_sets(table) {
+            let j = Observation(j);
+            let held = self.cells.holding(work, tables::start_set(table, j));
+            let first = held.unwrap_or(Cell(NO_CELL));
+            out[1 + j.0 as usize] = cards::naming(games::KIND_FIRST, first, j);
+        }
+        out[0] = cards::heading(count, tables::observations(table), tables::actions(table));
     }
-    out[0] = cards::heading(count, tables::observations(table), tables::actions(table));
-}
 
-// The words of the cell with the set s. Its action is the lowest that leads, for every observation, into a cell.
-fn write_cell(
-    table: &[u32],
-    low: &[u32],
-    high: &[u32],
-    family: &[u64],
-    tops: &[u64],
-    layers: &[u64],
-    masks: &[u64],
-    base: usize,
-    work: &mut [u32],
-    s: u32,
-    out: &mut [u32],
-)
-    requires { Listed table.now family.now tops.now layers.now masks.now base × Noted tops.now base work.old
-        × Tabled (game table.now) low.now high.now
-        × SettledSet (game table.now) s × (length out.old ≡ part_length (game table.now).observations) }
-    ensures { (out.new ≡ set_words (game table.now) s) × Noted tops.now base work.new }
-{
-    let o = tables::observations(table);
-    'actions: for a in 0..tables::actions(table) {
-        let posted = moves::post(table, low, high, s, Action(a));
-        let Posted::Post(u) = posted else {
-            continue 'actions;
-        };
-        for j in 0..o {
-            let t = u & tables::shown(table, Observation(j));
-            let cell = loop {
-                let held = index::holding(family, tops, layers, masks, base, work, t);
-                let Held::By(holder) = held else {
+    // The words of the cell with the set s. Its action is the lowest that leads, for every observation, into a cell.
+    fn write_cell(self, work: &mut [u32], s: u32, out: &mut [u32])
+        requires { Noted self.cells.tops.now self.cells.base work.old
+            × SettledSet (game self.moves.table.now) s
+            × (length out.old ≡ part_length (game self.moves.table.now).observations) }
+        ensures { (out.new ≡ set_words (game self.entry.moves.table.now) s)
+            × Noted self.entry.cells.tops.now self.entry.cells.base work.new }
+    {
+        let table = self.moves.table;
+        let o = tables::observations(table);
+        'actions: for a in 0..tables::actions(table) {
+            let Some(u) = self.moves.post(s, Action(a)) else {
+                continue 'actions;
+            };
+            for j in 0..o {
+                let t = u & tables::shown(table, Observation(j));
+                let Some(cell) = self.cells.holding(work, t) else {
                     continue 'actions;
                 };
-                break holder;
-            };
-            out[1 + j as usize] = cards::naming(games::KIND_NEXT, cell, Observation(j));
+                out[1 + j as usize] = cards::naming(games::KIND_NEXT, cell, Observation(j));
+            }
+            out[0] = cards::picking(s, Action(a));
+            return;
         }
-        out[0] = cards::picking(s, Action(a));
-        return;
     }
-}
 
-// The card's words at the front of its room.
-pub fn write_card(
-    table: &[u32],
-    low: &[u32],
-    high: &[u32],
-    family: &[u64],
-    tops: &[u64],
-    layers: &[u64],
-    masks: &[u64],
-    base: usize,
-    work: &mut [u32],
-    count: u32,
-    card: &mut [u32],
-)
-    requires { Listed table.now family.now tops.now layers.now masks.now base × Noted tops.now base work.old
-        × Tabled (game table.now) low.now high.now × (count ≡ length (sets_of tops.now))
-        × (card_length count (game table.now).observations ≤ length card.old) }
-    ensures { card.new ≡ card_of (game table.now)
-        ++ drop (card_length count (game table.now).observations) card.old }
-{
-    let o = tables::observations(table);
-    let front = games::front_length(o);
-    let part = games::part_length(o);
-    write_front(
-        table,
-        family,
-        tops,
-        layers,
-        masks,
-        base,
-        work,
-        count,
-        &mut card[..front],
-    );
-    let mut c: u32 = 0;
-    while c < count {
-        let at = cards::cell_place(o, Cell(c));
-        let s = work[c as usize];
-        write_cell(
-            table,
-            low,
-            high,
-            family,
-            tops,
-            layers,
-            masks,
-            base,
-            work,
-            s,
-            &mut card[at..at + part],
-        );
-        c += 1;
+    // The card's words at the front of its room.
+    pub fn write_card(self, work: &mut [u32], count: u32, card: &mut [u32])
+        requires { Noted self.cells.tops.now self.cells.base work.old
+            × (count ≡ length (sets_of self.cells.tops.now))
+            × (card_length count (game self.moves.table.now).observations ≤ length card.old) }
+        ensures { card.new ≡ card_of (game self.entry.moves.table.now)
+            ++ drop (card_length count (game self.entry.moves.table.now).observations) card.old }
+    {
+        let o = tables::observations(self.moves.table);
+        let front = games::front_length(o);
+        let part = games::part_length(o);
+        self.write_front(work, count, &mut card[..front]);
+        for c in 0..count {
+            let at = cards::cell_place(o, Cell(c));
+            let s = work[c as usize];
+            self.write_cell(work, s, &mut card[at..at + part]);
+        }
     }
 }

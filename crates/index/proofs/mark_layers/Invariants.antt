@@ -1,11 +1,6 @@
--- `index::mark_layers` meets its contract. The loop's invariant: the lanes of the first c cells are in their layers.
-use Prim.Native.Nat.{◌-◌, ◌≤◌}
-use lib.ListN.{length}
+-- `index::mark_layers` meets its contract. The loop's invariant: the lanes of the cells so far are in their layers.
 use Rattle.index.proofs.Marking.{Layered}
 use Rattle.index.proofs.mark_layers.Given as goal
 
-abbrev pub invariant-loop-c : goal.invariant-loop-c
-invariant-loop-c l = (l.c ≤ length l.cells) × Layered l.cells l.c l.layers
-
-abbrev pub decreases-loop-c : goal.decreases-loop-c
-decreases-loop-c l = length l.cells - l.c
+abbrev pub invariant-loop-s : goal.invariant-loop-s
+invariant-loop-s l = Layered l.cells l.s-index l.layers
