@@ -163,7 +163,7 @@ module _ (w : List ℕ) (e : checked w ≡ Ok tt) where
 
   moved_same : (r : Move) (j : ℕ) → moved (legible_card w) r j ≡ moved w r j
   unfolding moved
-  moved_same (Entered c a) j = stepped_same c.0 j
+  moved_same (Ok m) j = stepped_same m.cell.0 j
   moved_same (Err stop) j = refl
 
   ran_from_same : (h : List ℕ) (r s : Move) → r ≡ s → ran_from (legible_card w) r h ≡ ran_from w s h

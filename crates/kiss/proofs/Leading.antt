@@ -20,6 +20,7 @@ use Rattle.cards.proofs.Running.{size_of, cannot_occur, enters_cell, begun_late,
 use Rattle.cards.proofs.Runs.{moved_entered, ran_one, ran_more, ran_none, not_entered, same_entered}
 use Rattle.kiss.specs.Idle.{Led, at_first, later, led, idle, LowestIdle}
 use Rattle.kiss.proofs.Idling.{led_sound, led_complete}
+use Rattle.games.specs.declared.Reason.TheVariants as reason
 use Rattle.std.specs.Prelude.{Ok, Err}
 
 module _ (w : List ℕ) (e : checked w ≡ Ok tt) where
@@ -73,7 +74,7 @@ module _ (w : List ℕ) (e : checked w ≡ Ok tt) where
   enters_led x j n h c a f =
       ⊎_elim
       (λ l. let g = same_entered x (A.action x) c a (sym (enters_cell A o x j (some x l)) ∙ f) in subst (Led A o) g.0 (h l))
-      (λ z. not_entered 14 j c a (sym (cannot_occur A o x j z) ∙ f))
+      (λ z. not_entered reason.CannotOccur j c a (sym (cannot_occur A o x j z) ∙ f))
       n
 
   opened_led : (j : ℕ) → Leads (opened w j)
@@ -81,7 +82,7 @@ module _ (w : List ℕ) (e : checked w ≡ Ok tt) where
       let g : begun A o j ≡ entered c a = sym (opened_fine w j e) ∙ f in
       ⊎_elim
       (λ l. enters_led (A.begins j) j ((fitting w e).begins_named j l) (λ n. at_first j l refl n) c a (sym (begun_enters A o j l) ∙ g))
-      (λ l. not_entered 12 j c a (sym (begun_late A o j l) ∙ g))
+      (λ l. not_entered reason.NumberBeyond j c a (sym (begun_late A o j l) ∙ g))
       (lt_or_le j o)
 
   stepped_led : (d j : ℕ) → Led A o d → Leads (stepped w d j)
@@ -90,12 +91,12 @@ module _ (w : List ℕ) (e : checked w ≡ Ok tt) where
       let g : followed A o d j ≡ entered c a = sym (stepped_fine w d j e) ∙ f in
       ⊎_elim
       (λ l. enters_led (A.next d j) j ((fitting w e).next_named d j b l) (λ n. later d j r l refl n) c a (sym (followed_enters A o d j b l) ∙ g))
-      (λ l. not_entered 12 j c a (sym (followed_late A o d j b l) ∙ g))
+      (λ l. not_entered reason.NumberBeyond j c a (sym (followed_late A o d j b l) ∙ g))
       (lt_or_le j o)
 
   moved_led : (m : Move) (j : ℕ) → Leads m → Leads (moved w m j)
   unfolding moved
-  moved_led (Entered d b) j h c a f = stepped_led d.0 j (h d.0 b.0 refl) c a f
+  moved_led (Ok m) j h c a f = stepped_led m.cell.0 j (h m.cell.0 m.action.0 refl) c a f
   moved_led (Err stop) j h c a f = h c a f
 
   ran_from_led : (h : List ℕ) (m : Move) → Leads m → Leads (ran_from w m h)
@@ -105,7 +106,7 @@ module _ (w : List ℕ) (e : checked w ≡ Ok tt) where
 
   pub ran_led : (h : List ℕ) → Leads (ran w h)
   unfolding ran
-  ran_led [] c a f = not_entered 12 no_cell c a (sym (ran_none w e) ∙ f)
+  ran_led [] c a f = not_entered reason.NumberBeyond no_cell c a (sym (ran_none w e) ∙ f)
   ran_led (j ∷ h) c a f = ran_from_led h (opened w j) (opened_led j) c a f
 
   -- ---- the lowest idle cell
