@@ -1,69 +1,79 @@
 // Rows that write a card, and that read what was written.
-use crate::lines::{byte_at, number_at, rest, word_at};
-use crate::load::load_card;
-use crate::rooms::{FREE, MOST_BYTES, MOST_WORDS, read_front, write_within};
-use rows::print;
-use rows::print::say;
-use rows::stations::{GUARD, change};
+use crate::rooms::{self, FREE, MOST_BYTES, MOST_WORDS};
+use crate::source::{Source, next_number, word};
+use rows::stations::{Change, GUARD};
+use std::fmt::{self, Display};
 use std::io;
 
-// The bytes that were written, 0 where the card was refused.
-fn bytes_of(answer: kiss_writer::Answer) -> usize {
-    match answer {
-        kiss_writer::Answer::Written(bytes) => bytes,
-        kiss_writer::Answer::Refused(_, _) => 0,
+// A row: so much room, and the change of a word if it has one.
+#[derive(Clone, Copy)]
+struct Row {
+    room: usize,
+    change: Option<Change>,
+}
+
+fn row_of(text: &str) -> Row {
+    let mut words = text.split_whitespace();
+    let room = next_number(&mut words).unwrap_or(0);
+    let place = next_number(&mut words);
+    let word = words.next().map_or(0, word);
+    let change = place.map(|place| Change(place, word));
+    Row { room, change }
+}
+
+// The name of a card, whether it is that of a text, and the change of a word.
+#[derive(Clone, Copy)]
+struct Name<'a> {
+    name: &'a str,
+    source: Source<'a>,
+    change: Option<Change>,
+}
+
+impl Display for Name<'_> {
+    fn fmt<W: fmt::Write>(&self, f: &mut fmt::Formatter<W>) -> fmt::Result {
+        if let Source::Text(_) = self.source {
+            f.write_str("the card of ")?;
+        }
+        f.write_str(self.name)?;
+        if let Some(change) = self.change {
+            write!(f, " with {change}")?;
+        }
+        Ok(())
     }
 }
 
-fn read_back(rt: &impl Print, card: &[u32], room: usize) -> io::Result<()> {
-    let mut text = [FREE; MOST_BYTES];
-    let bytes = bytes_of(kiss_writer::write(card, &mut text));
-    read_front(rt, &text, bytes, room)
+// The card with its change, in front of the room.
+fn changed_card<'c>(source: Source, change: Option<Change>, room: &'c mut [u32]) -> &'c mut [u32] {
+    let card = source.card(room);
+    if let Some(change) = change {
+        change.make(card);
+    }
+    card
 }
 
-fn is_write(row: &[u8]) -> bool {
-    byte_at(row, 0) == 119
+pub fn write(rt: &impl Print, name: &str, source: Source, row: &str) -> io::Result<()> {
+    let Row { room, change } = row_of(row);
+    let mut words = [GUARD; MOST_WORDS];
+    let card = changed_card(source, change, &mut words);
+    let name = Name {
+        name,
+        source,
+        change,
+    };
+    rooms::write(rt, name, card, room)
 }
 
-// What is asked of which card; a word is changed if the row says so.
-fn print_row(rt: &impl Print, name: &[u8], data: &[u8], row: &[u8]) -> io::Result<()> {
-    if is_write(row) {
-        say(rt, b"write ")?;
-    } else {
-        say(rt, b"read the text of ")?;
-    }
-    if byte_at(data, 0) == 116 {
-        say(rt, b"the card of ")?;
-    }
-    say(rt, rest(name, 2))?;
-    if 8 < row.len() {
-        print::change(rt, number_at(row, 8), word_at(row, 14))?;
-    }
-    Ok(())
-}
-
-fn change_word(row: &[u8], card: &mut [u32]) {
-    if 8 < row.len() {
-        change(card, number_at(row, 8), word_at(row, 14));
-    }
-}
-
-fn run_row(rt: &impl Print, row: &[u8], card: &[u32]) -> io::Result<()> {
-    let room = number_at(row, 2);
-    if is_write(row) {
-        write_within(rt, card, room)
-    } else {
-        read_back(rt, card, room)
-    }
-}
-
-pub fn card_row(rt: &impl Print, name: &[u8], data: &[u8], row: &[u8]) -> io::Result<()> {
-    let mut card = [GUARD; MOST_WORDS];
-    let count = load_card(data, &mut card);
-    change_word(row, &mut card);
-    print_row(rt, name, data, row)?;
-    if count <= 8195 {
-        run_row(rt, row, &card[0..count])?;
-    }
-    Ok(())
+pub fn read_back(rt: &impl Print, name: &str, source: Source, row: &str) -> io::Result<()> {
+    let Row { room, change } = row_of(row);
+    let mut words = [GUARD; MOST_WORDS];
+    let card = changed_card(source, change, &mut words);
+    let name = Name {
+        name,
+        source,
+        change,
+    };
+    let mut bytes = [FREE; MOST_BYTES];
+    let written = kiss_writer::write(card, &mut bytes).unwrap_or(0);
+    let text = bytes.get(..written).unwrap_or(&[]);
+    rooms::read(rt, format_args!("the text of {name}"), text, room)
 }

@@ -1,122 +1,95 @@
 // One writing and one reading: the answer, and what stands in the room.
-use rows::print;
-use rows::print::say;
+use rows::print::{Told, Words, Wrote};
 use rows::stations::GUARD;
+use std::fmt::{self, Display};
 use std::io;
 
 // What each byte of a lent room holds before a call: `~`.
-pub const FREE: u8 = 126;
+pub const FREE: u8 = b'~';
 
 // Room for a card of 4,096 cells and one observation, and for its text.
 pub const MOST_WORDS: usize = 8195;
 
 pub const MOST_BYTES: usize = 73790;
 
-// A newline is shown as `|`, as in the input.
-fn show(rt: &impl Print, b: u8) -> io::Result<()> {
-    let shown = [b];
-    if b == 10 {
-        say(rt, b"|")
-    } else {
-        say(rt, &shown)
-    }
-}
+// Bytes of a text. A newline is shown as `|`, as in the input.
+#[derive(Clone, Copy)]
+struct Bytes<'a>(&'a [u8]);
 
-fn show_all(rt: &impl Print, bytes: &[u8]) -> io::Result<()> {
-    let mut i = 0;
-    while i < bytes.len() {
-        show(rt, bytes[i])?;
-        i += 1;
+impl Display for Bytes<'_> {
+    fn fmt<W: fmt::Write>(&self, f: &mut fmt::Formatter<W>) -> fmt::Result {
+        for byte in self.0 {
+            f.write_char(if *byte == b'\n' { '|' } else { *byte as char })?;
+        }
+        Ok(())
     }
-    Ok(())
-}
-
-fn bracketed(rt: &impl Print, bytes: &[u8]) -> io::Result<()> {
-    say(rt, b" [")?;
-    show_all(rt, bytes)?;
-    say(rt, b"]")
 }
 
 // All bytes of a room; of a long one the first and the last.
-fn print_bytes(rt: &impl Print, out: &[u8]) -> io::Result<()> {
-    if out.len() < 500 {
-        bracketed(rt, out)?;
-    } else {
-        let end = out.len() - 40;
-        bracketed(rt, &out[0..92])?;
-        bracketed(rt, &out[end..])?;
+#[derive(Clone, Copy)]
+struct TextRoom<'a>(&'a [u8]);
+
+impl Display for TextRoom<'_> {
+    fn fmt<W: fmt::Write>(&self, f: &mut fmt::Formatter<W>) -> fmt::Result {
+        let room = self.0;
+        if room.len() < 500 {
+            write!(f, "[{}]", Bytes(room))
+        } else {
+            let first = Bytes(&room[..92]);
+            let last = Bytes(&room[room.len() - 40..]);
+            write!(f, "[{first}] [{last}]")
+        }
     }
-    say(rt, b"\n")
 }
 
 // All words of a room; of a long one the last.
-fn print_words(rt: &impl Print, out: &[u32]) -> io::Result<()> {
-    if out.len() < 100 {
-        print::room(rt, out)
+fn shown_words(room: &[u32]) -> Words<'_> {
+    if room.len() < 100 {
+        Words(room)
     } else {
-        let end = out.len() - 3;
-        print::room(rt, &out[end..])
+        Words(&room[room.len() - 3..])
     }
 }
 
-fn into(rt: &impl Print, room: usize) -> io::Result<()> {
-    say(rt, b" into ")?;
-    print::decimal(rt, room as u64)
-}
+// The words and the cells of a card that was read.
+#[derive(Clone, Copy)]
+struct Got(kiss_reader::Read);
 
-fn print_written(rt: &impl Print, answer: kiss_writer::Answer) -> io::Result<()> {
-    match answer {
-        kiss_writer::Answer::Written(bytes) => print::wrote(rt, bytes),
-        kiss_writer::Answer::Refused(number, place) => print::refusal(rt, number, place),
+impl Display for Got {
+    fn fmt<W: fmt::Write>(&self, f: &mut fmt::Formatter<W>) -> fmt::Result {
+        let kiss_reader::Read { words, cells } = self.0;
+        write!(f, "read {words} {cells}")
     }
-}
-
-fn print_read(rt: &impl Print, answer: kiss_reader::Answer) -> io::Result<()> {
-    match answer {
-        kiss_reader::Answer::Read(words, cells) => {
-            say(rt, b": read ")?;
-            print::decimal(rt, words as u64)?;
-            say(rt, b" ")?;
-            print::decimal(rt, cells as u64)
-        }
-        kiss_reader::Answer::Refused(number, place) => print::refusal(rt, number, place),
-    }
-}
-
-fn write_into(rt: &impl Print, card: &[u32], out: &mut [u8]) -> io::Result<()> {
-    into(rt, out.len())?;
-    print_written(rt, kiss_writer::write(card, out))?;
-    print_bytes(rt, out)
 }
 
 // With room for so many bytes.
-pub fn write_within(rt: &impl Print, card: &[u32], room: usize) -> io::Result<()> {
-    let mut out = [FREE; MOST_BYTES];
-    if room <= 73790 {
-        write_into(rt, card, &mut out[0..room])?;
-    }
-    Ok(())
-}
-
-fn read_into(rt: &impl Print, text: &[u8], out: &mut [u32]) -> io::Result<()> {
-    into(rt, out.len())?;
-    print_read(rt, kiss_reader::read(text, out))?;
-    print_words(rt, out)
+pub fn write(
+    rt: &impl Print,
+    name: impl Display + Drop,
+    card: &[u32],
+    room: usize,
+) -> io::Result<()> {
+    let mut bytes = [FREE; MOST_BYTES];
+    let Some(out) = bytes.get_mut(..room) else {
+        return Ok(());
+    };
+    let answer = Told(kiss_writer::write(card, out).map(Wrote));
+    let text = TextRoom(out);
+    println!(rt; "write {name} into {room}: {answer} {text}")
 }
 
 // With room for so many words.
-fn read_within(rt: &impl Print, text: &[u8], room: usize) -> io::Result<()> {
-    let mut out = [GUARD; MOST_WORDS];
-    if room <= 8195 {
-        read_into(rt, text, &mut out[0..room])?;
-    }
-    Ok(())
-}
-
-// The same for the bytes in front.
-pub fn read_front(rt: &impl Print, text: &[u8], bytes: usize, room: usize) -> io::Result<()> {
-    if bytes <= text.len() {
-        read_within(rt, &text[0..bytes], room)?;
-    }
-    Ok(())
+pub fn read(
+    rt: &impl Print,
+    name: impl Display + Drop,
+    text: &[u8],
+    room: usize,
+) -> io::Result<()> {
+    let mut words = [GUARD; MOST_WORDS];
+    let Some(out) = words.get_mut(..room) else {
+        return Ok(());
+    };
+    let answer = Told(kiss_reader::read(text, out).map(Got));
+    let words = shown_words(out);
+    println!(rt; "read {name} into {room}: {answer} {words}")
 }

@@ -1,5 +1,5 @@
 // Which cells are kept, in which order and with which numbers.
-use crate::print_trim::{trim_2, trim_within};
+use crate::print_trim::{trim, trim_2};
 use rows::stations::{A_CARD, C_CARD, GUARD, STATES_12_CARD};
 use std::io;
 
@@ -28,28 +28,28 @@ const WIDEST_CARD: [u32; 27] = [
 ];
 
 // Four cells, and two cells with two observations.
-fn trim_4(rt: &impl Print, name: &[u8], card: &[u32]) -> io::Result<()> {
-    trim_within(rt, name, card, 5, 11)
+fn trim_4(rt: &impl Print, name: &str, card: &[u32]) -> io::Result<()> {
+    trim(rt, name, card, &mut [GUARD; 5], &mut [GUARD; 11])
 }
 
-fn trim_both(rt: &impl Print, name: &[u8], card: &[u32]) -> io::Result<()> {
-    trim_within(rt, name, card, 3, 10)
+fn trim_both(rt: &impl Print, name: &str, card: &[u32]) -> io::Result<()> {
+    trim(rt, name, card, &mut [GUARD; 3], &mut [GUARD; 10])
 }
 
 // Cards without idle cells stay as they are.
 fn unchanged(rt: &impl Print) -> io::Result<()> {
-    trim_2(rt, b"A's card", &A_CARD)?;
-    trim_both(rt, b"C's card", &C_CARD)?;
-    trim_2(rt, b"n 12's card", &STATES_12_CARD)
+    trim_2(rt, "A's card", &A_CARD)?;
+    trim_both(rt, "C's card", &C_CARD)?;
+    trim_2(rt, "n 12's card", &STATES_12_CARD)
 }
 
 fn idle(rt: &impl Print) -> io::Result<()> {
-    trim_2(rt, b"tightest's card", &TIGHTEST_CARD)?;
-    trim_4(rt, b"tied's card", &TIED_CARD)?;
+    trim_2(rt, "tightest's card", &TIGHTEST_CARD)?;
+    trim_4(rt, "tied's card", &TIED_CARD)?;
     let own: [u32; 6] = [
         0x80210002, 0x90000000, 0xA0000001, 0xB0000000, 0xA0100002, 0xB0000001,
     ];
-    trim_2(rt, b"a cell that only itself names", &own)
+    trim_2(rt, "a cell that only itself names", &own)
 }
 
 // To be named is not enough: the cell that names must be reached.
@@ -58,17 +58,17 @@ fn named_by_idle(rt: &impl Print) -> io::Result<()> {
         0x80210003, 0x90000000, 0xA0000001, 0xB0000000, 0xA0000002, 0xB0000002, 0xA0100004,
         0xB0000000,
     ];
-    trim_4(rt, b"a cell that only an idle one names", &behind)?;
+    trim_4(rt, "a cell that only an idle one names", &behind)?;
     let pair: [u32; 10] = [
         0x80210004, 0x90000000, 0xA0000001, 0xB0000003, 0xA0000002, 0xB0000002, 0xA0000004,
         0xB0000001, 0xA0100008, 0xB0000000,
     ];
-    trim_4(rt, b"two idle cells that name each other", &pair)
+    trim_4(rt, "two idle cells that name each other", &pair)
 }
 
 // The card's order, whichever cell is found first.
 fn ordered(rt: &impl Print) -> io::Result<()> {
-    trim_4(rt, b"cells found as 3, 1, 2", &TURNED_CARD)
+    trim_4(rt, "cells found as 3, 1, 2", &TURNED_CARD)
 }
 
 // Cell 0 is kept where no first word names a cell, and only there.
@@ -76,12 +76,12 @@ fn no_first(rt: &impl Print) -> io::Result<()> {
     let alone: [u32; 6] = [
         0x80210002, 0x9000FFFF, 0xA0000001, 0xB000FFFF, 0xA0100002, 0xB0000000,
     ];
-    trim_2(rt, b"no first cell", &alone)?;
+    trim_2(rt, "no first cell", &alone)?;
     let followed: [u32; 8] = [
         0x80210003, 0x9000FFFF, 0xA0000001, 0xB0000002, 0xA0000002, 0xB0000000, 0xA0100004,
         0xB000FFFF,
     ];
-    trim_4(rt, b"no first cell, cell 2 behind cell 0", &followed)
+    trim_4(rt, "no first cell, cell 2 behind cell 0", &followed)
 }
 
 fn one_first(rt: &impl Print) -> io::Result<()> {
@@ -89,29 +89,40 @@ fn one_first(rt: &impl Print) -> io::Result<()> {
         0x80220002, 0x9000FFFF, 0x90010001, 0xA0000001, 0xB0000000, 0xB0010000, 0xA0100002,
         0xB0000001, 0xB001FFFF,
     ];
-    trim_both(rt, b"one first cell for two observations", &card)
+    trim_both(rt, "one first cell for two observations", &card)
 }
 
 // The head keeps a and o.
 fn widest(rt: &impl Print) -> io::Result<()> {
-    trim_within(rt, b"a 8 o 8", &WIDEST_CARD, 3, 19)
+    trim(
+        rt,
+        "a 8 o 8",
+        &WIDEST_CARD,
+        &mut [GUARD; 3],
+        &mut [GUARD; 19],
+    )
 }
 
 // With just enough work and room; then the trimmed card once more.
 fn twice(rt: &impl Print) -> io::Result<()> {
-    let mut work = [GUARD; 2];
     let mut out = [GUARD; 4];
-    trim_within(rt, b"tightest's card", &TIGHTEST_CARD, 2, 4)?;
-    trimmer::trim(&TIGHTEST_CARD, &mut work, &mut out);
-    trim_within(rt, b"tightest's card again", &out, 1, 4)
+    trim(
+        rt,
+        "tightest's card",
+        &TIGHTEST_CARD,
+        &mut [GUARD; 2],
+        &mut out,
+    )?;
+    let name = "tightest's card again";
+    trim(rt, name, &out, &mut [GUARD; 1], &mut [GUARD; 4])
 }
 
 fn turned_twice(rt: &impl Print) -> io::Result<()> {
-    let mut work = [GUARD; 4];
+    let name = "cells found as 3, 1, 2";
     let mut out = [GUARD; 8];
-    trim_within(rt, b"cells found as 3, 1, 2", &TURNED_CARD, 4, 8)?;
-    trimmer::trim(&TURNED_CARD, &mut work, &mut out);
-    trim_within(rt, b"cells found as 3, 1, 2 again", &out, 3, 8)
+    trim(rt, name, &TURNED_CARD, &mut [GUARD; 4], &mut out)?;
+    let name = "cells found as 3, 1, 2 again";
+    trim(rt, name, &out, &mut [GUARD; 3], &mut [GUARD; 8])
 }
 
 pub fn rows(rt: &impl Print) -> io::Result<()> {

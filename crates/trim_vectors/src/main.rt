@@ -1,4 +1,4 @@
-// Runs the rows for the trimmer of cards (document 02, change 5) and prints what it answers and leaves in its buffers.
+// Runs the rows for the trimmer of cards and prints what it answers and leaves in its buffers.
 #![tactic(auto)]
 
 mod kept_rows;

@@ -1,5 +1,5 @@
-// Reads tables from standard input, one behind the other, and prints what each set comes to under each action in one walk (document 02,
-// change 4). The tests run it on many tables beside a walk of their own.
+// Reads tables from standard input, one behind the other, and prints what each set comes to under each action in one walk.
+// The tests run it on many tables beside a walk of their own.
 #![tactic(auto)]
 
 ghost use Rattle.std.specs.Prelude.{◌+◌, ◌*◌, ◌≤◌, ◌<◌, ◌≡◌, length, IfOk};
@@ -40,35 +40,15 @@ fn decode(bytes: &[u8], words: &mut [u32])
     }
 }
 
-fn say(rt: &impl Print, text: &[u8]) -> io::Result<()> {
-    rt.write_all(text)
-}
-
-fn decimal(rt: &impl Print, n: u64) -> io::Result<()> {
-    rt.print(n)
-}
-
-// Two numbers behind a text, and the line's end.
-fn line(rt: &impl Print, text: &[u8], first: u64, second: u64) -> io::Result<()> {
-    say(rt, text)?;
-    decimal(rt, first)?;
-    say(rt, b" ")?;
-    decimal(rt, second)?;
-    say(rt, b"\n")
-}
-
 // The line of one walk.
 fn print_walk(rt: &impl Print, table: &[u32], s: u32, a: Action) -> io::Result<()>
     requires { Sized table.now × (a.0 < (game table.now).actions) }
 {
-    say(rt, b"walk ")?;
-    decimal(rt, a.0 as u64)?;
-    say(rt, b" ")?;
-    decimal(rt, s as u64)?;
-    let walked = walk::walk(table, s, a);
-    match walked.post {
-        Err(i) => line(rt, b": blocked ", i.0 as u64, walked.looked as u64),
-        Ok(u) => line(rt, b": post ", u as u64, walked.looked as u64),
+    let action = a.0;
+    let Walked { post, looked } = walk::walk(table, s, a);
+    match post {
+        Ok(u) => println!(rt; "walk {action} {s}: post {u} {looked}"),
+        Err(State(i)) => println!(rt; "walk {action} {s}: blocked {i} {looked}"),
     }
 }
 
@@ -76,11 +56,8 @@ fn print_walk(rt: &impl Print, table: &[u32], s: u32, a: Action) -> io::Result<(
 fn each_set(rt: &impl Print, table: &[u32], a: Action) -> io::Result<()>
     requires { Sized table.now × (a.0 < (game table.now).actions) }
 {
-    let end = sets::single(tables::states(table));
-    let mut s: u32 = 0;
-    while s <= end {
+    for s in 0..=sets::single(tables::states(table)) {
         print_walk(rt, table, s, a)?;
-        s += 1;
     }
     Ok(())
 }
@@ -88,22 +65,17 @@ fn each_set(rt: &impl Print, table: &[u32], a: Action) -> io::Result<()>
 fn each_action(rt: &impl Print, table: &[u32]) -> io::Result<()>
     requires { Sized table.now }
 {
-    let end = tables::actions(table);
-    let mut a: u32 = 0;
-    while a < end {
+    for a in 0..tables::actions(table) {
         each_set(rt, table, Action(a))?;
-        a += 1;
     }
     Ok(())
 }
 
 fn print_table(rt: &impl Print, table: &[u32]) -> io::Result<()> {
-    say(rt, b"table ")?;
-    decimal(rt, table.len() as u64)?;
-    say(rt, b"\n")?;
+    println!(rt; "table {}", table.len())?;
     match tables::check(table) {
-        Checked::Refused(number, place) => line(rt, b"refused ", number as u64, place as u64),
-        Checked::Fine => each_action(rt, table),
+        Ok(()) => each_action(rt, table),
+        Err(refusal) => rt.println(Refused(refusal)),
     }
 }
 
@@ -112,20 +84,15 @@ fn first_length(words: &[u32]) -> usize
     requires { 0 < length words.now }
     ensures { (0 < result) × (result ≤ length words.now) }
 {
-    let asked = games::table_length(games::shape_of(words[0]));
-    if asked < words.len() {
-        asked
-    } else {
-        words.len()
-    }
+    games::table_length(games::shape_of(words[0])).min(words.len())
 }
 
 fn each_table(rt: &impl Print, words: &[u32]) -> io::Result<()> {
-    let mut at: usize = 0;
-    while at < words.len() {
-        let end = at + first_length(&words[at..]);
-        print_table(rt, &words[at..end])?;
-        at = end;
+    let mut rest = words;
+    while !rest.is_empty() {
+        let (table, behind) = rest.split_at(first_length(rest));
+        print_table(rt, table)?;
+        rest = behind;
     }
     Ok(())
 }
@@ -148,23 +115,8 @@ fn print_input(rt: &impl Print, bytes: &[u8]) -> io::Result<()> {
     each_table(rt, &words[..count])
 }
 
-// Reads until the buffer is full or the input ends, and answers how many bytes stand in front.
-fn read_full(reader: &mut impl Read, buffer: &mut [u8]) -> io::Result<usize>
-    ensures { IfOk result (λ n. n ≤ length buffer.new) }
-{
-    let mut done: usize = 0;
-    while done < buffer.len() {
-        let more = reader.read(&mut buffer[done..])?;
-        if more == 0 {
-            break;
-        }
-        done += more;
-    }
-    Ok(done)
-}
-
 fn main(rt: HostRuntime) -> io::Result<()> {
     let mut bytes = [0u8; INPUT_BYTES];
-    let end = read_full(&mut rt.stdin(), &mut bytes)?;
-    print_input(&rt, &bytes[..end])
+    let input = read_full(&mut rt.stdin(), &mut bytes)?;
+    print_input(&rt, input)
 }

@@ -1,0 +1,15 @@
+// Reading standard input into a buffer.
+use std::io::{self, Read};
+
+// Reads until the buffer is full or the input ends, and answers what was read.
+pub fn read_full<'b>(reader: &mut impl Read, buffer: &'b mut [u8]) -> io::Result<&'b [u8]> {
+    let mut done: usize = 0;
+    while done < buffer.len() {
+        let more = reader.read(&mut buffer[done..])?;
+        if more == 0 {
+            break;
+        }
+        done += more;
+    }
+    Ok(&buffer[..done])
+}
