@@ -6,8 +6,11 @@ ghost use Rattle.std.specs.Prelude.{◌+◌, ◌*◌, ◌≤◌, ◌<◌, ◌≡
 ghost use Rattle.games.specs.Words.{game};
 ghost use Rattle.tables.specs.Layout.{Sized};
 
-use games::{Action, Checked};
-use std::io::{self, Read};
+use games::{Action, State};
+use rows::input::read_full;
+use rows::print::Refused;
+use std::io;
+use walk::Walked;
 
 // The most words that are read, and their bytes.
 const INPUT_WORDS: usize = 16384;
