@@ -11,7 +11,10 @@ ghost use Rattle.tables.specs.Layout.{shape_in, head_word, bare_word, Sized};
 ghost use Rattle.tables.specs.Fields.{fields_shape, masks_from, fields_of, game_of};
 ghost use Rattle.tables.specs.Check.{limits_hold, head_right, size_checked, placed, faulty, words_checked, unseen, sets_checked, parked_checked, departs_from, parked_from, checked};
 
+mod words;
+
 use games::{Action, Observation, Place, Reason, Refusal, Shape, State};
+pub use words::{Accepted, Table};
 
 // The head's kind in its place, and as it stands above the head's numbers, where the spare bits are 0.
 const HEAD: u32 = games::KIND_TABLE * games::KIND_AT;
@@ -67,33 +70,26 @@ fn check_size(table: &[u32]) -> Result<(), Refusal>
     Ok(())
 }
 
-// The numbers of the table's head.
-fn shape_in(table: &[u32]) -> Shape
-    requires { Sized table.now }
-    ensures { result ≡ shape_in table.now }
-{
-    games::shape_of(table[0])
-}
-
+// Readers of words that are known to be sized: `Table` has them as methods.
 pub fn states(table: &[u32]) -> u32
     requires { Sized table.now }
     ensures { result ≡ (game table.now).states }
 {
-    shape_in(table).states
+    Table { words: table }.states()
 }
 
 pub fn actions(table: &[u32]) -> u32
     requires { Sized table.now }
     ensures { result ≡ (game table.now).actions }
 {
-    shape_in(table).actions
+    Table { words: table }.actions()
 }
 
 pub fn observations(table: &[u32]) -> u32
     requires { Sized table.now }
     ensures { result ≡ (game table.now).observations }
 {
-    shape_in(table).observations
+    Table { words: table }.observations()
 }
 
 // Where a set stands in the table.
@@ -101,23 +97,14 @@ pub fn place_in(table: &[u32], x: Place) -> usize
     requires { Sized table.now }
     ensures { result ≡ place_of (shape_in table.now) x }
 {
-    games::place_of(shape_in(table), x)
-}
-
-// The mask of a set's word.
-fn mask(table: &[u32], x: Place) -> u32
-    requires { Sized table.now × Within (shape_in table.now) x }
-    ensures { result ≡ mask_at table.now x }
-{
-    let at = place_in(table, x);
-    games::low_field(table[at])
+    Table { words: table }.place_in(x)
 }
 
 pub fn bad(table: &[u32]) -> u32
     requires { Sized table.now }
     ensures { result ≡ (game table.now).bad }
 {
-    mask(table, Place::Bad)
+    Table { words: table }.bad()
 }
 
 // The parked states; none where the table doesn't mark them.
@@ -125,10 +112,7 @@ pub fn parked(table: &[u32]) -> u32
     requires { Sized table.now }
     ensures { result ≡ (game table.now).parked }
 {
-    if shape_in(table).marked {
-        return mask(table, Place::Parked);
-    }
-    0
+    Table { words: table }.parked()
 }
 
 // The states that show the observation.
@@ -136,7 +120,7 @@ pub fn shown(table: &[u32], seen: Observation) -> u32
     requires { Sized table.now × (seen.0 < (game table.now).observations) }
     ensures { result ≡ (game table.now).shown seen.0 }
 {
-    mask(table, Place::Shown(seen))
+    Table { words: table }.shown(seen)
 }
 
 // The successors that the action gives the state.
@@ -144,7 +128,7 @@ pub fn successors(table: &[u32], a: Action, i: State) -> u32
     requires { Sized table.now × (a.0 < (game table.now).actions) × (i.0 < (game table.now).states) }
     ensures { result ≡ (game table.now).successors a.0 i.0 }
 {
-    mask(table, Place::Move(a, i))
+    Table { words: table }.successors(a, i)
 }
 
 // How many sets there are before the first action.
@@ -152,7 +136,7 @@ pub fn start_sets(table: &[u32]) -> u32
     requires { Sized table.now }
     ensures { result ≡ start_sets (game table.now) }
 {
-    observations(table)
+    Table { words: table }.start_sets()
 }
 
 // One of these sets: the start states that show the observation.
@@ -160,7 +144,7 @@ pub fn start_set(table: &[u32], seen: Observation) -> u32
     requires { Sized table.now × (seen.0 < start_sets (game table.now)) }
     ensures { result ≡ start_set (game table.now) seen.0 }
 {
-    sets::common(mask(table, Place::Start), shown(table, seen))
+    Table { words: table }.start_set(seen)
 }
 
 // The word at a place from 1 up, with no state in its mask.
@@ -178,31 +162,28 @@ pub fn bare_word(s: Shape, p: usize) -> u32
 }
 
 // The word's kind, spare bits and index are those of its place.
-fn is_placed(table: &[u32], p: usize) -> bool
-    requires { Sized table.now × (1 ≤ p) × (p < length table.now) }
-    ensures { result ≡ placed table.now p }
+fn is_placed(table: Table, p: usize) -> bool
+    requires { (1 ≤ p) × (p < length table.words.now) }
+    ensures { result ≡ placed table.entry.words.now p }
 {
-    let w = table[p];
-    w == bare_word(shape_in(table), p) + games::low_field(w)
+    let w = table.words[p];
+    w == bare_word(table.shape(), p) + games::low_field(w)
 }
 
 // The word is refused, by 4 or 5.
-fn is_faulty(table: &[u32], p: usize) -> bool
-    requires { Sized table.now × (1 ≤ p) × (p < length table.now) }
-    ensures { result ≡ faulty table.now p }
+fn is_faulty(table: Table, p: usize) -> bool
+    requires { (1 ≤ p) × (p < length table.words.now) }
+    ensures { result ≡ faulty table.entry.words.now p }
 {
-    let wide = sets::single(shape_in(table).states) <= games::low_field(table[p]);
+    let wide = sets::single(table.shape().states) <= games::low_field(table.words[p]);
     !is_placed(table, p) | wide
 }
 
 // Refusals 4 and 5.
-fn check_words(table: &[u32]) -> Result<(), Refusal>
-    requires { Sized table.now }
-    ensures { result ≡ words_checked table.now }
+fn check_words(table: Table) -> Result<(), Refusal>
+    ensures { result ≡ words_checked table.entry.words.now }
 {
-    let words = table.len();
-    let mut p: usize = 1;
-    while p < words {
+    for p in 1..table.words.len() {
         if is_faulty(table, p) {
             if is_placed(table, p) {
                 return Err(Reason::StateBeyond.at(p));
@@ -210,18 +191,16 @@ fn check_words(table: &[u32]) -> Result<(), Refusal>
                 return Err(Reason::Misplaced.at(p));
             }
         }
-        p += 1;
     }
     Ok(())
 }
 
 // Refusal 19, by the table's move words.
-fn check_departures(table: &[u32]) -> Result<(), Refusal>
-    requires { Sized table.now }
-    ensures { result ≡ parked_checked (game table.now) }
+fn check_departures(table: Table) -> Result<(), Refusal>
+    ensures { result ≡ parked_checked (game table.entry.words.now) }
 {
-    let first_move = place_in(table, Place::Move(Action(0), State(0)));
-    check_parked(table, first_move, shape_in(table), parked(table))
+    let first_move = table.place_in(Place::Move(Action(0), State(0)));
+    check_parked(table.words, first_move, table.shape(), table.parked())
 }
 
 // The table checks, 1 to 7 and 19.
@@ -229,9 +208,9 @@ fn check_departures(table: &[u32]) -> Result<(), Refusal>
 pub fn check(table: &[u32]) -> Result<(), Refusal>
     ensures { result ≡ checked table.now }
 {
-    check_size(table)?;
+    let table = Table::of(table)?;
     check_words(table)?;
-    check_sets(fields_of(table))?;
+    check_sets(table.fields())?;
     check_departures(table)
 }
 
@@ -263,46 +242,12 @@ pub fn fields_shape(f: Fields) -> Shape
     }
 }
 
-// The masks from a place on, into the front of `out`.
-fn copy_masks(table: &[u32], base: usize, count: usize, out: &mut [u32])
-    requires { (base + count ≤ length table.now) × (count ≤ length out.old) }
-    ensures { out.new ≡ filled_by count (masks_from table.now base) out.old }
-{
-    let mut i: usize = 0;
-    while i < count {
-        out[i] = games::low_field(table[base + i]);
-        i += 1;
-    }
-}
-
 // The fields of a table that was accepted.
 pub fn fields_of(table: &[u32]) -> Fields
     requires { Sized table.now }
     ensures { result ≡ fields_of table.now }
 {
-    let s = shape_in(table);
-    let first_shown = place_in(table, Place::Shown(Observation(0)));
-    let mut shown = [0u32; SHOWN_SLOTS];
-    copy_masks(table, first_shown, s.observations as usize, &mut shown);
-    let first_move = place_in(table, Place::Move(Action(0), State(0)));
-    let mut moves = [0u32; MOVE_SLOTS];
-    copy_masks(
-        table,
-        first_move,
-        (s.actions * s.states) as usize,
-        &mut moves,
-    );
-    Fields {
-        states: s.states,
-        actions: s.actions,
-        observations: s.observations,
-        start: mask(table, Place::Start),
-        bad: mask(table, Place::Bad),
-        marked: s.marked,
-        parked: parked(table),
-        shown,
-        moves,
-    }
+    Table { words: table }.fields()
 }
 
 // State i shows no observation.
@@ -310,14 +255,11 @@ fn is_unseen(f: Fields, i: State) -> bool
     requires { (f.observations ≤ max_observations) × (i.0 < 32) }
     ensures { result ≡ unseen (game_of f) i.0 }
 {
-    let o = f.observations as usize;
     let shown = f.shown;
-    let mut j: usize = 0;
-    while j < o {
+    for j in 0..f.observations as usize {
         if sets::member(shown[j], i.0) {
             return false;
         }
-        j += 1;
     }
     true
 }
@@ -330,13 +272,10 @@ pub fn check_sets(f: Fields) -> Result<(), Refusal>
     if f.start == 0 {
         return Err(Reason::NoStart.at(games::place_of(fields_shape(f), Place::Start)));
     }
-    let n = f.states;
-    let mut i: u32 = 0;
-    while i < n {
+    for i in 0..f.states {
         if is_unseen(f, State(i)) {
             return Err(Reason::Unseen.at(i as usize));
         }
-        i += 1;
     }
     Ok(())
 }
@@ -349,14 +288,10 @@ fn is_departing(words: &[u32], base: usize, s: Shape, parked: u32, i: State) -> 
     if !sets::member(parked, i.0) {
         return false;
     }
-    let n = s.states;
-    let actions = s.actions;
-    let mut a: u32 = 0;
-    while a < actions {
-        if games::low_field(words[base + (a * n + i.0) as usize]) != 0 {
+    for a in 0..s.actions {
+        if games::low_field(words[base + (a * s.states + i.0) as usize]) != 0 {
             return true;
         }
-        a += 1;
     }
     false
 }
@@ -366,13 +301,10 @@ pub fn check_parked(words: &[u32], base: usize, s: Shape, parked: u32) -> Result
     requires { Limited s × (base + s.actions * s.states ≤ length words.now) }
     ensures { result ≡ parked_from words.now base s parked }
 {
-    let n = s.states;
-    let mut i: u32 = 0;
-    while i < n {
+    for i in 0..s.states {
         if is_departing(words, base, s, parked, State(i)) {
             return Err(Reason::ParkedMoves.at(i as usize));
         }
-        i += 1;
     }
     Ok(())
 }

@@ -7,7 +7,7 @@ use Rattle.tables.proofs.Same.{table_parked}
 use Rattle.tables.proofs.check_departures.Goals as goal
 
 pub check_parked-requires : goal.check_parked-requires
-check_parked-requires c = rw (c.place_in-first_move.ensures, c.shape_in.ensures) (c.requires.limits, omega (arith, moves_row (shape_in c.args.table.now), c.requires.long))
+check_parked-requires c = rw (c.place_in-first_move.ensures, c.shape.ensures) (c.args.table.sized.limits, omega (arith, moves_row (shape_in c.args.table.words.now), c.args.table.sized.long))
 
 pub returns : goal.returns
-returns c = c.check_parked.ensures ∙ table_parked c.args.table.now _ _ _ c.place_in-first_move.ensures c.shape_in.ensures c.parked.ensures
+returns c = c.check_parked.ensures ∙ table_parked c.args.table.words.now _ _ _ c.place_in-first_move.ensures c.shape.ensures c.parked.ensures

@@ -20,19 +20,19 @@ returns-then-f-eq0 c =
     (ap (λ (p : ℕ). refused reason.NoStart p) c.place_of.ensures ∙ sym (sets_empty (game_of c.args.f) c.if-f-eq0.true))
 
 pub loop-i-init : goal.loop-i-init
-loop-i-init c = (search rules, first_zero _)
+loop-i-init c = first_zero _
 
 pub returns-then-is_unseen : goal.returns-then-is_unseen
 unfolding game_of
 returns-then-is_unseen c =
     rw c.at-then-is_unseen.ensures
-    (sym (sets_unseen (game_of c.args.f) c.if-f-eq0.false c.loop-i.i (search rules) c.loop-i.invariant.1 (sym c.is_unseen.ensures ∙ c.if-is_unseen.true)))
+    (sym (sets_unseen (game_of c.args.f) c.if-f-eq0.false c.loop-i.i (search rules) c.loop-i.invariant (sym c.is_unseen.ensures ∙ c.if-is_unseen.true)))
 
 pub loop-i-preserved : goal.loop-i-preserved
-loop-i-preserved c = (search rules, first_skip c.loop-i.i (unseen (game_of c.args.f)) c.loop-i.invariant.1 (sym c.is_unseen.ensures ∙ c.if-is_unseen.false))
+loop-i-preserved c = first_skip c.loop-i.i (unseen (game_of c.args.f)) c.loop-i.invariant (sym c.is_unseen.ensures ∙ c.if-is_unseen.false)
 
 pub returns : goal.returns
 unfolding game_of
 returns c =
     let e : c.loop-i.i ≡ c.args.f.states = omega arith in
-    sym (sets_fine (game_of c.args.f) c.if-f-eq0.false (rw e at c.loop-i.invariant.1))
+    sym (sets_fine (game_of c.args.f) c.if-f-eq0.false (rw e at c.loop-i.invariant))

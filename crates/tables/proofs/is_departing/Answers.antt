@@ -18,7 +18,7 @@ pub returns-then-not-member : goal.returns-then-not-member
 returns-then-not-member c = sym (not_parked c.args.words.now c.args.base c.args.s c.args.parked c.args.i.0 (sym c.member.ensures ∙ c.if-not-member.true))
 
 pub loop-a-init : goal.loop-a-init
-loop-a-init c = (search rules, any_zero _)
+loop-a-init c = any_zero _
 
 pub overflow_mul-a : goal.overflow_mul-a
 overflow_mul-a c =
@@ -63,10 +63,10 @@ returns-then-low_field-ne0 c =
     (rw (ne_eqb _ 0 (λ e. c.if-low_field-ne0.true (c.low_field.ensures ∙ e)))))
 
 pub loop-a-preserved : goal.loop-a-preserved
-loop-a-preserved c = (search rules, any_more c.loop-a.a _ ∙ or_false_intro c.loop-a.invariant.1 (rw (eq-eqb _ 0 (sym c.low_field.ensures ∙ c.if-low_field-ne0.false))))
+loop-a-preserved c = any_more c.loop-a.a _ ∙ or_false_intro c.loop-a.invariant (rw (eq-eqb _ 0 (sym c.low_field.ensures ∙ c.if-low_field-ne0.false)))
 
 pub returns : goal.returns
 returns c =
     let e : c.loop-a.a ≡ c.args.s.actions = omega arith in
     sym
-    (departs_never c.args.words.now c.args.base c.args.s c.args.parked c.args.i.0 (sym c.member.ensures ∙ c.if-not-member.false) (rw e at c.loop-a.invariant.1))
+    (departs_never c.args.words.now c.args.base c.args.s c.args.parked c.args.i.0 (sym c.member.ensures ∙ c.if-not-member.false) (rw e at c.loop-a.invariant))

@@ -1,7 +1,7 @@
 -- `tables::is_departing` meets its contract: before each turn no action so far has a successor.
 use mathlib.Core.Bool.{false, not}
 use mathlib.Core.Path.{◌≡◌}
-use Prim.Native.Nat.{◌+◌, ◌*◌, ◌≤◌, ◌-◌}
+use Prim.Native.Nat.{◌+◌, ◌*◌}
 use lib.Dec.{eqb}
 use lib.ListN.{get_or}
 use Rattle.sets.specs.Bounded.{any}
@@ -9,7 +9,4 @@ use Rattle.games.specs.Fields.{low_field}
 use Rattle.tables.proofs.is_departing.Given as goal
 
 abbrev pub invariant-loop-a : goal.invariant-loop-a
-invariant-loop-a l = (l.a ≤ l.actions) × (any l.a (λ b. not (eqb (low_field (get_or l.words (l.base + (b * l.n + l.i.0)) 0)) 0)) ≡ false)
-
-abbrev pub decreases-loop-a : goal.decreases-loop-a
-decreases-loop-a l = l.actions - l.a
+invariant-loop-a l = any l.a (λ b. not (eqb (low_field (get_or l.words (l.base + (b * l.s.states + l.i.0)) 0)) 0)) ≡ false
