@@ -1,7 +1,7 @@
 -- Laws of a run over a list of observations.
 -- Assumes nothing.
 use mathlib.Core.Path.{◌≡◌, refl, sym, ap, ap₂, subst, ◌∙◌}
-use mathlib.Core.Logic.{◌⊎◌, inl, inr, ⊎_elim}
+use mathlib.Core.Logic.{⊎_elim}
 use mathlib.Core.Bool.{Bool, cond}
 use mathlib.Core.List.{List}
 use Prim.Native.Nat.{ℕ, zero, suc, ◌+◌, ◌≤◌, ◌<◌}
@@ -9,7 +9,7 @@ use native.Mathlib.Nat.{not-suc-le-zero, eq-or-lt_of_le, le_of_suc-le-suc}
 use native.Mathlib.Numerals.{add-one}
 use native.Mathlib.Omega.{arith}
 use lib.ListN.{length, get_or, take, set}
-use borrow.Author.Tests.{eq-eqb, ne_eqb, lt-ltb, le-ltb}
+use borrow.Author.Tests.{lt-ltb, le-ltb}
 use Rattle.games.specs.Answers.{Leaves, leaves}
 use Rattle.games.specs.declared.Cell.{Cell}
 use Rattle.games.specs.declared.Action.{Action}
@@ -17,30 +17,23 @@ use Rattle.sets.proofs.Fills.{filled_none, filled_more, length_filled}
 use Rattle.cards.specs.Run.{Move}
 use Rattle.games.specs.Answers.{refused}
 use Rattle.cards.specs.Card.{automaton, card_observations, checked}
-use Rattle.cards.specs.Run.{entered, begun, followed, opened, stepped, moved, ran}
+use Rattle.cards.specs.Run.{entered, begun, followed, opened, moved, ran}
 use Rattle.cards.proofs.Running.{opened_fine, stepped_fine}
 use Rattle.cards.proofs.Runs.{moved_entered, ran_take_one, ran_take_more}
 use Rattle.runner.specs.Runs.{stopped, Ran}
-use Rattle.runner.specs.Runs.{move_at, move_on, action_of, further, ran_up_to, with_actions, Writable, written, writes, ran_into}
+use Rattle.runner.specs.Runs.{move_at, move_from, action_of, further, ran_up_to, with_actions, Writable, written, writes, ran_into}
 use Rattle.games.specs.declared.Reason.{Reason}
 use Rattle.games.specs.declared.Reason.TheVariants as reason
-use Rattle.std.specs.Prelude.{Ok, Err}
+use Rattle.std.specs.Prelude.{Ok, Err, Option, None, Some}
 
--- ---- the next move, by the observations taken
+-- ---- the next move, from the cell that the card is in
 
-opens : (w : List ℕ) (i c j : ℕ) {m : Move} → i ≡ 0 → m ≡ opened w j → m ≡ move_on w i c j
-opens w i c j e f = rw (eq-eqb i 0 e) f
+module _ (w : List ℕ) (j : ℕ) {m : Move} (fine : checked w ≡ Ok tt) where
+  pub opens_fine : m ≡ begun (automaton w) (card_observations w) j → m ≡ move_from w None j
+  opens_fine f = f ∙ sym (opened_fine w j fine)
 
-steps : (w : List ℕ) (i c j : ℕ) {m : Move} → (i ≡ 0 → ⊥) → m ≡ stepped w c j → m ≡ move_on w i c j
-steps w i c j n f = rw (ne_eqb i 0 n) f
-
--- the same on a checked card
-module _ (w : List ℕ) (i c j : ℕ) {m : Move} (fine : checked w ≡ Ok tt) where
-  pub opens_fine : i ≡ 0 → m ≡ begun (automaton w) (card_observations w) j → m ≡ move_on w i c j
-  opens_fine e f = opens w i c j e (f ∙ sym (opened_fine w j fine))
-
-  pub steps_fine : (i ≡ 0 → ⊥) → m ≡ followed (automaton w) (card_observations w) c j → m ≡ move_on w i c j
-  steps_fine n f = steps w i c j n (f ∙ sym (stepped_fine w c j fine))
+  pub steps_fine : (c : Cell) → m ≡ followed (automaton w) (card_observations w) c.0 j → m ≡ move_from w (Some c) j
+  steps_fine c f = f ∙ sym (stepped_fine w c.0 j fine)
 
 further_done : (r : Ran) (m : Move) (j : ℕ) → further r m ≡ Ok j → (i : ℕ) × (r ≡ Ok i) × (j ≡ i + 1)
 further_done (Ok i) (Ok m) j e = (i, refl, (cc))
@@ -56,47 +49,47 @@ module _ (w h : List ℕ) where
   unfolding ran_up_to
   up_to_more k = refl
 
+  -- the cell that the card is in after i observations, and none before the first
+  abbrev pub Here : ℕ → Option Cell → Type 0
+  Here i None = i ≡ 0
+  Here i (Some c) = (0 < i) × ((a : ℕ) × (ran w (take i h) ≡ entered c.0 a))
+
   -- a loop that runs the card has taken i observations, and is in cell c
-  pub record At (i c : ℕ) : Type 0 where
+  pub record At (i : ℕ) (c : Option Cell) : Type 0 where
     pub within : i ≤ length h
     pub taken : ran_up_to w h i ≡ Ok i
-    pub here : (i ≡ 0) ⊎ ((0 < i) × ((a : ℕ) × (ran w (take i h) ≡ entered c a)))
+    pub here : Here i c
 
-  pub at_none : (c : ℕ) → At 0 c
+  pub at_none : At 0 None
   unfolding ran_up_to
-  at_none c = record { within = omega arith; taken = refl; here = inl refl }
+  at_none = record { within = omega arith; taken = refl; here = refl }
 
-  first_move : (c : ℕ) → 0 < length h → move_on w 0 c (get_or h 0 0) ≡ move_at w h 0
-  first_move c l = sym (opens w 0 c (get_or h 0 0) refl (ran_take_one w h l))
+  move_here : (i : ℕ) (c : Option Cell) → Here i c → i < length h → move_from w c (get_or h i 0) ≡ move_at w h i
+  move_here i None e l = subst (λ (n : ℕ). opened w (get_or h n 0) ≡ move_at w h n) (sym e) (sym (ran_take_one w h (omega arith)))
+  move_here i (Some c) x l =
+      sym (ap (λ (n : ℕ). ran w (take n h)) (sym (add-one i))
+      ∙ ran_take_more w h i x.0 l
+      ∙ ap (λ (r : Move). moved w r (get_or h i 0)) x.1.1
+      ∙ moved_entered w c.0 x.1.0 (get_or h i 0))
 
-  later_move : (i c a : ℕ) → 0 < i → i < length h → ran w (take i h) ≡ entered c a → move_on w i c (get_or h i 0) ≡ move_at w h i
-  later_move i c a p l e =
-      sym (steps w i c (get_or h i 0) (λ z. omega arith)
-      (ap (λ (n : ℕ). ran w (take n h)) (sym (add-one i))
-      ∙ ran_take_more w h i p l
-      ∙ ap (λ (r : Move). moved w r (get_or h i 0)) e
-      ∙ moved_entered w c a (get_or h i 0)))
-
-  module _ (i c : ℕ) (at : At i c) (l : i < length h) where
-    move_is : move_on w i c (get_or h i 0) ≡ move_at w h i
-    move_is =
-        ⊎_elim (λ (e : i ≡ 0). subst (λ (n : ℕ). move_on w n c (get_or h n 0) ≡ move_at w h n) (sym e) (first_move c (omega arith)))
-        (λ x. later_move i c x.1.0 x.0 l x.1.1) at.here
+  module _ (i : ℕ) (c : Option Cell) (at : At i c) (l : i < length h) where
+    move_is : move_from w c (get_or h i 0) ≡ move_at w h i
+    move_is = move_here i c at.here l
 
     -- the move is an entry: one observation more is taken
-    module _ (r : Cell) (a : Action) (e : move_on w i c (get_or h i 0) ≡ Ok (record { cell = r; action = a })) where
-      pub at_more : At (i + 1) r.0
+    module _ (r : Cell) (a : Action) (e : move_from w c (get_or h i 0) ≡ Ok (record { cell = r; action = a })) where
+      pub at_more : At (i + 1) (Some r)
       at_more = record {
         within = omega arith;
         taken = ap (ran_up_to w h) (add-one i) ∙ up_to_more i ∙ ap₂ further at.taken (sym move_is ∙ e);
-        here = inr (omega arith, (a.0, ap (λ (n : ℕ). ran w (take n h)) (add-one i) ∙ sym move_is ∙ e));
+        here = (omega arith, (a.0, ap (λ (n : ℕ). ran w (take n h)) (add-one i) ∙ sym move_is ∙ e));
       }
 
       pub action_is : a.0 ≡ action_at i
       action_is = ap action_of (sym e ∙ move_is)
 
     -- the move is refused: so is the run
-    module _ (number : Reason) (place : ℕ) (e : move_on w i c (get_or h i 0) ≡ refused number place) where
+    module _ (number : Reason) (place : ℕ) (e : move_from w c (get_or h i 0) ≡ refused number place) where
       hit : ran_up_to w h (suc i) ≡ stopped number place i
       hit = up_to_more i ∙ ap₂ further at.taken (sym move_is ∙ e)
 
@@ -112,7 +105,7 @@ module _ (w h : List ℕ) where
       pub no_stop : ran_up_to w h (length h) ≡ Ok (length h) → ⊥
       no_stop f = let z : ◌≡◌ {A = ℕ} 0 1 = cc (stays (length h) l) in omega arith
 
-  pub run_ends : (i c : ℕ) → At i c → length h ≤ i → Ok i ≡ ran_up_to w h (length h)
+  pub run_ends : (i : ℕ) (c : Option Cell) → At i c → length h ≤ i → Ok i ≡ ran_up_to w h (length h)
   run_ends i c at l =
       let e : i ≡ length h = omega (arith, at.within) in
       sym (subst (λ (n : ℕ). ran_up_to w h n ≡ Ok i) e at.taken)
@@ -127,18 +120,18 @@ module _ (w h : List ℕ) where
 
   -- ---- what is written
 
-  pub record Wrote (d₀ d : List ℕ) (i c : ℕ) : Type 0 where
+  pub record Wrote (d₀ d : List ℕ) (i : ℕ) (c : Option Cell) : Type 0 where
     pub at : At i c
     pub front : d ≡ with_actions w h i d₀
 
-  pub wrote_none : (d : List ℕ) (c : ℕ) → Wrote d d 0 c
-  wrote_none d c = record { at = at_none c; front = filled_none action_at d }
+  pub wrote_none : (d : List ℕ) → Wrote d d 0 None
+  wrote_none d = record { at = at_none; front = filled_none action_at d }
 
-  module _ (d₀ d : List ℕ) (i c : ℕ) (s : Wrote d₀ d i c) (room : length h ≤ length d₀) where
+  module _ (d₀ d : List ℕ) (i : ℕ) (c : Option Cell) (s : Wrote d₀ d i c) (room : length h ≤ length d₀) where
     pub same_length : length d ≡ length d₀
     same_length = ap length s.front ∙ length_filled action_at i d₀ (omega (arith, s.at.within))
 
-    pub wrote_more : (r : Cell) (a : Action) → i < length h → move_on w i c (get_or h i 0) ≡ Ok (record { cell = r; action = a }) → Wrote d₀ (set d i a.0) (i + 1) r.0
+    pub wrote_more : (r : Cell) (a : Action) → i < length h → move_from w c (get_or h i 0) ≡ Ok (record { cell = r; action = a }) → Wrote d₀ (set d i a.0) (i + 1) (Some r)
     wrote_more r a l e = record {
       at = at_more i c s.at l r a e;
       front = ap₂ (λ (x : List ℕ) (v : ℕ). set x i v) s.front (action_is i c s.at l r a e) ∙ filled_more action_at i d₀ (omega arith);
@@ -172,9 +165,8 @@ module _ (w h : List ℕ) where
         ∙ ap (leaves (Ok k)) (sym f))
 
     -- the pass that writes may come
-    pub writable : (k : ℕ) → checked w ≡ Ok tt → ran_up_to w h (length h) ≡ Ok k → k ≤ length d → Writable w h d
-    writable k c e l = record {
-      right = c;
+    pub writable : (k : ℕ) → ran_up_to w h (length h) ≡ Ok k → k ≤ length d → Writable w h d
+    writable k e l = record {
       taken = e ∙ ap Ok (done_all (length h) k e);
       room = subst (λ (n : ℕ). n ≤ length d) (done_all (length h) k e) l;
     }

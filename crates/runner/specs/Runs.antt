@@ -1,6 +1,6 @@
 -- What a runner does, and what a run over a list of observations answers and writes (document 01, "Entries": Run).
 -- Assumes nothing.
-use Rattle.std.specs.Prelude.{◌≡◌, cond, List, [], ◌∷◌, ℕ, zero, suc, ◌+◌, ◌≤◌, eqb, ltb, length, take}
+use Rattle.std.specs.Prelude.{◌≡◌, cond, List, [], ◌∷◌, ℕ, zero, suc, ◌+◌, ◌≤◌, ltb, length, take}
 use Rattle.sets.specs.Bounded.{filled_by}
 use Rattle.games.specs.Answers.{unless, Leaves, leaves}
 use Rattle.games.specs.Automaton.{no_cell}
@@ -10,8 +10,8 @@ use Rattle.cards.specs.declared.Stood.{Stood}
 use Rattle.runner.specs.declared.Stopped.{Stopped}
 use Rattle.games.specs.declared.Reason.{Reason}
 use Rattle.games.specs.declared.Reason.TheVariants as reason
-use Rattle.std.specs.Prelude.{Result, Ok, Err}
-use Rattle.std.specs.Prelude.{Ok, Err}
+use Rattle.std.specs.Prelude.{Result, Ok, Err, Option, None, Some}
+use Rattle.games.specs.declared.Cell.{Cell}
 
 -- ---- the runner
 
@@ -31,9 +31,10 @@ standing w (j ∷ h) = standing_from w (starts w (as_observation j)) h
 abbrev pub move_at : (card seen : List ℕ) → ℕ → Move
 move_at w h i = ran w (take (suc i) h)
 
--- the same from the cell that it is in: the first observation opens the card
-abbrev pub move_on : (card : List ℕ) (taken cell seen : ℕ) → Move
-move_on w i c j = cond (eqb i 0) (opened w j) (stepped w c j)
+-- the same from the cell that it is in; where it is in none yet, the observation opens the card
+abbrev pub move_from : (card : List ℕ) → Option Cell → (seen : ℕ) → Move
+move_from w None j = opened w j
+move_from w (Some c) j = stepped w c.0 j
 
 -- the action that a move gives
 abbrev pub action_of : Move → ℕ
@@ -62,9 +63,8 @@ ran_up_to w h (suc k) = further (ran_up_to w h k) (move_at w h k)
 abbrev pub with_actions : (card seen : List ℕ) → ℕ → List ℕ → List ℕ
 with_actions w h k d = filled_by k (λ i. action_of (move_at w h i)) d
 
--- what the pass that writes asks: the card is one, the run takes every observation, and there is a word for each
+-- what the pass that writes asks: the run takes every observation, and there is a word for each
 pub record Writable (card seen out : List ℕ) : Type 0 where
-  pub right : checked card ≡ Ok tt
   pub taken : ran_up_to card seen (length seen) ≡ Ok (length seen)
   pub room : length seen ≤ length out
 

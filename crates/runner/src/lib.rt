@@ -1,14 +1,13 @@
-// The runner (document 01, "Entries": Run): a card's words, held and not copied, and the cell it is in. Three functions take, make or
-// have a local of a runner: two over the steps of `cards`, and `drive`, which has plain parameters. `run` needs no runner.
+// The runner (document 01, "Entries": Run): a card's words, held and not copied, and the cell it is in. `drive` has a local of
+// one and plain parameters. `run` needs none.
 #![tactic(auto)]
 
 ghost use Rattle.std.specs.Prelude.{◌≡◌, [], ◌∷◌, length};
 ghost use Rattle.games.specs.Answers.{leaves};
-ghost use Rattle.cards.specs.Card.{checked};
 ghost use Rattle.cards.specs.Run.{stands, starts, advances};
-ghost use Rattle.runner.specs.Runs.{standing, move_on, ran_up_to, with_actions, Writable, writes, ran_into};
+ghost use Rattle.runner.specs.Runs.{standing, move_from, ran_up_to, with_actions, Writable, writes, ran_into};
 
-use cards::{Move, Stood};
+use cards::{Card, Move, Stood};
 use games::{Cell, Observation, Reason, Refusal};
 
 #[derive(Clone, Copy)]
@@ -24,27 +23,40 @@ pub struct Opened<'c> {
     pub answer: Move,
 }
 
-// Opens a runner on a card with the first observation. Refused: its cell is 65,535.
-pub fn start<'c>(card: &'c [u32], seen: Observation) -> Opened<'c>
-    ensures { (result.runner.card ≡ card.entry) × (stands result.runner.cell result.answer ≡ starts card.now seen) }
-{
-    let stood = cards::opening(card, seen);
-    let cell = stood.cell;
-    let answer = stood.answer;
-    Opened {
-        runner: Runner { card, cell },
-        answer,
+impl<'c> Runner<'c> {
+    // Opens a runner on a card with the first observation. Refused: its cell is 65,535.
+    pub fn start(card: &'c [u32], seen: Observation) -> Opened<'c>
+        ensures { (result.runner.card ≡ card.entry) × (stands result.runner.cell result.answer ≡ starts card.now seen) }
+    {
+        let stood = cards::opening(card, seen);
+        Opened {
+            runner: Runner {
+                card,
+                cell: stood.cell,
+            },
+            answer: stood.answer,
+        }
     }
-}
 
-// Moves a runner by a later observation. Refused: it stays in its cell.
-pub fn advance<'r, 'c>(r: &'r mut Runner<'c>, seen: Observation) -> Move
-    ensures { (r.new.card ≡ r.old.card)
-        × (stands r.new.cell result ≡ advances r.old.card.now r.old.cell seen) }
-{
-    let stood = cards::moving(r.card, r.cell, seen);
-    r.cell = stood.cell;
-    stood.answer
+    // Moves it by a later observation. Refused: it stays in its cell.
+    pub fn advance(&mut self, seen: Observation) -> Move
+        ensures { (self.new.card ≡ self.old.card)
+            × (stands self.new.cell result ≡ advances self.old.card.now self.old.cell seen) }
+    {
+        let stood = cards::moving(self.card, self.cell, seen);
+        self.cell = stood.cell;
+        stood.answer
+    }
+
+    // Where it stands after an answer.
+    fn stood(self, answer: Move) -> Stood
+        ensures { result ≡ stands self.entry.cell answer }
+    {
+        Stood {
+            cell: self.cell,
+            answer,
+        }
+    }
 }
 
 // A runner after its first, second and third observation.
@@ -62,22 +74,13 @@ pub fn drive(card: &[u32], first: Observation, second: Observation, third: Obser
         × (result.moved ≡ standing card.now (first.0 ∷ second.0 ∷ []))
         × (result.last ≡ standing card.now (first.0 ∷ second.0 ∷ third.0 ∷ [])) }
 {
-    let opened = start(card, first);
-    let mut r = opened.runner;
-    let begun = Stood {
-        cell: r.cell,
-        answer: opened.answer,
-    };
-    let next = advance(&mut r, second);
-    let moved = Stood {
-        cell: r.cell,
-        answer: next,
-    };
-    let next = advance(&mut r, third);
-    let last = Stood {
-        cell: r.cell,
-        answer: next,
-    };
+    let opened = Runner::start(card, first);
+    let mut runner = opened.runner;
+    let begun = runner.stood(opened.answer);
+    let next = runner.advance(second);
+    let moved = runner.stood(next);
+    let next = runner.advance(third);
+    let last = runner.stood(next);
     Driven { begun, moved, last }
 }
 
@@ -91,68 +94,61 @@ pub struct Stopped {
 // How many observations were taken, which is all of them; or where it stopped.
 pub type Ran = Result<usize, Stopped>;
 
-// The move of a checked card on the next observation; the first opens it.
-fn move_on(card: &[u32], taken: usize, cell: Cell, seen: Observation) -> Move
-    requires { checked card.now ≡ Ok tt }
-    ensures { result ≡ move_on card.now taken cell.0 seen.0 }
-{
-    if taken == 0 {
-        cards::start(card, seen)
-    } else {
-        cards::follow(card, cell, seen)
+// A refusal before the first observation.
+impl From<Refusal> for Stopped {
+    ghost from_gives = { λ e s. s ≡ record { refusal = e; taken = 0 } };
+
+    fn from(refusal: Refusal) -> Stopped {
+        Stopped { refusal, taken: 0 }
     }
 }
 
-// Runs a checked card and writes nothing: refusals 12 and 14.
-fn try_run(card: &[u32], seen: &[u32]) -> Ran
-    requires { checked card.now ≡ Ok tt }
-    ensures { result ≡ ran_up_to card.now seen.now (length seen.now) }
+// The card's move on the next observation: it opens the card where no cell was entered yet.
+fn move_from(card: Card, cell: Option<Cell>, seen: Observation) -> Move
+    ensures { result ≡ move_from card.entry.words.now cell seen.0 }
 {
-    let mut cell: u32 = games::NO_CELL;
-    let mut i: usize = 0;
-    while i < seen.len() {
-        match move_on(card, i, Cell(cell), Observation(seen[i])) {
-            Err(refusal) => return Err(Stopped { refusal, taken: i }),
-            Ok(entered) => {
-                cell = entered.cell.0;
-            }
-        }
-        i += 1;
+    match cell {
+        None => card.start(seen),
+        Some(cell) => card.follow(cell, seen),
     }
-    Ok(i)
+}
+
+// Runs a card and writes nothing: refusals 12 and 14.
+fn try_run(card: Card, seen: &[u32]) -> Ran
+    ensures { result ≡ ran_up_to card.entry.words.now seen.now (length seen.now) }
+{
+    let mut cell: Option<Cell> = None;
+    for (i, j) in seen.iter().enumerate() {
+        match move_from(card, cell, Observation(*j)) {
+            Err(refusal) => return Err(Stopped { refusal, taken: i }),
+            Ok(entered) => cell = Some(entered.cell),
+        }
+    }
+    Ok(seen.len())
 }
 
 // The actions of a run that is not refused.
-fn write_actions(card: &[u32], seen: &[u32], out: &mut [u32])
-    requires { Writable card.now seen.now out.old }
-    ensures { out.new ≡ with_actions card.now seen.now (length seen.now) out.old }
+fn write_actions(card: Card, seen: &[u32], out: &mut [u32])
+    requires { Writable card.words.now seen.now out.old }
+    ensures { out.new ≡ with_actions card.entry.words.now seen.now (length seen.now) out.old }
 {
-    let mut cell: u32 = games::NO_CELL;
-    let mut i: usize = 0;
-    while i < seen.len() {
-        match move_on(card, i, Cell(cell), Observation(seen[i])) {
-            Err(_) => return,
-            Ok(entered) => {
-                cell = entered.cell.0;
-                out[i] = entered.action.0;
-            }
+    let mut cell: Option<Cell> = None;
+    for (i, j) in seen.iter().enumerate() {
+        if let Ok(entered) = move_from(card, cell, Observation(*j)) {
+            cell = Some(entered.cell);
+            out[i] = entered.action.0;
         }
-        i += 1;
     }
 }
 
-// Runs a checked card: a first pass that writes nothing (12, 14), then 15, then the pass that writes.
-fn run_checked(card: &[u32], seen: &[u32], out: &mut [u32]) -> Ran
-    requires { checked card.now ≡ Ok tt }
-    ensures { leaves result out.new ≡ writes card.now seen.now out.old }
+// Runs a card: a first pass that writes nothing (12, 14), then 15, then the pass that writes.
+fn run_checked(card: Card, seen: &[u32], out: &mut [u32]) -> Ran
+    ensures { leaves result out.new ≡ writes card.entry.words.now seen.now out.old }
 {
     let taken = try_run(card, seen)?;
     if out.len() < taken {
         return Err(Stopped {
-            refusal: Refusal {
-                reason: Reason::ShortList,
-                place: taken,
-            },
+            refusal: Reason::ShortList.at(taken),
             taken,
         });
     }
@@ -165,8 +161,5 @@ fn run_checked(card: &[u32], seen: &[u32], out: &mut [u32]) -> Ran
 pub fn run(card: &[u32], seen: &[u32], out: &mut [u32]) -> Ran
     ensures { leaves result out.new ≡ ran_into card.now seen.now out.old }
 {
-    match cards::check(card) {
-        Err(refusal) => Err(Stopped { refusal, taken: 0 }),
-        Ok(()) => run_checked(card, seen, out),
-    }
+    run_checked(Card::of(card)?, seen, out)
 }

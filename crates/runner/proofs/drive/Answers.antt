@@ -12,11 +12,12 @@ returns c =
     let j = c.args.second.0 in
     let k = c.args.third.0 in
     let begun : stands c.start-opened.result.runner.cell c.start-opened.result.answer ≡ standing w (i ∷ []) = c.start-opened.ensures.1 ∙ sym (standing_one w i) in
-    let next : stands c.advance-next.new.r.cell c.advance-next.result ≡ advances w c.start-opened.result.runner.cell c.args.second =
+    let next : stands c.advance-next.new.self.cell c.advance-next.result ≡ advances w c.start-opened.result.runner.cell c.args.second =
     c.advance-next.ensures.1
     ∙ ap (λ (b : Bor (List ℕ)). advances b.now c.start-opened.result.runner.cell c.args.second) c.start-opened.ensures.0 in
-    let moved : stands c.advance-next.new.r.cell c.advance-next.result ≡ standing w (i ∷ j ∷ []) = stands_more w (i ∷ []) j (omega arith) begun next in
-    let third : stands c.advance-next-2.new.r.cell c.advance-next-2.result ≡ advances w c.advance-next.new.r.cell c.args.third =
+    let moved : stands c.advance-next.new.self.cell c.advance-next.result ≡ standing w (i ∷ j ∷ []) = stands_more w (i ∷ []) j (omega arith) begun next in
+    let third : stands c.advance-next-2.new.self.cell c.advance-next-2.result ≡ advances w c.advance-next.new.self.cell c.args.third =
     c.advance-next-2.ensures.1
-    ∙ ap (λ (b : Bor (List ℕ)). advances b.now c.advance-next.new.r.cell c.args.third) (c.advance-next.ensures.0 ∙ c.start-opened.ensures.0) in
-    (begun, moved, stands_more w (i ∷ j ∷ []) k (omega arith) moved third)
+    ∙ ap (λ (b : Bor (List ℕ)). advances b.now c.advance-next.new.self.cell c.args.third) (c.advance-next.ensures.0 ∙ c.start-opened.ensures.0) in
+    let last = stands_more w (i ∷ j ∷ []) k (omega arith) moved third in
+    (c.stood-begun.ensures ∙ begun, c.stood-moved.ensures ∙ moved, c.stood-last.ensures ∙ last)

@@ -1,15 +1,9 @@
 -- The first observation opens the checked card, a later one steps.
 use Rattle.runner.proofs.Laws.{opens_fine, steps_fine}
-use Rattle.runner.proofs.move_on.Goals as goal
+use Rattle.runner.proofs.move_from.Goals as goal
 
-pub start-requires : goal.start-requires
-start-requires c = c.requires
+pub returns-in-None : goal.returns-in-None
+returns-in-None c = rw c.in-None.is (opens_fine _ _ c.args.card.checked c.start.ensures)
 
-pub follow-requires : goal.follow-requires
-follow-requires c = c.requires
-
-pub returns-then-taken-eq0 : goal.returns-then-taken-eq0
-returns-then-taken-eq0 c = opens_fine _ _ _ _ c.requires c.if-taken-eq0.true c.start.ensures
-
-pub returns-else-taken-eq0 : goal.returns-else-taken-eq0
-returns-else-taken-eq0 c = steps_fine _ _ _ _ c.requires c.if-taken-eq0.false c.follow.ensures
+pub returns-in-Some : goal.returns-in-Some
+returns-in-Some c = rw c.in-Some.is (steps_fine _ _ c.args.card.checked _ c.follow.ensures)

@@ -1,11 +1,6 @@
 -- Invariant: the first i observations were taken, and the card is in the cell after them.
-use Prim.Native.Nat.{◌-◌}
-use lib.ListN.{length}
 use Rattle.runner.proofs.Laws.{At}
 use Rattle.runner.proofs.try_run.Given as goal
 
 abbrev pub invariant-loop-i : goal.invariant-loop-i
-invariant-loop-i l = At l.card l.seen l.i l.cell
-
-abbrev pub decreases-loop-i : goal.decreases-loop-i
-decreases-loop-i l = length l.seen - l.i
+invariant-loop-i l = At l.card.words.now l.seen l.i l.cell

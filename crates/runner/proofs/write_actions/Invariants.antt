@@ -1,11 +1,6 @@
 -- Invariant: the first i observations were taken, the card is in the cell after them, and their actions stand in front of the buffer.
-use Prim.Native.Nat.{◌-◌}
-use lib.ListN.{length}
 use Rattle.runner.proofs.Laws.{Wrote}
 use Rattle.runner.proofs.write_actions.Given as goal
 
 abbrev pub invariant-loop-i : goal.invariant-loop-i
-invariant-loop-i l = Wrote l.card l.seen l.initial.out l.out l.i l.cell
-
-abbrev pub decreases-loop-i : goal.decreases-loop-i
-decreases-loop-i l = length l.seen - l.i
+invariant-loop-i l = Wrote l.card.words.now l.seen l.initial.out l.out l.i l.cell
