@@ -47,10 +47,7 @@ pub fn lane_count(n: u32) -> usize
     requires { n ≤ max_states }
     ensures { result ≡ lanes n }
 {
-    if n <= LANE_STATES {
-        return 1;
-    }
-    1 << (n - LANE_STATES)
+    1 << n.saturating_sub(LANE_STATES)
 }
 
 // The set s is in the family.
@@ -128,11 +125,7 @@ fn lane_with(bits: &[u64], lane: usize, i: u32) -> u64
     requires { i < high_states }
     ensures { result ≡ get_or bits.now (union lane (2 ^ i)) 0 }
 {
-    let with = lane | (1 << i);
-    if with < bits.len() {
-        return bits[with];
-    }
-    0
+    bits.get(lane | (1 << i)).copied().unwrap_or(0)
 }
 
 // The same, but no set where this lane has the state.
