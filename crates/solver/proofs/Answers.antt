@@ -20,9 +20,8 @@ use Rattle.games.specs.Answers.{refused}
 use Rattle.games.proofs.Decided.{verdict_yes}
 use Rattle.tables.specs.Check.{checked}
 use Rattle.solver.specs.Solve.{work_words, by_verdict, Buffers, buffers, searched, solved, WorkEnough}
-use Rattle.solver.specs.Solve.{Answer}
-use Rattle.solver.specs.declared.Verdict.TheVariants.{Yes as SaysYes, No as SaysNo}
-use Rattle.games.specs.declared.Reason.{Reason}
+use Rattle.solver.specs.Solve.{Answer, says_yes, says_no}
+use Rattle.games.specs.declared.Refusal.{Refusal}
 use Rattle.games.specs.declared.Reason.TheVariants as reason
 use Rattle.std.specs.Prelude.{Ok, Err}
 
@@ -38,14 +37,14 @@ module _ (g : Game) (d : List ℕ) (t m need : ℕ) (is : need ≡ card_length m
       let n = card_length m g.observations in
       ap (λ (x : ℕ). leaves (refused reason.ShortRoom x) d) is ∙ sym (rw (lt-ltb (length d) n (subst (λ (x : ℕ). length d < x) is h)))
 
-  pub granted_written : need ≤ length d → (e : List ℕ) → e ≡ card_of g ++ drop (card_length m g.observations) d → leaves (SaysYes t m) e ≡ by_verdict g d (Yes t m)
+  pub granted_written : need ≤ length d → (e : List ℕ) → e ≡ card_of g ++ drop (card_length m g.observations) d → leaves (says_yes t m) e ≡ by_verdict g d (Yes t m)
   unfolding by_verdict
   granted_written h e w =
       let n = card_length m g.observations in
-      ap (leaves (SaysYes t m)) w ∙ sym (rw (le-ltb (length d) n (subst (λ (x : ℕ). x ≤ length d) is h)))
+      ap (leaves (says_yes t m)) w ∙ sym (rw (le-ltb (length d) n (subst (λ (x : ℕ). x ≤ length d) is h)))
 
 module _ (g : Game) (d : List ℕ) where
-  pub decided_no : (k : ℕ) → verdict g ≡ No k → leaves (SaysNo k) d ≡ by_verdict g d (verdict g)
+  pub decided_no : (k : ℕ) → verdict g ≡ No k → leaves (says_no k) d ≡ by_verdict g d (verdict g)
   unfolding by_verdict
   decided_no k e = sym (ap (by_verdict g d) e)
 
@@ -53,9 +52,9 @@ module _ (g : Game) (d : List ℕ) where
   decided_yes k m s h l x e = e ∙ ap (by_verdict g d) (ap₂ Yes (sym s) l ∙ sym (verdict_yes g h))
 
 module _ (w work d : List ℕ) where
-  pub solved_stopped : (n : Reason) (p : ℕ) → checked w ≡ Stopped n p → leaves (refused n p) (buffers work d) ≡ solved w work d
+  pub solved_stopped : (stop : Refusal) → checked w ≡ Err stop → leaves (Err stop) (buffers work d) ≡ solved w work d
   unfolding solved
-  solved_stopped n p e = sym (rw e)
+  solved_stopped stop e = sym (rw e)
 
   module _ (fine : checked w ≡ Ok tt) (need : ℕ) (is : need ≡ work_words (game w).states) where
     fine_is : solved w work d ≡ searched (game w) work d
@@ -79,11 +78,11 @@ module _ (w work d : List ℕ) where
 -- ---- the ways in which solve ends, with the answer r and the words e in the card room
 
 pub data Ending (w work d : List ℕ) (r : Answer) (e : List ℕ) : Type 0 where
-  stopped : {n p : ℕ} → checked w ≡ Stopped n p → r ≡ refused n p → Ending w work d r e
+  stopped : {stop : Refusal} → checked w ≡ Err stop → r ≡ Err stop → Ending w work d r e
   no_work : checked w ≡ Ok tt → length work < work_words (game w).states → r ≡ refused reason.ShortWork (work_words (game w).states) → Ending w work d r e
-  lost : {k : ℕ} → WorkEnough w work → verdict (game w) ≡ No k → r ≡ SaysNo k → Ending w work d r e
+  lost : {k : ℕ} → WorkEnough w work → verdict (game w) ≡ No k → r ≡ says_no k → Ending w work d r e
   no_card : {t m : ℕ} → WorkEnough w work → verdict (game w) ≡ Yes t m → length d < card_length m (game w).observations → r ≡ refused reason.ShortRoom (card_length m (game w).observations) → Ending w work d r e
-  granted : {t m : ℕ} → WorkEnough w work → verdict (game w) ≡ Yes t m → card_length m (game w).observations ≤ length d → r ≡ SaysYes t m → e ≡ card_of (game w) ++ drop (card_length m (game w).observations) d → Ending w work d r e
+  granted : {t m : ℕ} → WorkEnough w work → verdict (game w) ≡ Yes t m → card_length m (game w).observations ≤ length d → r ≡ says_yes t m → e ≡ card_of (game w) ++ drop (card_length m (game w).observations) d → Ending w work d r e
 
 module _ (w work d : List ℕ) (r : Answer) (e : List ℕ) where
   by_verdict_lem : (v : Verdict) → verdict (game w) ≡ v → WorkEnough w work → leaves r e ≡ by_verdict (game w) d v → Ending w work d r e
@@ -109,7 +108,7 @@ module _ (w work d : List ℕ) (r : Answer) (e : List ℕ) where
       (ap (λ (x : Leaves Answer Buffers). leaves x.answer x.left.card) (rw h at is)))
       (decided (ltb (length work) need))
 
-  by_check : (c : Checked) → checked w ≡ c → (left : List ℕ) → leaves r (buffers left e) ≡ unless c (λ n p. leaves (refused n p) (buffers work d)) (searched (game w) work d) → Ending w work d r e
+  by_check : (c : Checked) → checked w ≡ c → (left : List ℕ) → leaves r (buffers left e) ≡ unless c (λ x. leaves (Err x) (buffers work d)) (searched (game w) work d) → Ending w work d r e
   by_check (Ok tt) c left is = after_check c left is
   by_check (Err stop) c left is = stopped c (ap (λ (x : Leaves Answer Buffers). x.answer) is)
 

@@ -19,7 +19,6 @@ use Rattle.games.specs.Automaton.{Automaton, chosen, card}
 use Rattle.games.specs.Words.{game, card_length, card_of}
 use Rattle.games.specs.Demands.{Third}
 use Rattle.games.specs.Answers.{Checked}
-use Rattle.games.specs.Answers.{refused}
 use Rattle.games.proofs.Steps.{good_empty}
 use Rattle.games.proofs.Lasting.{lowest_below}
 use Rattle.games.proofs.Settling.{cells_hold}
@@ -35,10 +34,10 @@ use Rattle.cards.specs.Kept.{Kept}
 use Rattle.cards.proofs.Runs.{covering_kept}
 use Rattle.solver.specs.Solve.{buffers, solved, WorkEnough, written, Promise}
 use Rattle.solver.specs.Solve.{Answer}
-use Rattle.solver.specs.declared.Verdict.TheVariants.{Yes as SaysYes, No as SaysNo}
+use Rattle.solver.specs.Solve.{says_yes, says_no}
+use Rattle.games.specs.declared.Refusal.{Refusal}
 use Rattle.index.proofs.Settled.{cells_few}
 use Rattle.solver.proofs.Answers.{Ending, stopped, no_work, lost, no_card, granted, ends}
-use Rattle.games.specs.declared.Reason.{Reason}
 use Rattle.std.specs.Prelude.{Ok, Err}
 
 -- covering is seen only at cells and observations that are there
@@ -112,17 +111,17 @@ card_size w m e =
     card_long (card (game w)) (game w).actions (game w).observations ∙ ap (λ (n : ℕ). card_length n (game w).observations) (sym e)
 
 -- which answers can be told apart
-yes_not_refused : {X : Type 0} (t m : ℕ) (n : Reason) (p : ℕ) → SaysYes t m ≡ refused n p → X
-yes_not_refused t m n p e = let z : ◌≡◌ {A = ℕ} 0 1 = cc in absurd (omega arith)
+yes_not_refused : {X : Type 0} (t m : ℕ) (stop : Refusal) → says_yes t m ≡ Err stop → X
+yes_not_refused t m stop e = let z : ◌≡◌ {A = ℕ} 0 1 = cc in absurd (omega arith)
 
-no_not_refused : {X : Type 0} (k : ℕ) (n : Reason) (p : ℕ) → SaysNo k ≡ refused n p → X
-no_not_refused k n p e = let z : ◌≡◌ {A = ℕ} 0 1 = cc in absurd (omega arith)
+no_not_refused : {X : Type 0} (k : ℕ) (stop : Refusal) → says_no k ≡ Err stop → X
+no_not_refused k stop e = let z : ◌≡◌ {A = ℕ} 0 1 = cc in absurd (omega arith)
 
-yes_not_no : {X : Type 0} (t m k : ℕ) → SaysYes t m ≡ SaysNo k → X
+yes_not_no : {X : Type 0} (t m k : ℕ) → says_yes t m ≡ says_no k → X
 yes_not_no t m k e = let z : ◌≡◌ {A = ℕ} 0 1 = cc in absurd (omega arith)
 
-fine_not_stopped : {X : Type 0} (c : Checked) (n : Reason) (p : ℕ) → c ≡ Ok tt → c ≡ Stopped n p → X
-fine_not_stopped c n p e f = let z : ◌≡◌ {A = ℕ} 0 1 = cc in absurd (omega arith)
+fine_not_stopped : {X : Type 0} (c : Checked) (stop : Refusal) → c ≡ Ok tt → c ≡ Err stop → X
+fine_not_stopped c stop e f = let z : ◌≡◌ {A = ℕ} 0 1 = cc in absurd (omega arith)
 
 -- the number of cells is the verdict's
 cells_told : (g : Game) (t m : ℕ) → verdict g ≡ Yes t m → m ≡ length (cells g)
@@ -130,13 +129,13 @@ cells_told g t m v = let s : Yes t m ≡ Yes (settling g) (length (cells g)) = s
 
 module _ (w work d : List ℕ) (r : Answer) (e : List ℕ) where
   -- a refusal promises nothing of the card or of a round
-  refused_promise : (n : Reason) (p : ℕ) → r ≡ refused n p → (WorkEnough w work → ⊥) → Promise w work d r e
-  refused_promise n p is no_room =
+  refused_promise : (stop : Refusal) → r ≡ Err stop → (WorkEnough w work → ⊥) → Promise w work d r e
+  refused_promise stop is no_room =
       record {
         nine_iff = λ room. absurd (no_room room);
         yes_iff = λ room fits. absurd (no_room room);
-        yes_card = λ t m y. yes_not_refused t m n p (sym y ∙ is);
-        no_round = λ k y. no_not_refused k n p (sym y ∙ is);
+        yes_card = λ t m y. yes_not_refused t m stop (sym y ∙ is);
+        no_round = λ k y. no_not_refused k stop (sym y ∙ is);
       }
 
   -- the card stands in front of its room
@@ -146,19 +145,19 @@ module _ (w work d : List ℕ) (r : Answer) (e : List ℕ) where
       ap (take need) words ∙ take_at (card_of (game w)) (drop need d) need (card_size w m (cells_told (game w) t m v))
 
   promise : Ending w work d r e → Promise w work d r e
-  promise (stopped {n} {p} c is) = refused_promise n p is (λ room. fine_not_stopped (checked w) n p room.fine c)
-  promise (no_work fine short is) = refused_promise 8 _ is (λ room. omega (arith, room.enough))
+  promise (stopped {stop} c is) = refused_promise stop is (λ room. fine_not_stopped (checked w) stop room.fine c)
+  promise (no_work fine short is) = refused_promise _ is (λ room. omega (arith, room.enough))
   promise (lost {k} room v is) =
       let D = decides (game w) (accepted w room.fine) in
       let T = D.no_round k v in
       record {
         nine_iff = λ _. (
-          ⊎_elim (λ y. yes_not_no y.0 y.1 k (sym y.2 ∙ is)) (λ n. no_not_refused k 9 n.0 (sym is ∙ n.1)),
+          ⊎_elim (λ y. yes_not_no y.0 y.1 k (sym y.2 ∙ is)) (λ n. no_not_refused k _ (sym is ∙ n.1)),
           λ c. absurd (T.no_strategy c.0 (c.1 k)),
         );
         yes_iff = λ _ fits. (λ y. yes_not_no y.0 y.1 k (sym y.2 ∙ is), λ c. absurd (T.no_strategy c.0 (c.1 k)));
         yes_card = λ t m y. yes_not_no t m k (sym y ∙ is);
-        no_round = λ j y. subst (Third (game w)) (let s : SaysNo k ≡ SaysNo j = sym is ∙ y in (cc)) T;
+        no_round = λ j y. subst (Third (game w)) (let s : says_no k ≡ says_no j = sym is ∙ y in (cc)) T;
       }
   promise (no_card {t} {m} room v short is) =
       let D = decides (game w) (accepted w room.fine) in
@@ -166,15 +165,15 @@ module _ (w work d : List ℕ) (r : Answer) (e : List ℕ) where
       record {
         nine_iff = λ _. (λ y. D.yes_iff.0 (t, m, v), λ c. inr (need, is));
         yes_iff = λ _ fits. absurd (omega (arith, subst (λ (n : ℕ). card_length n (game w).observations ≤ length d) (sym (cells_told (game w) t m v)) fits));
-        yes_card = λ t' m' y. yes_not_refused t' m' 9 need (sym y ∙ is);
-        no_round = λ k y. no_not_refused k 9 need (sym y ∙ is);
+        yes_card = λ t' m' y. yes_not_refused t' m' _ (sym y ∙ is);
+        no_round = λ k y. no_not_refused k _ (sym y ∙ is);
       }
   promise (granted {t} {m} room v fits is words) =
       let g = game w in
       let D = decides g (accepted w room.fine) in
       let front = written_front t m v words in
-      let same : (t' m' : ℕ) → r ≡ SaysYes t' m' → card_of g ≡ written w m' e =
-      λ t' m' y. let s : SaysYes t m ≡ SaysYes t' m' = sym is ∙ y in let k : m ≡ m' = cc in sym front ∙ ap (λ (n : ℕ). written w n e) k in
+      let same : (t' m' : ℕ) → r ≡ says_yes t' m' → card_of g ≡ written w m' e =
+      λ t' m' y. let s : says_yes t m ≡ says_yes t' m' = sym is ∙ y in let k : m ≡ m' = cc in sym front ∙ ap (λ (n : ℕ). written w n e) k in
       record {
         nine_iff = λ _. (λ y. D.yes_iff.0 (t, m, v), λ c. inl (t, m, is));
         yes_iff = λ _ _. (λ y. D.yes_iff.0 (t, m, v), λ c. (t, m, is));
@@ -193,15 +192,15 @@ module _ (w work d : List ℕ) (r : Answer) (e : List ℕ) where
     pub fits : card_length m (game w).observations ≤ length d
     pub front : written w m e ≡ card_of (game w)
 
-  yes_ending : (t m : ℕ) → r ≡ SaysYes t m → Ending w work d r e → Given m
-  yes_ending t m y (stopped {n} {p} c is) = yes_not_refused t m n p (sym y ∙ is)
-  yes_ending t m y (no_work fine short is) = yes_not_refused t m 8 _ (sym y ∙ is)
+  yes_ending : (t m : ℕ) → r ≡ says_yes t m → Ending w work d r e → Given m
+  yes_ending t m y (stopped {stop} c is) = yes_not_refused t m stop (sym y ∙ is)
+  yes_ending t m y (no_work fine short is) = yes_not_refused t m _ (sym y ∙ is)
   yes_ending t m y (lost {k} room v is) = yes_not_no t m k (sym y ∙ is)
-  yes_ending t m y (no_card room v short is) = yes_not_refused t m 9 _ (sym y ∙ is)
+  yes_ending t m y (no_card room v short is) = yes_not_refused t m _ (sym y ∙ is)
   yes_ending t m y (granted {t = u} {m = n} room v fits is words) =
-      let s : SaysYes u n ≡ SaysYes t m = sym is ∙ y in
+      let s : says_yes u n ≡ says_yes t m = sym is ∙ y in
       subst Given (cc)
       (record { fine = room.fine; won = yes_starts (game w) u n v; fits = fits; front = written_front u n v words })
 
-  pub yes_given : (t m : ℕ) (left : List ℕ) → leaves r (buffers left e) ≡ solved w work d → r ≡ SaysYes t m → Given m
+  pub yes_given : (t m : ℕ) (left : List ℕ) → leaves r (buffers left e) ≡ solved w work d → r ≡ says_yes t m → Given m
   yes_given t m left is y = yes_ending t m y (ends w work d r e left is)

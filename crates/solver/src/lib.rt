@@ -7,15 +7,16 @@ ghost use Rattle.games.specs.Answers.{leaves};
 ghost use Rattle.games.specs.Words.{game};
 ghost use Rattle.tables.specs.Check.{checked};
 ghost use Rattle.families.specs.Bits.{max_lanes, lanes as lanes_of, sets, Bits};
-ghost use Rattle.moves.specs.Halves.{Tabled, Ready};
 ghost use Rattle.games.specs.Verdict.{settled as settled_family, cells as cells_of, verdict, Yes};
 ghost use Rattle.solver.specs.Solve.{work_words, by_verdict, buffers, solved, Promise};
 ghost use Rattle.index.specs.Index.{Noted};
-ghost use Rattle.writing.specs.Writing.{Listed};
 
 use families::MAX_LANES;
 use games::{Reason, Refusal};
+use index::Cells;
+use moves::Moves;
 use search::Ended;
+use writing::Settled;
 
 // The number of sets of n states.
 fn set_count(n: u32) -> usize
@@ -32,123 +33,76 @@ pub enum Verdict {
     No(u32),
 }
 
-// A yes: the card is written if there is room for it.
+// A yes, settled after so many rounds: the card is written if there is room for it.
 fn grant(
-    table: &[u32],
-    low: &[u32],
-    high: &[u32],
-    family: &[u64],
-    tops: &[u64],
-    layers: &[u64],
-    masks: &[u64],
-    base: usize,
+    settled: Settled,
     work: &mut [u32],
     count: u32,
     card: &mut [u32],
-    settled: u32,
+    rounds: u32,
 ) -> Result<Verdict, Refusal>
-    requires { Listed table.now family.now tops.now layers.now masks.now base × Noted tops.now base work.old
-        × Tabled (game table.now) low.now high.now × (count ≡ length (sets tops.now)) }
+    requires { Noted settled.cells.tops.now settled.cells.base work.old
+        × (count ≡ length (sets settled.cells.tops.now)) }
     ensures { leaves result card.new
-        ≡ by_verdict (game table.now) card.old (Yes settled count) }
+        ≡ by_verdict (game settled.entry.moves.table.now) card.old (Yes rounds count) }
 {
-    let need = games::card_length(count, tables::observations(table));
+    let need = games::card_length(count, tables::observations(settled.moves.table));
     if card.len() < need {
         return Err(Reason::ShortRoom.at(need));
     }
-    writing::write_card(
-        table, low, high, family, tops, layers, masks, base, work, count, card,
-    );
-    Ok(Verdict::Yes(settled, count))
+    settled.write_card(work, count, card);
+    Ok(Verdict::Yes(rounds, count))
 }
 
-// The index of the cells in front of the work, and the card from them.
-fn grant_indexed(
-    table: &[u32],
-    low: &[u32],
-    high: &[u32],
-    family: &[u64],
-    tops: &[u64],
-    base: usize,
+// The cells of a yes, as bits in `tops` and in front of the work, with what helps to search them, and the card from them.
+fn accept<'a>(
+    moves: Moves<'a>,
+    family: &'a [u64],
+    tops: &'a mut [u64],
     work: &mut [u32],
-    count: usize,
     card: &mut [u32],
-    settled: u32,
+    rounds: u32,
 ) -> Result<Verdict, Refusal>
-    requires { Ready table.now low.now high.now
-        × Bits (game table.now).states (settled_family (game table.now)) family.now
-        × (length tops.now ≡ length family.now) × (sets tops.now ≡ cells_of (game table.now))
-        × (base ≡ 2 ^ (game table.now).states) × Noted tops.now base work.old × (count ≡ length (sets tops.now)) }
+    requires { Bits (game moves.table.now).states (settled_family (game moves.table.now)) family.now
+        × (length tops.old ≡ length family.now)
+        × (length work.old ≡ work_words (game moves.table.now).states) }
     ensures { leaves result card.new
-        ≡ by_verdict (game table.now) card.old (Yes settled count) }
+        ≡ by_verdict (game moves.entry.table.now) card.old (Yes rounds (length (cells_of (game moves.entry.table.now)))) }
 {
+    let n = tables::states(moves.table);
+    families::maximal_bits(family, n, tops);
+    let base = set_count(n);
+    let count = index::note_cells(tops, base, work);
     let mut layers = [0u64; index::LAYERS];
     index::mark_layers(&work[..count], &mut layers);
     let mut masks = [0u64; index::MASKS];
     index::mark_masks(&mut masks);
-    grant(
-        table,
-        low,
-        high,
+    let cells = Cells {
         family,
         tops,
-        &layers,
-        &masks,
+        layers: &layers,
+        masks: &masks,
         base,
-        work,
-        count as u32,
-        card,
-        settled,
-    )
-}
-
-// The cells of a yes, as bits in `tops` and in front of the work, and the card from them.
-fn accept(
-    table: &[u32],
-    low: &[u32],
-    high: &[u32],
-    family: &[u64],
-    tops: &mut [u64],
-    work: &mut [u32],
-    card: &mut [u32],
-    settled: u32,
-) -> Result<Verdict, Refusal>
-    requires { Ready table.now low.now high.now
-        × Bits (game table.now).states (settled_family (game table.now)) family.now
-        × (length tops.old ≡ length family.now)
-        × (length work.old ≡ work_words (game table.now).states) }
-    ensures { leaves result card.new
-        ≡ by_verdict (game table.now) card.old (Yes settled (length (cells_of (game table.now)))) }
-{
-    let n = tables::states(table);
-    families::maximal_bits(family, n, tops);
-    let base = set_count(n);
-    let count = index::note_cells(tops, base, work);
-    grant_indexed(
-        table, low, high, family, tops, base, work, count, card, settled,
-    )
+    };
+    grant(Settled { moves, cells }, work, count as u32, card, rounds)
 }
 
 // The search on the families' words, and the card where it ends in a yes.
 fn answer_with(
-    table: &[u32],
-    low: &[u32],
-    high: &[u32],
+    moves: Moves,
     family: &mut [u64],
     next: &mut [u64],
     work: &mut [u32],
     card: &mut [u32],
 ) -> Result<Verdict, Refusal>
-    requires { Ready table.now low.now high.now
-        × (length family.old ≡ lanes_of (game table.now).states) × (length next.old ≡ length family.old)
-        × (length work.old ≡ work_words (game table.now).states) }
+    requires { (length family.old ≡ lanes_of (game moves.table.now).states) × (length next.old ≡ length family.old)
+        × (length work.old ≡ work_words (game moves.table.now).states) }
     ensures { leaves result card.new
-        ≡ by_verdict (game table.now) card.old (verdict (game table.now)) }
+        ≡ by_verdict (game moves.entry.table.now) card.old (verdict (game moves.entry.table.now)) }
 {
-    let found = search::search(table, low, high, family, next);
-    match found {
+    match search::search(moves, family, next) {
         Ended::Lost(k) => Ok(Verdict::No(k)),
-        Ended::Settled(k) => accept(table, low, high, family, next, work, card, k),
+        Ended::Settled(k) => accept(moves, family, next, work, card, k),
     }
 }
 
@@ -171,15 +125,12 @@ fn decide(table: &[u32], work: &mut [u32], card: &mut [u32]) -> Result<Verdict, 
     moves::fill(table, &mut low, &mut high);
     let mut family = empty_family();
     let mut next = empty_family();
-    answer_with(
+    let moves = Moves {
         table,
-        &low,
-        &high,
-        &mut family[..lanes],
-        &mut next[..lanes],
-        work,
-        card,
-    )
+        low: &low,
+        high: &high,
+    };
+    answer_with(moves, &mut family[..lanes], &mut next[..lanes], work, card)
 }
 
 // Solve: the verdict on a table and the card of a yes.

@@ -26,8 +26,8 @@ slice_bounds-family-end c =
     let within : (room : List ℕ) → length room ≡ max_lanes → c.lane_count-lanes.result ≤ length room = λ room e. omega (arith, lanes_are.1) in
     within c.empty_family-family.result c.empty_family-family.ensures
 
-pub slice_bounds-answer_with-end-3 : goal.slice_bounds-answer_with-end-3
-slice_bounds-answer_with-end-3 c =
+pub slice_bounds-answer_with-end : goal.slice_bounds-answer_with-end
+slice_bounds-answer_with-end c =
     let lanes_are : (c.lane_count-lanes.result ≡ lanes (game c.args.table.now).states) × (c.lane_count-lanes.result ≤ max_lanes) = let e : c.lane_count-lanes.result ≡ lanes (game c.args.table.now).states = c.lane_count-lanes.ensures ∙ ap lanes c.states.ensures in
     (e, subst (λ (m : ℕ). m ≤ max_lanes) (sym e) (table_lanes c.args.table.now (sized c.args.table.now c.requires.0))) in
     let within : (room : List ℕ) → length room ≡ max_lanes → c.lane_count-lanes.result ≤ length room = λ room e. omega (arith, lanes_are.1) in
@@ -41,8 +41,8 @@ slice_bounds-next-end c =
     let within : (room : List ℕ) → length room ≡ max_lanes → c.lane_count-lanes.result ≤ length room = λ room e. omega (arith, lanes_are.1) in
     within c.empty_family-next.result c.empty_family-next.ensures
 
-pub slice_bounds-answer_with-end-4 : goal.slice_bounds-answer_with-end-4
-slice_bounds-answer_with-end-4 c =
+pub slice_bounds-answer_with-end-2 : goal.slice_bounds-answer_with-end-2
+slice_bounds-answer_with-end-2 c =
     let lanes_are : (c.lane_count-lanes.result ≡ lanes (game c.args.table.now).states) × (c.lane_count-lanes.result ≤ max_lanes) = let e : c.lane_count-lanes.result ≡ lanes (game c.args.table.now).states = c.lane_count-lanes.ensures ∙ ap lanes c.states.ensures in
     (e, subst (λ (m : ℕ). m ≤ max_lanes) (sym e) (table_lanes c.args.table.now (sized c.args.table.now c.requires.0))) in
     let within : (room : List ℕ) → length room ≡ max_lanes → c.lane_count-lanes.result ≤ length room = λ room e. omega (arith, lanes_are.1) in
@@ -56,8 +56,10 @@ answer_with-requires c =
     let within : (room : List ℕ) → length room ≡ max_lanes → c.lane_count-lanes.result ≤ length room = λ room e. omega (arith, lanes_are.1) in
     let front : (room : List ℕ) → length room ≡ max_lanes → length (take c.lane_count-lanes.result room) ≡ c.lane_count-lanes.result = λ room e. length-take-le _ _ (within room e) in
     let first = front c.empty_family-family.result c.empty_family-family.ensures in (
-      record { fine = c.requires.0; tabled = c.fill.ensures },
       first ∙ lanes_are.0,
       front c.empty_family-next.result c.empty_family-next.ensures ∙ sym first,
       c.requires.1,
     )
+
+pub invariant_of-moves : goal.invariant_of-moves
+invariant_of-moves c = record { ready = record { fine = c.requires.0; tabled = c.fill.ensures } }
