@@ -1,7 +1,7 @@
 -- Before each turn of the loops no action so far meets the step, and each observation so far is good; k falls by one at each pair of calls.
 use mathlib.Core.Path.{◌≡◌}
 use mathlib.Core.Bool.{true, false}
-use Prim.Native.Nat.{◌+◌, ◌-◌, ◌≤◌}
+use Prim.Native.Nat.{◌+◌, ◌-◌}
 use Rattle.sets.specs.Bounded.{all, any}
 use Rattle.games.specs.Step.{meets, good}
 use Rattle.games.specs.Words.{game}
@@ -18,14 +18,8 @@ decreases-observation_turn l = l.k + l.k + 1
 -- no action below a meets the step
 abbrev pub invariant-action_turn-loop-a : goal.invariant-action_turn-loop-a
 invariant-action_turn-loop-a l =
-    (l.a ≤ l.end) × (any l.a (meets (game l.table) (good (game l.table) (l.k - 1)) l.s) ≡ false)
-
-abbrev pub decreases-action_turn-loop-a : goal.decreases-action_turn-loop-a
-decreases-action_turn-loop-a l = l.end - l.a
+    any l.a (meets (game l.accepted.table.words.now) (good (game l.accepted.table.words.now) (l.k - 1)) l.s) ≡ false
 
 -- the successors that show an observation below o are good for k rounds
 abbrev pub invariant-observation_turn-loop-o : goal.invariant-observation_turn-loop-o
-invariant-observation_turn-loop-o l = (l.o ≤ l.end) × (all l.o (good_in (game l.table) l.k l.u) ≡ true)
-
-abbrev pub decreases-observation_turn-loop-o : goal.decreases-observation_turn-loop-o
-decreases-observation_turn-loop-o l = l.end - l.o
+invariant-observation_turn-loop-o l = all l.o (good_in (game l.accepted.table.words.now) l.k l.u) ≡ true
