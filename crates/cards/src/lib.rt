@@ -107,18 +107,12 @@ fn right_fours(card: &[u32], kind: u32, at: usize, count: u32) -> u32
     requires { Shaped card.now × (kind < kind_values) × (count ≤ number_values) × (at + count ≤ length card.now) }
     ensures { Pass (names card.now kind at) count result }
 {
-    let mut j: u32 = 0;
-    // by itself, so that the compiler asks it once for a card and not for each cell
-    if count < 4 {
-        return j;
-    }
-    while j + 4 <= count {
-        if !four_named(card, kind, at, j) {
-            return j;
+    for k in 0..count / 4 {
+        if !four_named(card, kind, at, 4 * k) {
+            return 4 * k;
         }
-        j += 4;
     }
-    j
+    count - count % 4
 }
 
 // How many of so many first or next words (the kind says which) from a place on are right, before one that is wrong, where those below
@@ -129,14 +123,12 @@ fn right_from(card: &[u32], kind: u32, at: usize, count: u32, from: u32) -> u32
     ensures { RightNames card.now kind at count result }
 {
     let m = games::low_field(card[0]);
-    let mut j = from;
-    while j < count {
+    for j in from..count {
         if !cell_named(kind, m, j, card[at + j as usize]) {
             return j;
         }
-        j += 1;
     }
-    j
+    count
 }
 
 // The same for the next words of a part, by fours first.
@@ -156,8 +148,7 @@ fn check_parts(card: &[u32]) -> Result<(), Refusal>
     let m = games::low_field(card[0]);
     let o = games::number_field(card[0]);
     let a = games::action_field(card[0]);
-    let mut c: u32 = 0;
-    while c < m {
+    for c in 0..m {
         let at = cell_place(o, Cell(c));
         if !cell_fits(a, card[at]) {
             return Err(Reason::NoCard.at(at));
@@ -166,7 +157,6 @@ fn check_parts(card: &[u32]) -> Result<(), Refusal>
         if named < o {
             return Err(Reason::NoCard.at(at + 1 + named as usize));
         }
-        c += 1;
     }
     Ok(())
 }
@@ -280,52 +270,12 @@ pub fn next_cell(card: &[u32], cell: Cell, seen: Observation) -> Cell
     Cell(games::low_field(card[place]))
 }
 
-// The cell that the observation leads to, with its action, or 14.
-fn enter(card: &[u32], cell: Cell, seen: Observation) -> Move
-    requires { (checked card.now ≡ Ok tt) × Named (automaton card.now) cell.0 }
-    ensures { result ≡ enters (automaton card.now) cell.0 seen.0 }
-{
-    if cell.0 == games::NO_CELL {
-        return Err(Reason::CannotOccur.at(seen.0 as usize));
-    }
-    Ok(Entered {
-        cell,
-        action: cell_action(card, cell),
-    })
-}
-
-// Opening a checked card. It is no entry: a run checks its card once and calls this.
-pub fn start(card: &[u32], seen: Observation) -> Move
-    requires { checked card.now ≡ Ok tt }
-    ensures { result ≡ begun (automaton card.now) (card_observations card.now) seen.0 }
-{
-    if observations(card) <= seen.0 {
-        return Err(Reason::NumberBeyond.at(seen.0 as usize));
-    }
-    enter(card, first_cell(card, seen), seen)
-}
-
-// A step on a checked card. It is no entry, as `start`.
-pub fn follow(card: &[u32], cell: Cell, seen: Observation) -> Move
-    requires { checked card.now ≡ Ok tt }
-    ensures { result ≡ followed (automaton card.now) (card_observations card.now) cell.0 seen.0 }
-{
-    if cells(card) <= cell.0 {
-        return Err(Reason::NumberBeyond.at(cell.0 as usize));
-    }
-    if observations(card) <= seen.0 {
-        return Err(Reason::NumberBeyond.at(seen.0 as usize));
-    }
-    enter(card, next_cell(card, cell, seen), seen)
-}
-
 // Document 01's opening of a card with the first observation.
 #[tactic(auto, unfolding(crate::specs::Run::opened))]
 pub fn begin(card: &[u32], seen: Observation) -> Move
     ensures { result ≡ opened card.now seen.0 }
 {
-    check(card)?;
-    start(card, seen)
+    Card::of(card)?.start(seen)
 }
 
 // A later observation in a cell.
@@ -333,8 +283,7 @@ pub fn begin(card: &[u32], seen: Observation) -> Move
 pub fn step(card: &[u32], cell: Cell, seen: Observation) -> Move
     ensures { result ≡ stepped card.now cell.0 seen.0 }
 {
-    check(card)?;
-    follow(card, cell, seen)
+    Card::of(card)?.follow(cell, seen)
 }
 
 // Where a runner stands after an answer: in the cell entered; in the one given where the answer is a refusal.

@@ -1,11 +1,7 @@
 -- Invariant: the words before the part of cell c are right.
-use Rattle.std.proofs.Common.{◌-◌, ◌≤◌}
-use Rattle.cards.specs.Card.{card_cells, card_observations, cell_place}
+use Rattle.cards.specs.Card.{card_observations, cell_place}
 use Rattle.cards.specs.Checking.{FitsBelow}
 use Rattle.cards.proofs.check_parts.Given as goal
 
 abbrev pub invariant-loop-c : goal.invariant-loop-c
-invariant-loop-c l = FitsBelow l.card (cell_place (card_observations l.card) l.c) × (l.c ≤ card_cells l.card)
-
-abbrev pub decreases-loop-c : goal.decreases-loop-c
-decreases-loop-c l = l.m - l.c
+invariant-loop-c l = FitsBelow l.card (cell_place (card_observations l.card) l.c)
