@@ -16,22 +16,11 @@ use Rattle.cards.specs.Card.{card_cells, card_actions, card_observations, automa
 use Rattle.cards.proofs.Checked.{fitting}
 use Rattle.cards.proofs.Running.{size_of}
 use Rattle.pairs.specs.Pair.{agree, checked, Paired}
-use Rattle.games.specs.declared.Reason.{Reason}
 use Rattle.games.specs.declared.Reason.TheVariants as reason
 use Rattle.std.specs.Prelude.{Ok, Err}
 
 module _ (w k : List ℕ) where
-  -- the table checks come first
-  pub table_stops : (number : Reason) (place : ℕ) → table_checked w ≡ refused number place → refused number place ≡ checked w k
-  unfolding checked
-  table_stops number place e = rw e
-
   module _ (table : table_checked w ≡ Ok tt) where
-    -- then 13
-    pub card_stops : (number : Reason) (place : ℕ) → card_checked k ≡ refused number place → refused number place ≡ checked w k
-    unfolding checked
-    card_stops number place e = rw (table, e)
-
     -- then 16
     pub differ : card_checked k ≡ Ok tt → agree w k ≡ false → refused reason.Disagree 0 ≡ checked w k
     unfolding checked

@@ -2,10 +2,10 @@
 #![tactic(auto)]
 
 ghost use Rattle.std.specs.Prelude.{◌≡◌};
-ghost use Rattle.pairs.specs.Pair.{checked};
 ghost use Rattle.show.specs.Show.{located, found, handed, part_of};
 
 use games::{Cell, Place, Reason, Refusal, State};
+use pairs::Pair;
 
 // A part of a table's words: where it starts, and how many words it has.
 #[derive(Clone, Copy, PartialEq, Eq, Debug)]
@@ -15,17 +15,17 @@ pub struct Part {
 }
 
 // Refusal 12, or the part.
-fn locate(table: &[u32], card: &[u32], cell: Cell) -> Result<Part, Refusal>
-    requires { checked table.now card.now ≡ Ok tt }
-    ensures { result ≡ located table.now card.now cell.0 }
+fn locate(pair: Pair, cell: Cell) -> Result<Part, Refusal>
+    ensures { result ≡ located pair.entry.table.table.words.now pair.entry.card.words.now cell.0 }
 {
-    if cards::cells(card) <= cell.0 {
+    if pair.card.cells() <= cell.0 {
         return Err(Reason::NumberBeyond.at(cell.0 as usize));
     }
-    let action = cards::cell_action(card, cell);
+    let action = pair.card.cell_action(cell);
+    let table = pair.table.table;
     Ok(Part {
-        offset: tables::place_in(table, Place::Move(action, State(0))),
-        length: tables::states(table) as usize,
+        offset: table.place_in(Place::Move(action, State(0))),
+        length: table.states() as usize,
     })
 }
 
@@ -34,8 +34,8 @@ fn locate(table: &[u32], card: &[u32], cell: Cell) -> Result<Part, Refusal>
 pub fn find(table: &[u32], card: &[u32], cell: Cell) -> Result<Part, Refusal>
     ensures { result ≡ found table.now card.now cell.0 }
 {
-    pairs::check(table, card)?;
-    locate(table, card, cell)
+    let pair = Pair::of(table, card)?;
+    locate(pair, cell)
 }
 
 // The part itself, of the table's words and never of the card's; empty where `find` refuses.

@@ -1,10 +1,11 @@
 -- `show::find` meets its contract: the check of both first, then the part.
-use mathlib.Core.Path.{sym, ◌∙◌}
+use mathlib.Core.Path.{ap₂, ◌∙◌}
+use Rattle.show.specs.Show.{found}
 use Rattle.show.proofs.Laws.{pair_fine}
 use Rattle.show.proofs.find.Goals as goal
 
-pub locate-requires : goal.locate-requires
-locate-requires c = sym c.check.ensures ∙ c.in_ok-check.was
-
 pub returns : goal.returns
-returns c = c.locate.ensures ∙ pair_fine c.args.table.now c.args.card.now c.args.cell.0 (sym c.check.ensures ∙ c.in_ok-check.was)
+returns c =
+    c.locate.ensures
+    ∙ pair_fine _ _ c.args.cell.0 c.in_ok-pair.pair.checked
+    ∙ ap₂ (λ t k. found t.now k.now c.args.cell.0) c.in_ok-pair.ensures.pair.0 c.in_ok-pair.ensures.pair.1
