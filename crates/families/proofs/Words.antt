@@ -15,6 +15,8 @@ use Rattle.std.proofs.lemmas.List.Sums.{sum-map, sum_by-cons}
 use lib.ListN.{length, get_or, take, drop, set, length-append, length-set, length-drop, take-append-drop}
 use lib.Seq.{take-suc-set, drop-set-lt, drop-drop, take_at, drop-append-add}
 use borrow.Author.Tests.{eqb-true, eqb-false}
+use borrow.Rule.Slice.PartMut.{put_mid, mid_of, post_of}
+use Rattle.std.proofs.lemmas.List.{drop_all, take_all}
 use Rattle.sets.specs.Mask.{member}
 use Rattle.sets.specs.Bounded.{count, select}
 use Rattle.sets.proofs.Logic.{decided}
@@ -81,7 +83,7 @@ ones_count (suc k) x h =
     (λ t l. let d : suc t ≡ 1 + t = omega arith in sym (member_half x t) ∙ ap (member x) d))
     ∙ sym (count_raised 1 k (member x)) ∙ ap (λ (m : ℕ). count m (member x)) next
 
--- ---- writing the members of a word behind the first k places
+-- ---- writing the members of a word in front
 
 -- the word's members with `base` added
 abbrev pub written : ℕ → ℕ → List ℕ
@@ -92,16 +94,16 @@ abbrev pub size : ℕ → ℕ
 size word = count lane_sets (member word)
 
 -- `rest` is what is left of the word, to be written from `at` on
-pub record Writing (word base k : ℕ) (out₀ : List ℕ) (rest at : ℕ) (out : List ℕ) : Type 0 where
+pub record Writing (word base : ℕ) (out₀ : List ℕ) (rest at : ℕ) (out : List ℕ) : Type 0 where
   pub small : rest < 2 ^ lane_sets
   pub long : length out ≡ length out₀
-  pub places : at + size rest ≡ k + size word
-  pub front : take at out ++ written base rest ≡ take k out₀ ++ written base word
+  pub places : at + size rest ≡ size word
+  pub front : take at out ++ written base rest ≡ written base word
   pub back : drop at out ≡ drop at out₀
 
 -- the first turn
-pub writing_none : (word base k : ℕ) (out : List ℕ) → word < 2 ^ lane_sets → Writing word base k out word k out
-writing_none word base k out h = record { small = h; long = refl; places = refl; front = refl; back = refl }
+pub writing_none : (word base : ℕ) (out : List ℕ) → word < 2 ^ lane_sets → Writing word base out word 0 out
+writing_none word base out h = record { small = h; long = refl; places = omega arith; front = refl; back = refl }
 
 module _ (rest : ℕ) (h : rest < 2 ^ lane_sets) (z : rest ≡ 0 → ⊥) where
   -- the lowest member, and the others behind it
@@ -135,13 +137,13 @@ behind : (out out₀ : List ℕ) (at v : ℕ) → drop at out ≡ drop at out₀
 behind out out₀ at v e =
     drop-set-lt (at + 1) out at v (omega arith) ∙ sym (drop-drop 1 at out) ∙ ap (drop 1) e ∙ drop-drop 1 at out₀
 
-module _ (word base k : ℕ) (out₀ : List ℕ) (rest at : ℕ) (out : List ℕ) (w : Writing word base k out₀ rest at out) where
+module _ (word base : ℕ) (out₀ : List ℕ) (rest at : ℕ) (out : List ℕ) (w : Writing word base out₀ rest at out) where
   -- one turn: there is room
-  pub writing_room : (rest ≡ 0 → ⊥) → k + size word ≤ length out₀ → at < length out
+  pub writing_room : (rest ≡ 0 → ⊥) → size word ≤ length out₀ → at < length out
   writing_room z l = omega (arith, taken_size rest w.small z, w.places, w.long)
 
   -- and the lowest member is written
-  pub writing_more : (rest ≡ 0 → ⊥) → k + size word ≤ length out₀ → Writing word base k out₀ (rest - 2 ^ count_trailing_zeros lane_sets rest) (at + 1) (set out at (base + count_trailing_zeros lane_sets rest))
+  pub writing_more : (rest ≡ 0 → ⊥) → size word ≤ length out₀ → Writing word base out₀ (rest - 2 ^ count_trailing_zeros lane_sets rest) (at + 1) (set out at (base + count_trailing_zeros lane_sets rest))
   writing_more z l =
       let v : ℕ = base + count_trailing_zeros lane_sets rest in
       let left : ℕ = rest - 2 ^ count_trailing_zeros lane_sets rest in
@@ -159,7 +161,7 @@ module _ (word base k : ℕ) (out₀ : List ℕ) (rest at : ℕ) (out : List ℕ
       }
 
   -- nothing is left
-  pub writing_end : rest ≡ 0 → (at ≡ k + size word) × (out ≡ (take k out₀ ++ written base word) ++ drop at out₀)
+  pub writing_end : rest ≡ 0 → (at ≡ size word) × (out ≡ written base word ++ drop at out₀)
   unfolding raised
   writing_end e =
       let none : (i : ℕ) → i < lane_sets → member rest i ≡ false = λ i l. ap (λ (x : ℕ). member x i) e ∙ member_zero i in (
@@ -200,6 +202,15 @@ module _ (bits : List ℕ) (lane k : ℕ) (e : k ≡ count (lane * lane_sets) (h
         count_raised ((lane + 1) * lane_sets) ((length bits - (lane + 1)) * lane_sets) (has bits),
       )
 
+  -- a lane's part written behind the first k places
+  pub put_behind : (out part new : List ℕ) (r : ℕ) → k ≤ length out → new ≡ part ++ drop r (mid_of k (length out - k) out) → put_mid k (length out - k) out new ≡ (take k out ++ part) ++ drop (k + r) out
+  put_behind out part new r h f =
+      let whole : mid_of k (length out - k) out ≡ drop k out = take_all (length out - k) (drop k out) (omega (arith, length-drop k out)) in
+      let none : post_of k (length out - k) out ≡ [] = drop_all (length out - k) (drop k out) (omega (arith, length-drop k out)) in
+      ap₂ (λ (x y : List ℕ). take k out ++ (x ++ y)) (f ∙ ap (λ (x : List ℕ). part ++ drop r x) whole ∙ ap (λ (x : List ℕ). part ++ x) (drop-drop r k out)) none
+      ∙ ap (λ (x : List ℕ). take k out ++ x) (append-nil (part ++ drop (k + r) out))
+      ∙ sym (append_assoc (take k out) part (drop (k + r) out))
+
   pub lane_written : (out₀ out : List ℕ) → out ≡ select (lane * lane_sets) (has bits) ++ drop k out₀ → (r : ℕ) (out' : List ℕ) → r ≡ k + size (get_or bits lane 0) → out' ≡ (take k out ++ written (lane * lane_sets) (get_or bits lane 0)) ++ drop r out →
       out' ≡ select ((lane + 1) * lane_sets) (has bits) ++ drop r out₀
   lane_written out₀ out f r out' d g =
@@ -235,11 +246,6 @@ ones_below (word ∷ bits) h =
 
 pub ones_sets : (bits : List ℕ) → ((i : ℕ) → get_or bits i 0 < 2 ^ lane_sets) → sum (map ones bits) ≡ length (sets bits)
 ones_sets bits h = sum-map ones bits ∙ ones_below bits h ∙ sym (sets_count bits)
-
--- what is stored in front leaves the length
-pub front_length : (p : ℕ → Bool) (m k : ℕ) (out₀ out : List ℕ) → k ≡ count m p → k ≤ length out₀ → out ≡ select m p ++ drop k out₀ → length out ≡ length out₀
-front_length p m k out₀ out e l f =
-    ap length f ∙ length-append (select m p) (drop k out₀) ∙ omega (arith, select_length m p, length-drop k out₀)
 
 -- all lanes are done
 pub sets_written : (bits out₀ : List ℕ) (k : ℕ) (out : List ℕ) → k ≡ count (length bits * lane_sets) (has bits) → out ≡ select (length bits * lane_sets) (has bits) ++ drop k out₀ → (k ≡ length (sets bits)) × (out ≡ sets bits ++ drop k out₀)

@@ -181,19 +181,19 @@ fn keep_tops(bits: &mut [u64], lane: usize)
     }
 }
 
-// Writes the sets of a word from place k on, each with `base` added; the next place.
-fn unpack(word: u64, base: u32, k: usize, out: &mut [u32]) -> usize
-    requires { k + count_of lane_sets (member word) ≤ length out.old × base < 65536 }
-    ensures { (result ≡ k + count_of lane_sets (member word))
-        × (out.new ≡ (take k out.old ++ raised base (select lane_sets (member word))) ++ drop result out.old) }
+// Writes the sets of a word in front, each with `base` added; how many.
+fn unpack(word: u64, base: u32, out: &mut [u32]) -> usize
+    requires { count_of lane_sets (member word) ≤ length out.old × base < 65536 }
+    ensures { (result ≡ count_of lane_sets (member word))
+        × (out.new ≡ raised base (select lane_sets (member word)) ++ drop result out.old) }
 {
     let mut rest = word;
-    let mut at = k;
+    let mut at = 0;
     while rest != 0 {
-        let t = u64::trailing_zeros(rest);
+        let t = rest.trailing_zeros();
         out[at] = base + t;
         at += 1;
-        rest = rest - (1 << t);
+        rest -= 1 << t;
     }
     at
 }
@@ -225,7 +225,7 @@ pub fn write(bits: &[u64], out: &mut [u32]) -> usize
 {
     let mut k = 0;
     for (lane, word) in bits.iter().enumerate() {
-        k = unpack(*word, lane as u32 * LANE_SETS, k, out);
+        k += unpack(*word, lane as u32 * LANE_SETS, &mut out[k..]);
     }
     k
 }

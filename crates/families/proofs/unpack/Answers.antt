@@ -8,7 +8,7 @@ use Rattle.families.proofs.Words.{writing_none, writing_room, writing_more, writ
 use Rattle.families.proofs.unpack.Goals as goal
 
 pub loop-rest-init : goal.loop-rest-init
-loop-rest-init c = writing_none c.args.word c.args.base c.args.k c.args.out.now c.ranges.word.fits
+loop-rest-init c = writing_none c.args.word c.args.base c.args.out.now c.ranges.word.fits
 
 pub overflow_add-out : goal.overflow_add-out
 overflow_add-out c =
@@ -17,7 +17,7 @@ overflow_add-out c =
     omega (arith, lowest_lt)
 
 pub bounds-out-at : goal.bounds-out-at
-bounds-out-at c = writing_room c.args.word c.args.base c.args.k c.args.out.now c.loop-rest.rest c.loop-rest.at c.loop-rest.out c.loop-rest.invariant c.loop-rest-test.true c.requires.0
+bounds-out-at c = writing_room c.args.word c.args.base c.args.out.now c.loop-rest.rest c.loop-rest.at c.loop-rest.out c.loop-rest.invariant c.loop-rest-test.true c.requires.0
 
 pub overflow_cast-rest : goal.overflow_cast-rest
 overflow_cast-rest c =
@@ -51,7 +51,7 @@ loop-rest-preserved c =
     let lowest_lt : next < lane_sets = taken_lt c.loop-rest.rest c.loop-rest.invariant.small c.loop-rest-test.true in
     let single_is : 1 * 2 ^ next % 2 ^ 64 ≡ 2 ^ next = shift_one 64 next lowest_lt in
     rw single_is
-    (writing_more c.args.word c.args.base c.args.k c.args.out.now c.loop-rest.rest c.loop-rest.at c.loop-rest.out c.loop-rest.invariant c.loop-rest-test.true c.requires.0)
+    (writing_more c.args.word c.args.base c.args.out.now c.loop-rest.rest c.loop-rest.at c.loop-rest.out c.loop-rest.invariant c.loop-rest-test.true c.requires.0)
 
 pub returns : goal.returns
-returns c = writing_end c.args.word c.args.base c.args.k c.args.out.now c.loop-rest.rest c.loop-rest.at c.loop-rest.out c.loop-rest.invariant c.loop-rest-test.false
+returns c = writing_end c.args.word c.args.base c.args.out.now c.loop-rest.rest c.loop-rest.at c.loop-rest.out c.loop-rest.invariant c.loop-rest-test.false

@@ -1,35 +1,37 @@
-use mathlib.Core.Path.{◌≡◌, refl, ◌∙◌}
-use mathlib.Core.List.{List, ◌++◌}
+use mathlib.Core.Path.{◌≡◌, refl, ap, ◌∙◌}
 use Prim.Native.Nat.{ℕ, ◌+◌, ◌*◌, ◌≤◌}
 use borrow.Author.Rules.{rules}
 use native.Mathlib.Omega.{arith}
-use lib.ListN.{length, get_or, drop}
+use lib.ListN.{length, get_or, length-take, length-drop}
 use Rattle.sets.specs.Bounded.{count, select}
-use Rattle.families.specs.Bits.{lane_sets, has}
-use Rattle.families.proofs.Words.{size, lane_count, lane_room, lane_written, front_length, sets_written}
+use Rattle.families.specs.Bits.{lane_sets}
+use Rattle.families.proofs.Words.{size, written, lane_count, lane_room, lane_written, put_behind, sets_written}
 use Rattle.families.proofs.write.Goals as goal
 
 pub loop-lane-init : goal.loop-lane-init
 unfolding count select
-loop-lane-init c = (refl, refl, refl)
+loop-lane-init c = (search rules, refl, refl)
 
 pub unpack-k-requires : goal.unpack-k-requires
 unpack-k-requires c =
-    let room : c.loop-lane.k + size (get_or c.args.bits.now c.loop-lane.lane 0) ≤ length c.loop-lane.out = omega (arith, lane_room c.args.bits.now c.loop-lane.lane c.loop-lane.k c.loop-lane.invariant.1 c.loop-lane-test.true, c.loop-lane.auto.out, c.requires.1) in
-    (room, search rules)
+    let room : c.loop-lane.k + size (get_or c.args.bits.now c.loop-lane.lane 0) ≤ length c.args.out.now = omega (arith, lane_room c.args.bits.now c.loop-lane.lane c.loop-lane.k c.loop-lane.invariant.1 c.loop-lane-test.true, c.requires.1) in
+    (simp (length-take, length-drop) (omega arith), search rules)
+
+pub overflow_add-k : goal.overflow_add-k
+overflow_add-k c = omega (arith, c.unpack-k.ensures.0, lane_room c.args.bits.now c.loop-lane.lane c.loop-lane.k c.loop-lane.invariant.1 c.loop-lane-test.true, c.requires.1)
 
 pub loop-lane-preserved : goal.loop-lane-preserved
 loop-lane-preserved c =
-    let room : c.loop-lane.k + size (get_or c.args.bits.now c.loop-lane.lane 0) ≤ length c.loop-lane.out = omega (arith, lane_room c.args.bits.now c.loop-lane.lane c.loop-lane.k c.loop-lane.invariant.1 c.loop-lane-test.true, c.loop-lane.auto.out, c.requires.1) in
-    let bits : List ℕ = c.args.bits.now in
-    let d : List ℕ = c.args.out.now in
     let lane : ℕ = c.loop-lane.lane in
-    let r : ℕ = c.unpack-k.result in
-    let out : List ℕ = c.unpack-k.new.out in
-    let e : r ≡ count ((lane + 1) * lane_sets) (has bits) = c.unpack-k.ensures.0 ∙ lane_count bits lane c.loop-lane.k c.loop-lane.invariant.1 in
-    let f : out ≡ select ((lane + 1) * lane_sets) (has bits) ++ drop r d = lane_written bits lane c.loop-lane.k c.loop-lane.invariant.1 d c.loop-lane.out c.loop-lane.invariant.2 r out c.unpack-k.ensures.0 c.unpack-k.ensures.1 in
-    let l : r ≤ length d = omega (arith, c.unpack-k.ensures.0, room, c.loop-lane.auto.out) in
-    (front_length (has bits) ((lane + 1) * lane_sets) r d out e l f, e, f)
+    let k : ℕ = c.loop-lane.k in
+    let word : ℕ = get_or c.args.bits.now lane 0 in
+    let next : k + c.unpack-k.result ≡ k + size word = ap (λ (x : ℕ). k + x) c.unpack-k.ensures.0 in
+    let room : k + size word ≤ length c.args.out.now = omega (arith, lane_room c.args.bits.now lane k c.loop-lane.invariant.1 c.loop-lane-test.true, c.requires.1) in (
+      omega (arith, next, room),
+      next ∙ lane_count c.args.bits.now lane k c.loop-lane.invariant.1,
+      lane_written c.args.bits.now lane k c.loop-lane.invariant.1 c.args.out.now c.loop-lane.out c.loop-lane.invariant.2 (k + c.unpack-k.result) _ next
+          (put_behind c.args.bits.now lane k c.loop-lane.invariant.1 c.loop-lane.out (written (lane * lane_sets) word) c.unpack-k.new.out c.unpack-k.result (omega arith) c.unpack-k.ensures.1),
+    )
 
 pub returns : goal.returns
 returns c =
