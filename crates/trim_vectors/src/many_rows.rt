@@ -1,10 +1,8 @@
 // Cards of 4,096 cells, the most that there are.
-ghost use Rattle.std.specs.Prelude.{◌≤◌};
-
 use crate::print_trim::Kept;
 use rows::print::{Told, Words};
 use rows::stations::{Change, GUARD};
-use std::fmt::{self, Display};
+use std::fmt::Display;
 use std::io;
 use std::ops::Range;
 
@@ -26,26 +24,18 @@ fn chain() -> [u32; WORDS] {
     card
 }
 
-// The answer without the words of the buffers: the zeros in front of the work, and how far the trimmed card is the card itself.
-#[derive(Clone, Copy)]
-struct Row<'a> {
-    answer: Told<Kept>,
-    card: &'a [u32],
-    work: &'a [u32],
-    out: &'a [u32],
+// How many words in front are 0.
+fn zeros(words: &[u32]) -> usize {
+    words.iter().take_while(|w| **w == 0).count()
 }
 
-impl Display for Row<'_> {
-    fn fmt<W: fmt::Write>(&self, f: &mut fmt::Formatter<W>) -> fmt::Result {
-        let answer = self.answer;
-        let zeros = self.work.iter().take_while(|w| **w == 0).count();
-        let both = self.out.iter().zip(self.card);
-        let alike = both.take_while(|(w, v)| w == v).count();
-        write!(f, "{answer}, work {zeros} zero, out {alike} as in the card")
-    }
+// How many words in front are the same in both.
+fn alike(words: &[u32], others: &[u32]) -> usize {
+    let both = words.iter().zip(others);
+    both.take_while(|(w, v)| w == v).count()
 }
 
-// Some words of the room are printed.
+// The zeros in front of the work, how far the trimmed card is the card itself, and some words of the room.
 fn trim(
     rt: &impl Print,
     name: impl Display + Drop,
@@ -55,14 +45,10 @@ fn trim(
     part: Range<usize>,
 ) -> io::Result<()> {
     let answer = Told(trimmer::trim(card, work, out).map(Kept));
-    let row = Row {
-        answer,
-        card,
-        work,
-        out,
-    };
+    let zeros = zeros(work);
+    let alike = alike(out, card);
     let words = Words(out.get(part).unwrap_or(&[]));
-    println!(rt; "trim {name}: {row} {words}")
+    println!(rt; "trim {name}: {answer}, work {zeros} zero, out {alike} as in the card {words}")
 }
 
 // With a word of work and of room more than the chain needs.
