@@ -4,3 +4,4 @@ pub mod Texts
 pub mod Choices
 pub mod Values
 pub mod Spelled
+pub mod Bytes

@@ -1,19 +1,18 @@
 -- Laws of fixed words and numbers, as the code reads them.
 -- Assumes nothing.
-use mathlib.Core.Path.{◌≡◌, refl, sym, ap, subst, ◌∙◌}
+use mathlib.Core.Path.{◌≡◌, refl, sym, ap, ap₂, subst, ◌∙◌}
 use mathlib.Core.Bool.{Bool, true, false, cond, ◌&&◌}
-use mathlib.Core.List.{List, [], ◌∷◌}
-use Prim.Native.Nat.{ℕ, zero, suc, ◌+◌, ◌*◌, ◌-◌, ◌/◌, ◌^◌, ◌≤◌, ◌<◌}
+use mathlib.Core.List.{List}
+use Prim.Native.Nat.{ℕ, suc, ◌+◌, ◌*◌, ◌-◌, ◌/◌, ◌^◌, ◌≤◌, ◌<◌}
 use native.Mathlib.Numerals.{add-one}
+use native.Mathlib.Nat.{add-zero}
 use native.Mathlib.Nat.{pow-suc, mul-div_cancel, mul-le-mul, div-le_self}
 use native.Mathlib.Omega.{arith, not-le}
 use lib.Dec.{ltb, leb}
 use lib.ListN.{length, get_or, drop, drop_of_length-le, get_or-eq_default}
 use lib.Seq.{drop-cons}
 use borrow.Author.Tests.{eq-eqb, ne_eqb, ltb-true, leb-true, ltb-false, leb-false, lt-ltb, le-ltb, le-leb, lt-leb}
-use Rattle.form.specs.Form.{Form, stop, departs, reads, byte_at, word, numeral, digit_fits}
-use Rattle.form.specs.Cursors.{runs, Passes, Gives, Ends}
-use Rattle.form.specs.declared.Cursor.{Cursor}
+use Rattle.form.specs.Form.{Form, stop, departs, reads, byte_at, word, finished, numeral, digit_fits}
 
 pub past_end : (t : List ℕ) (k : ℕ) → byte_at t k < 256 → k < length t
 unfolding byte_at
@@ -89,110 +88,96 @@ number_miss base lo hi r w v at s next e h = rw (numeral, reads, ← e, h)
 pub less_power : (base r : ℕ) → 0 < base → base ^ suc r / base ≡ base ^ r
 less_power base r l = rw (pow-suc base r) (mul-div_cancel (base ^ r) l)
 
--- a cursor that stands, and one that stopped
-abbrev pub stands : (at value : ℕ) → Cursor
-stands at value = record { at = at; ok = true; value = value }
+-- the loop over a word: j bytes of it are read
+pub record InWord (t w : List ℕ) (from j : ℕ) : Type 0 where
+  pub within : from + j ≤ length t
+  pub rest : (F : Form) → reads (word w F) (byte_at t) from ≡ reads (word (drop j w) F) (byte_at t) (from + j)
 
-abbrev pub stopped : (at : ℕ) → Cursor
-stopped at = record { at = at; ok = false; value = 0 }
+pub in_word_none : (t w : List ℕ) (from : ℕ) → from ≤ length t → InWord t w from 0
+in_word_none t w from l = record { within = omega (arith, l); rest = λ F. rw (add-zero from) refl }
 
-pub run_ok : (F : Form) (s : ℕ → ℕ) (c : Cursor) → c.ok ≡ true → runs F s c ≡ reads F s c.at
-unfolding runs
-run_ok F s c e = rw (runs, e)
+pub in_word_more : (t w : List ℕ) (from j : ℕ) → InWord t w from j → j < length w → byte_at t (from + j) ≡ get_or w j 0 → get_or w j 0 < 256 → InWord t w from (j + 1)
+in_word_more t w from j i l e k =
+    let h : byte_at t (from + j) < 256 = omega arith in
+    let g = past_end t (from + j) h in
+    let step : from + j + 1 ≡ from + (j + 1) = omega arith in
+    record { within = omega arith; rest = λ F. i.rest F ∙ word_hit w j (from + j) (byte_at t) F l e ∙ ap (reads (word (drop (j + 1) w) F) (byte_at t)) step }
 
-pub run_stopped : (F : Form) (s : ℕ → ℕ) (c : Cursor) → c.ok ≡ false → runs F s c ≡ departs c.at
-unfolding runs
-run_stopped F s c e = rw (runs, e)
+pub in_word_miss : (t w : List ℕ) (from j : ℕ) → InWord t w from j → j < length w → (byte_at t (from + j) ≡ get_or w j 0 → ⊥) → (F : Form) → reads (word w F) (byte_at t) from ≡ departs (from + j)
+in_word_miss t w from j i l n F = i.rest F ∙ word_miss w j (from + j) (byte_at t) F l n
 
--- the loop over a word: j bytes of it are read, and `at` is reached
-pub record InWord (t w : List ℕ) (from at j : ℕ) : Type 0 where
-  pub in_word : j ≤ length w
-  pub within : at ≤ length t
-  pub rest : (F : Form) → reads (word w F) (byte_at t) from ≡ reads (word (drop j w) F) (byte_at t) at
+pub in_word_end : (t w : List ℕ) (from j : ℕ) → InWord t w from j → length w ≤ j → j ≤ length w → (F : Form) → reads (word w F) (byte_at t) from ≡ reads F (byte_at t) (from + length w)
+in_word_end t w from j i l k F =
+    let e : from + j ≡ from + length w = omega arith in
+    i.rest F ∙ ap₂ (λ (G : Form) (p : ℕ). reads G (byte_at t) p) (word_end w j F l) e
 
-pub in_word_none : (t w : List ℕ) (from : ℕ) → from ≤ length t → InWord t w from from 0
-in_word_none t w from l = record { in_word = omega arith; within = l; rest = λ F. refl }
-
-pub in_word_more : (t w : List ℕ) (from at j : ℕ) → InWord t w from at j → j < length w → byte_at t at ≡ get_or w j 0 → get_or w j 0 < 256 → InWord t w from (at + 1) (j + 1)
-in_word_more t w from at j i l e k =
-    let h : byte_at t at < 256 = omega arith in
-    let g = past_end t at h in
-    record { in_word = omega arith; within = omega arith; rest = λ F. i.rest F ∙ word_hit w j at (byte_at t) F l e }
-
-pub passes_stopped : (t w : List ℕ) (c : Cursor) → c.ok ≡ false → c.at ≤ length t → Passes t c c w
-passes_stopped t w c e l = record { within = l; goes = λ F. run_stopped (word w F) (byte_at t) c e ∙ sym (run_stopped F (byte_at t) c e) }
-
-pub passes_missed : (t w : List ℕ) (c : Cursor) (at j : ℕ) → c.ok ≡ true → InWord t w c.at at j → j < length w → (byte_at t at ≡ get_or w j 0 → ⊥) → Passes t c (stopped at) w
-passes_missed t w c at j e i l n =
-    record { within = i.within; goes = λ F. run_ok (word w F) (byte_at t) c e ∙ i.rest F ∙ word_miss w j at (byte_at t) F l n ∙ sym (run_stopped F (byte_at t) (stopped at) refl) }
-
-pub passes_done : (t w : List ℕ) (c : Cursor) (at j : ℕ) → c.ok ≡ true → InWord t w c.at at j → length w ≤ j → Passes t c (stands at 0) w
-passes_done t w c at j e i l =
-    record { within = i.within; goes = λ F. run_ok (word w F) (byte_at t) c e ∙ i.rest F ∙ rw (word_end w j F l) (sym (run_ok F (byte_at t) (stands at 0) refl)) }
-
--- the loop over a number: r digits are left, of weights below w
-pub record InNumber (t : List ℕ) (base lo hi width from at v r w : ℕ) : Type 0 where
-  pub weight : w ≡ base ^ r
+-- the loop over a number: i digits are read, the number v; the digit before the next has weight w
+pub record InNumber (t : List ℕ) (base lo hi width from i v w : ℕ) : Type 0 where
+  pub weight : w ≡ base ^ (width - i)
   pub light : w ≤ 100000
   pub small : v ≤ hi
-  pub within : at ≤ length t
-  pub rest : (next : ℕ → Form) → reads (numeral base lo hi width 0 next) (byte_at t) from ≡ reads (numeral base lo hi r v next) (byte_at t) at
+  pub within : from + i ≤ length t
+  pub rest : (next : ℕ → Form) → reads (numeral base lo hi width 0 next) (byte_at t) from ≡ reads (numeral base lo hi (width - i) v next) (byte_at t) (from + i)
 
-pub in_number_none : (t : List ℕ) (base lo hi width power from : ℕ) → power ≡ base ^ width → power ≤ 100000 → from ≤ length t → InNumber t base lo hi width from from 0 width power
-in_number_none t base lo hi width power from e k l = record { weight = e; light = k; small = omega arith; within = l; rest = λ next. refl }
+pub in_number_none : (t : List ℕ) (base lo hi width power from : ℕ) → power ≡ base ^ width → power ≤ 100000 → from ≤ length t → InNumber t base lo hi width from 0 0 power
+in_number_none t base lo hi width power from e k l =
+    let f : width - 0 ≡ width = omega arith in
+    record { weight = rw (f) e; light = k; small = omega arith; within = omega (arith, l); rest = λ next. rw (f, add-zero from) refl }
 
 -- one digit less: its weight
-pub lighter : (base r w : ℕ) → 2 ≤ base → 0 < r → w ≡ base ^ r → w / base ≡ base ^ (r - 1)
-lighter base zero w b l e = absurd (omega arith)
-lighter base (suc r) w b l e =
-    let k : suc r - 1 ≡ r = omega arith in
-    rw (e, k) (less_power base r (omega arith))
+pub lighter : (base width i w : ℕ) → 2 ≤ base → i < width → w ≡ base ^ (width - i) → w / base ≡ base ^ (width - (i + 1))
+lighter base width i w b l e =
+    let k : width - i ≡ suc (width - (i + 1)) = omega arith in
+    rw (e, k) (less_power base (width - (i + 1)) (omega arith))
 
-pub in_number_more : (t : List ℕ) (base lo hi width from at v r w b : ℕ) → InNumber t base lo hi width from at v r w → 0 < r → 2 ≤ base → base ≤ 10 → hi < 100000
-    → b ≡ byte_at t at → digit_fits base lo hi (w / base) v b ≡ true → InNumber t base lo hi width from (at + 1) (v + (b - 48) * (w / base)) (r - 1) (w / base)
-in_number_more t base lo hi width from at v zero w b i l two ten k eb f = absurd (omega arith)
-in_number_more t base lo hi width from at v (suc r) w b i l two ten k eb f =
-    let d = digit_of_lem base lo hi (w / base) v b f in
-    let lw = lighter base (suc r) w two l i.weight in
-    let er : suc r - 1 ≡ r = omega arith in
-    let lw' : w / base ≡ base ^ r = lw ∙ ap (λ (n : ℕ). base ^ n) er in
-    let dl : b < 256 = omega (arith, d.below) in
-    let dl' : byte_at t at < 256 = omega arith in
-    let g = past_end t at dl' in
-    let f' : digit_fits base lo hi (w / base) v (byte_at t at) ≡ true = subst (λ (x : ℕ). digit_fits base lo hi (w / base) v x ≡ true) eb f in
-    record {
-      weight = lw;
-      light = omega (arith, i.light, div-le_self w base);
-      small = d.low;
-      within = omega arith;
-      rest = λ next. i.rest next ∙ number_hit base lo hi r (w / base) v at (byte_at t) next lw' f' ∙ rw (eb, er);
-    }
+module _ (t : List ℕ) (base lo hi width from i v w b : ℕ) (n : InNumber t base lo hi width from i v w) (l : i < width) (two : 2 ≤ base) (eb : b ≡ byte_at t (from + i)) where
+  one_more : width - i ≡ suc (width - (i + 1))
+  one_more = omega arith
 
-pub gives_stopped : (t : List ℕ) (base lo hi width : ℕ) (c : Cursor) → c.ok ≡ false → c.at ≤ length t → Gives t c (stopped c.at) base width lo hi
-gives_stopped t base lo hi width c e l = record { within = l; bounded = omega arith; goes = λ next. run_stopped (numeral base lo hi width 0 next) (byte_at t) c e ∙ sym (run_stopped (next 0) (byte_at t) (stopped c.at) refl) }
+  pub in_number_light : w / base ≤ 100000
+  in_number_light = omega (arith, n.light, div-le_self w base)
 
-pub gives_missed : (t : List ℕ) (base lo hi width at v r w b : ℕ) (c : Cursor) → c.ok ≡ true → InNumber t base lo hi width c.at at v r w → 0 < r → 2 ≤ base
-    → b ≡ byte_at t at → digit_fits base lo hi (w / base) v b ≡ false → Gives t c (stopped at) base width lo hi
-gives_missed t base lo hi width at v zero w b c e i l two eb f = absurd (omega arith)
-gives_missed t base lo hi width at v (suc r) w b c e i l two eb f =
-    let er : suc r - 1 ≡ r = omega arith in
-    let lw : w / base ≡ base ^ r = lighter base (suc r) w two l i.weight ∙ ap (λ (n : ℕ). base ^ n) er in
-    let f' : digit_fits base lo hi (w / base) v (byte_at t at) ≡ false = subst (λ (x : ℕ). digit_fits base lo hi (w / base) v x ≡ false) eb f in
-    record { within = i.within; bounded = omega arith; goes = λ next. run_ok (numeral base lo hi width 0 next) (byte_at t) c e ∙ i.rest next ∙ number_miss base lo hi r (w / base) v at (byte_at t) next lw f' ∙ sym (run_stopped (next 0) (byte_at t) (stopped at) refl) }
+  pub in_number_more : base ≤ 10 → digit_fits base lo hi (w / base) v b ≡ true → InNumber t base lo hi width from (i + 1) (v + (b - 48) * (w / base)) (w / base)
+  in_number_more ten f =
+      let d = digit_of_lem base lo hi (w / base) v b f in
+      let lw = lighter base width i w two l n.weight in
+      let here : byte_at t (from + i) < 256 = omega (arith, d.below) in
+      let g = past_end t (from + i) here in
+      let f' : digit_fits base lo hi (w / base) v (byte_at t (from + i)) ≡ true = subst (λ (x : ℕ). digit_fits base lo hi (w / base) v x ≡ true) eb f in
+      let step : from + i + 1 ≡ from + (i + 1) = omega arith in
+      record {
+        weight = lw;
+        light = in_number_light;
+        small = d.low;
+        within = omega arith;
+        rest = λ next.
+            n.rest next
+            ∙ ap (λ (r : ℕ). reads (numeral base lo hi r v next) (byte_at t) (from + i)) one_more
+            ∙ number_hit base lo hi (width - (i + 1)) (w / base) v (from + i) (byte_at t) next lw f'
+            ∙ ap₂ (λ (x p : ℕ). reads (numeral base lo hi (width - (i + 1)) (v + (x - 48) * (w / base)) next) (byte_at t) p) (sym eb) step;
+      }
 
-pub gives_done : (t : List ℕ) (base lo hi width at v r w : ℕ) (c : Cursor) → c.ok ≡ true → InNumber t base lo hi width c.at at v r w → r ≤ 0 → Gives t c (stands at v) base width lo hi
+  pub in_number_miss : digit_fits base lo hi (w / base) v b ≡ false → (next : ℕ → Form) → reads (numeral base lo hi width 0 next) (byte_at t) from ≡ departs (from + i)
+  in_number_miss f next =
+      let lw = lighter base width i w two l n.weight in
+      let f' : digit_fits base lo hi (w / base) v (byte_at t (from + i)) ≡ false = subst (λ (x : ℕ). digit_fits base lo hi (w / base) v x ≡ false) eb f in
+      n.rest next
+      ∙ ap (λ (r : ℕ). reads (numeral base lo hi r v next) (byte_at t) (from + i)) one_more
+      ∙ number_miss base lo hi (width - (i + 1)) (w / base) v (from + i) (byte_at t) next lw f'
+
+pub in_number_end : (t : List ℕ) (base lo hi width from i v w : ℕ) → InNumber t base lo hi width from i v w → width ≤ i → i ≤ width → (next : ℕ → Form)
+    → reads (numeral base lo hi width 0 next) (byte_at t) from ≡ reads (next v) (byte_at t) (from + width)
 unfolding numeral
-gives_done t base lo hi width at v (suc r) w c e i l = absurd (omega arith)
-gives_done t base lo hi width at v zero w c e i l =
-    record { within = i.within; bounded = i.small; goes = λ next. run_ok (numeral base lo hi width 0 next) (byte_at t) c e ∙ i.rest next ∙ sym (run_ok (next v) (byte_at t) (stands at v) refl) }
+in_number_end t base lo hi width from i v w n l k next =
+    let none : width - i ≡ 0 = omega arith in
+    let e : from + i ≡ from + width = omega arith in
+    n.rest next ∙ ap₂ (λ (r p : ℕ). reads (numeral base lo hi r v next) (byte_at t) p) none e
 
-pub ends_stopped : (t : List ℕ) (c : Cursor) → c.ok ≡ false → c.at ≤ length t → Ends t c c
-ends_stopped t c e l = record { within = l; goes = λ vs. run_stopped (word (256 ∷ []) (stop vs)) (byte_at t) c e ∙ sym (run_stopped (stop vs) (byte_at t) c e) }
-
-pub ends_here : (t : List ℕ) (c : Cursor) → c.ok ≡ true → c.at ≤ length t → byte_at t c.at ≡ 256 → Ends t c c
+-- the text's end, and a byte before it
+pub ends_here : (t : List ℕ) (at : ℕ) (vs : List ℕ) → byte_at t at ≡ 256 → reads (finished vs) (byte_at t) at ≡ reads (stop vs) (byte_at t) at
 unfolding word reads
-ends_here t c e l h = record { within = l; goes = λ vs. run_ok (word (256 ∷ []) (stop vs)) (byte_at t) c e ∙ rw (word, reads, h) (sym (run_ok (stop vs) (byte_at t) c e)) }
+ends_here t at vs h = rw (word, reads, h)
 
-pub ends_later : (t : List ℕ) (c : Cursor) → c.ok ≡ true → c.at ≤ length t → (byte_at t c.at ≡ 256 → ⊥) → Ends t c (stopped c.at)
+pub ends_later : (t : List ℕ) (at : ℕ) (vs : List ℕ) → (byte_at t at ≡ 256 → ⊥) → reads (finished vs) (byte_at t) at ≡ departs at
 unfolding word reads
-ends_later t c e l h = record { within = l; goes = λ vs. run_ok (word (256 ∷ []) (stop vs)) (byte_at t) c e ∙ rw (word, reads, ne_eqb (byte_at t c.at) 256 h) (sym (run_stopped (stop vs) (byte_at t) (stopped c.at) refl)) }
+ends_later t at vs h = rw (word, reads, ne_eqb (byte_at t at) 256 h)

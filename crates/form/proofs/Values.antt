@@ -2,7 +2,6 @@
 -- Assumes nothing.
 use Prim.{tt}
 use mathlib.Core.Path.{◌≡◌, refl, sym, ap, ap₂, subst, ◌∙◌}
-use mathlib.Core.Bool.{true}
 use mathlib.Core.List.{List, [], ◌∷◌, ◌++◌}
 use Prim.Native.Nat.{ℕ, zero, suc, ◌+◌, ◌*◌, ◌-◌, ◌/◌, ◌%◌, ◌^◌, ◌≤◌, ◌<◌}
 use native.Mathlib.Nat.{pow-suc, pow-zero, div-add-mod', mod-lt, div-one, add-mul, mul_assoc, mul-le-mul, mul-le-mul_right, suc-mul, pow-le-pow_right}
@@ -10,9 +9,8 @@ use native.Mathlib.Numerals.{add-one}
 use native.Mathlib.Omega.{arith}
 use lib.ListN.{length}
 use Rattle.form.specs.Form.{Form, reads, Spells, numeral, digits, byte_at}
-use Rattle.form.specs.Cursors.{Said, Gives}
-use Rattle.form.specs.declared.Cursor.{Cursor}
-use Rattle.form.proofs.Steps.{stands, run_ok, number_hit, past_end}
+use Rattle.form.specs.Places.{Said}
+use Rattle.form.proofs.Steps.{number_hit, past_end}
 use Rattle.form.proofs.Texts.{weight, glued, first_digit, over}
 
 -- ---- one digit more
@@ -77,21 +75,19 @@ pub begun_scaled : (t : List ℕ) (at base width i v : ℕ) → Begun t at base 
 begun_scaled t at base width i v b two ten few =
     mul-le-mul {n₁ = v} {m₁ = base} {n₂ = 100000} {m₂ = 10} (omega (arith, begun_small t at base width i v b two few)) ten
 
-pub begun_more : (t : List ℕ) (at base width i v b : ℕ) → Begun t at base width i v → i < width → 48 ≤ b → b < 48 + base → base ≤ 10 → b ≡ byte_at t (at + i)
-    → Begun t at base width (i + 1) (v * base + (b - 48))
-begun_more t at base width i v b g l low high ten e =
-    let d : b - 48 < base = omega arith in
-    let back : 48 + (b - 48) ≡ b = omega arith in
+pub begun_more : (t : List ℕ) (at base width i v d : ℕ) → Begun t at base width i v → i < width → d < base → base ≤ 10 → byte_at t (at + i) ≡ 48 + d
+    → Begun t at base width (i + 1) (v * base + d)
+begun_more t at base width i v d g l low ten e =
     let in_text : byte_at t (at + i) < 256 = omega arith in
     let k = past_end t (at + i) in_text in
     let place : at + length (digits base i v) ≡ at + i = ap (λ (n : ℕ). at + n) (digits_length base i v) in
     record {
       inside = omega arith;
       within = omega arith;
-      below = rw (add-one i, pow-suc base i) (more_below base (base ^ i) v (b - 48) g.below d);
+      below = rw (add-one i, pow-suc base i) (more_below base (base ^ i) v d g.below low);
       spells =
-          rw (add-one i, digits_more base i v (b - 48) g.below d, back)
-          (spells_more (byte_at t) at b (digits base i v) g.spells (ap (byte_at t) place ∙ sym e));
+          rw (add-one i, digits_more base i v d g.below low)
+          (spells_more (byte_at t) at (48 + d) (digits base i v) g.spells (ap (byte_at t) place ∙ e));
     }
 
 pub begun_end : (t : List ℕ) (at base width i v : ℕ) → Begun t at base width i v → width ≤ i → Said t at base width v
@@ -118,15 +114,8 @@ spelled base lo hi (suc r) v x p s next l a b h =
     ∙ spelled base lo hi r (v + (s p - 48) * W) (x % W) (p + 1) s next (mod-lt x k.1) (rw (is) a) (rw (is) b) (rw (add-one p) h.1)
     ∙ ap₂ (λ (n q : ℕ). reads (next n) s q) is place
 
-pub gives_said : (t : List ℕ) (c : Cursor) (base width lo hi v : ℕ) → c.ok ≡ true → Said t c.at base width v → lo ≤ v → v ≤ hi
-    → Gives t c (stands (c.at + width) v) base width lo hi
-gives_said t c base width lo hi v e g a b =
-    record {
-      within = g.within;
-      bounded = b;
-      goes = λ next.
-          run_ok (numeral base lo hi width 0 next) (byte_at t) c e
-          ∙ spelled base lo hi width 0 v c.at (byte_at t) next g.below (omega arith) (omega arith) g.spells
-          ∙ ap (λ (n : ℕ). reads (next n) (byte_at t) (c.at + width)) (let f : 0 + v ≡ v = omega arith in f)
-          ∙ sym (run_ok (next v) (byte_at t) (stands (c.at + width) v) refl);
-    }
+pub said_read : (t : List ℕ) (at base width lo hi v : ℕ) → Said t at base width v → lo ≤ v → v ≤ hi → (next : ℕ → Form)
+    → reads (numeral base lo hi width 0 next) (byte_at t) at ≡ reads (next v) (byte_at t) (at + width)
+said_read t at base width lo hi v g a b next =
+    spelled base lo hi width 0 v at (byte_at t) next g.below (omega arith) (omega arith) g.spells
+    ∙ ap (λ (n : ℕ). reads (next n) (byte_at t) (at + width)) (let f : 0 + v ≡ v = omega arith in f)

@@ -1,2 +1,3 @@
 pub mod Form
+pub mod Places
 pub mod Cursors

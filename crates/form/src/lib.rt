@@ -1,173 +1,129 @@
-// A strict reader of text, byte by byte: each reader goes on from a cursor, and passes on one that stopped.
+// A strict reader of text, byte by byte: it stands at a place of a text, and each token leads it on.
 #![tactic(auto)]
 
-ghost use Rattle.std.specs.Prelude.{◌≡◌, ◌^◌, ◌<◌, ◌≤◌, length};
+ghost use Rattle.std.specs.Prelude.{◌≡◌, ◌^◌, ◌<◌, ◌≤◌, false, true, ◌*◌, ◌-◌, ◌+◌, length, MatchOption, IfSome};
 ghost use Rattle.form.specs.Form.{byte_at, digit_fits};
-ghost use Rattle.form.specs.Cursors.{Passes, Gives, Ends, Said, no_value};
+ghost use Rattle.form.specs.Places.{next_byte, Digit, Said};
 
-// A place in a text: what comes next, or, where `ok` is false, the first byte that is not allowed. `value` is the number read last.
+// How a number is written: its base and how many digits; `power` numbers have so many.
 #[derive(Clone, Copy)]
-pub struct Cursor {
+pub struct Numeral {
+    pub base: u32,
+    pub width: u32,
+    pub power: u32,
+    ghost binary_up: { 2 ≤ base },
+    ghost decimal_down: { base ≤ 10 },
+    ghost counted: { power ≡ base ^ width },
+    ghost few: { power ≤ 100000 },
+}
+
+// The least and the most that a number can be.
+#[derive(Clone, Copy)]
+pub struct Range {
+    pub least: u32,
+    pub most: u32,
+}
+
+// A place in a text: what comes next.
+#[derive(Clone, Copy)]
+pub struct Reader<'t> {
+    pub text: &'t [u8],
     pub at: usize,
-    pub ok: bool,
-    pub value: u32,
+    ghost within: { at ≤ length text.now },
 }
 
-// Past the end of a text, where a byte would be.
-const ENDING: u32 = 256;
-
-// Above every number that is read.
-const NO_VALUE: u32 = 1000000;
-
-// The byte at a place.
-pub fn byte_at(t: &[u8], at: usize) -> u32
-    ensures { result ≡ byte_at t.now at }
+// The byte at a place, where the text has one.
+pub fn byte_at(text: &[u8], at: usize) -> Option<u8>
+    ensures there { next_byte result ≡ byte_at text.now at }
+    ensures small { IfSome result (λ b. b < 256) }
 {
-    if at < t.len() { t[at] as u32 } else { ENDING }
+    text.get(at).copied()
 }
 
-// Whether b is a digit that a number from lo to hi can have next: v is read, and w is the digit's weight.
-fn digit_fits(base: u32, lo: u32, hi: u32, w: u32, v: u32, b: u32) -> bool
-    requires { (base ≤ 10) × (w ≤ 100000) × (v ≤ 1000000) }
-    ensures { result ≡ digit_fits base lo hi w v b }
+// What a byte says as a digit.
+fn digit(b: u8, base: u32) -> Option<u32>
+    requires { base ≤ 10 }
+    ensures { Digit base b result }
 {
-    if b < 48 {
-        return false;
-    }
-    if 48 + base <= b {
-        return false;
-    }
-    let n = v + (b - 48) * w;
-    (n <= hi) & (lo < n + w)
+    let d = u32::from(b.checked_sub(b'0')?);
+    (d < base).then_some(d)
 }
 
-// A fixed run of bytes.
-pub fn expect(t: &[u8], c: Cursor, w: &[u8]) -> Cursor
-    requires { c.at ≤ length t.now }
-    ensures { Passes t.now c result w.now }
+// The number that v becomes by a digit more, of weight w, if that can still come to lie in the range.
+fn grown(n: Numeral, range: Range, w: u32, v: u32, b: Option<u8>) -> Option<u32>
+    requires { (w ≤ 100000) × (v ≤ 1000000) }
+    ensures { MatchOption result (digit_fits n.base range.least range.most w v (next_byte b) ≡ false) (λ x. (digit_fits n.base range.least range.most w v (next_byte b) ≡ true) × (x ≡ v + (next_byte b - 48) * w)) }
 {
-    if !c.ok {
-        return c;
-    }
-    let mut at = c.at;
-    let mut j = 0;
-    while j < w.len() {
-        if byte_at(t, at) != w[j] as u32 {
-            return Cursor {
-                at,
-                ok: false,
-                value: 0,
-            };
-        }
-        at += 1;
-        j += 1;
-    }
-    Cursor {
-        at,
-        ok: true,
-        value: 0,
-    }
+    let x = v + digit(b?, n.base)? * w;
+    ((x <= range.most) & (range.least < x + w)).then_some(x)
 }
 
-// The number that so many digits from a place on say; one above all that are read where they are no digits.
-fn value_at(t: &[u8], at: usize, base: u32, width: u32) -> u32
-    requires { (at ≤ length t.now) × (2 ≤ base) × (base ≤ 10) × (base ^ width ≤ 100000) }
-    ensures { result < no_value → Said t.now at base width result }
+// The number that so many digits from a place on say, if they are digits.
+fn value_at(text: &[u8], at: usize, n: Numeral) -> Option<u32>
+    requires { at ≤ length text.now }
+    ensures { IfSome result (λ v. Said text.now at n.base n.width v) }
 {
     let mut v = 0;
-    let mut i: u32 = 0;
-    while i < width {
-        let b = byte_at(t, at + i as usize);
-        if b < 48 {
-            return NO_VALUE;
-        }
-        if 48 + base <= b {
-            return NO_VALUE;
-        }
-        v = v * base + (b - 48);
-        i += 1;
+    for b in text.get(at..at + n.width as usize)? {
+        v = v * n.base + digit(*b, n.base)?;
     }
-    v
+    Some(v)
 }
 
-// A number of `width` digits from lo to hi, digit by digit, up to the first that can't be; `power` is base ^ width.
-fn number_by_digits(
-    t: &[u8],
-    c: Cursor,
-    base: u32,
-    width: u32,
-    power: u32,
-    lo: u32,
-    hi: u32,
-) -> Cursor
-    requires { (c.at ≤ length t.now) × (2 ≤ base) × (base ≤ 10) × (power ≡ base ^ width) × (power ≤ 100000) × (hi < power) }
-    ensures { Gives t.now c result base width lo hi }
-{
-    let mut at = c.at;
-    if !c.ok {
-        return Cursor {
-            at,
-            ok: false,
-            value: 0,
-        };
-    }
-    let mut v = 0;
-    let mut r = width;
-    let mut w = power;
-    while 0 < r {
-        r -= 1;
-        w = w / base;
-        let b = byte_at(t, at);
-        if !digit_fits(base, lo, hi, w, v, b) {
-            return Cursor {
-                at,
-                ok: false,
-                value: 0,
-            };
-        }
-        v = v + (b - 48) * w;
-        at += 1;
-    }
-    Cursor {
-        at,
-        ok: true,
-        value: v,
-    }
-}
+impl<'t> Reader<'t> {
+    ghost use Rattle.std.specs.Prelude.{◌≡◌, ◌<◌};
+    ghost use Rattle.form.specs.Cursors.{Passes, Gives, Ends};
 
-// A number of `width` digits from lo to hi; `power` is base ^ width. It is read at once; only one that can't be is looked at digit by digit.
-pub fn number(t: &[u8], c: Cursor, base: u32, width: u32, power: u32, lo: u32, hi: u32) -> Cursor
-    requires { (c.at ≤ length t.now) × (2 ≤ base) × (base ≤ 10) × (power ≡ base ^ width) × (power ≤ 100000) × (hi < power) }
-    ensures { Gives t.now c result base width lo hi }
-{
-    if c.ok {
-        let v = value_at(t, c.at, base, width);
-        if (lo <= v) & (v <= hi) {
-            return Cursor {
-                at: c.at + width as usize,
-                ok: true,
-                value: v,
-            };
+    // A fixed run of bytes. Each token refuses a text at the first byte that it does not allow.
+    pub fn expect(&mut self, word: &[u8]) -> Result<(), usize>
+        ensures { Passes self.old self.new word.now result }
+    {
+        for (j, b) in word.iter().enumerate() {
+            if byte_at(self.text, self.at + j) != Some(*b) {
+                return Err(self.at + j);
+            }
         }
+        self.at += word.len();
+        Ok(())
     }
-    number_by_digits(t, c, base, width, power, lo, hi)
-}
 
-// The end of the text.
-pub fn finish(t: &[u8], c: Cursor) -> Cursor
-    requires { c.at ≤ length t.now }
-    ensures { Ends t.now c result }
-{
-    if !c.ok {
-        return c;
+    // A number in a range, digit by digit, up to the first that can't be.
+    fn number_by_digits(&mut self, n: Numeral, range: Range) -> Result<u32, usize>
+        requires { range.most < n.power }
+        ensures { Gives self.old self.new n range result }
+    {
+        let mut v = 0;
+        let mut w = n.power;
+        for i in 0..n.width {
+            w = w / n.base;
+            let at = self.at + i as usize;
+            v = grown(n, range, w, v, byte_at(self.text, at)).ok_or(at)?;
+        }
+        self.at += n.width as usize;
+        Ok(v)
     }
-    let at = c.at;
-    if byte_at(t, at) == ENDING {
-        return c;
+
+    // A number in a range. It is read at once; only one that can't be is looked at digit by digit.
+    pub fn number(&mut self, n: Numeral, range: Range) -> Result<u32, usize>
+        requires { range.most < n.power }
+        ensures { Gives self.old self.new n range result }
+    {
+        if let Some(v) = value_at(self.text, self.at, n) {
+            if (range.least <= v) & (v <= range.most) {
+                self.at += n.width as usize;
+                return Ok(v);
+            }
+        }
+        self.number_by_digits(n, range)
     }
-    Cursor {
-        at,
-        ok: false,
-        value: 0,
+
+    // The end of the text.
+    pub fn finish(&self) -> Result<(), usize>
+        ensures { Ends self.now result }
+    {
+        match byte_at(self.text, self.at) {
+            None => Ok(()),
+            Some(_) => Err(self.at),
+        }
     }
 }

@@ -1,10 +1,6 @@
--- `form::value_at` meets its contract. The loop's invariant: i digits are read, the number v.
-use Prim.Native.Nat.{◌-◌}
+-- `form::value_at` meets its contract. The loop's invariant: as many digits are read, the number v.
 use Rattle.form.proofs.Values.{Begun}
 use Rattle.form.proofs.value_at.Given as goal
 
-abbrev pub invariant-loop-i : goal.invariant-loop-i
-invariant-loop-i l = Begun l.t l.at l.base l.width l.i l.v
-
-abbrev pub decreases-loop-i : goal.decreases-loop-i
-decreases-loop-i l = l.width - l.i
+abbrev pub invariant-loop-b : goal.invariant-loop-b
+invariant-loop-b l = Begun l.text l.at l.n.base l.n.width l.b-index l.v
