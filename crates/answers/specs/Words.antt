@@ -16,7 +16,7 @@ use Rattle.trimmer.specs.Trimmer.{Answer as TrimAnswer}
 use Rattle.trimmer.specs.declared.Trimmed.{Trimmed}
 use Rattle.kiss_writer.specs.Write.{Answer as WriteAnswer}
 use Rattle.kiss_reader.specs.Read.{Answer as ReadAnswer}
-use Rattle.kiss_reader.specs.declared.Read.{Read}
+use Rattle.kiss_reader.specs.declared.Extent.{Extent}
 
 -- done, with two values
 abbrev pub done : (x y : ℕ) → List ℕ
@@ -68,7 +68,7 @@ abbrev pub trimmed_words : Trimmed → List ℕ
 trimmed_words t = done t.words t.cells
 
 -- the words of the card that was read, and its cells
-abbrev pub read_card_words : Read → List ℕ
+abbrev pub read_card_words : Extent → List ℕ
 read_card_words r = done r.words r.cells
 
 -- ---- the words of an entry's answer

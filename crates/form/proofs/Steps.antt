@@ -12,7 +12,7 @@ use lib.Dec.{ltb, leb}
 use lib.ListN.{length, get_or, drop, drop_of_length-le, get_or-eq_default}
 use lib.Seq.{drop-cons}
 use borrow.Author.Tests.{eq-eqb, ne_eqb, ltb-true, leb-true, ltb-false, leb-false, lt-ltb, le-ltb, le-leb, lt-leb}
-use Rattle.form.specs.Form.{Form, stop, departs, reads, byte_at, word, finished, numeral, digit_fits}
+use Rattle.form.specs.Form.{Form, read, departs, reads, byte_at, word, finished, numeral, digit_fits}
 
 pub past_end : (t : List ℕ) (k : ℕ) → byte_at t k < 256 → k < length t
 unfolding byte_at
@@ -174,7 +174,7 @@ in_number_end t base lo hi width from i v w n l k next =
     n.rest next ∙ ap₂ (λ (r p : ℕ). reads (numeral base lo hi r v next) (byte_at t) p) none e
 
 -- the text's end, and a byte before it
-pub ends_here : (t : List ℕ) (at : ℕ) (vs : List ℕ) → byte_at t at ≡ 256 → reads (finished vs) (byte_at t) at ≡ reads (stop vs) (byte_at t) at
+pub ends_here : (t : List ℕ) (at : ℕ) (vs : List ℕ) → byte_at t at ≡ 256 → reads (finished vs) (byte_at t) at ≡ read vs
 unfolding word reads
 ends_here t at vs h = rw (word, reads, h)
 

@@ -1,7 +1,7 @@
 -- What the readers of a text promise: from one place to the next, whatever follows.
 -- Assumes nothing.
 use Rattle.std.specs.Prelude.{◌≡◌, List, ℕ, ◌≤◌, Result, Ok, Err, IfOk}
-use Rattle.form.specs.Form.{Form, stop, Outcome, departs, reads, byte_at, word, finished, number}
+use Rattle.form.specs.Form.{Form, Outcome, read, departs, reads, byte_at, word, finished, number}
 use Rattle.form.specs.declared.Reader.{Reader}
 use Rattle.form.specs.declared.Numeral.{Numeral}
 use Rattle.form.specs.declared.Range.{Range}
@@ -28,4 +28,4 @@ pub record Gives (c r : Reader) (n : Numeral) (range : Range) (e : Result ℕ �
 
 -- at c the text ends
 pub record Ends (c : Reader) (e : Result (Unit {0}) ℕ) : Type 0 where
-  pub goes : (vs : List ℕ) → runs (finished vs) c ≡ behind e (λ _. runs (stop vs) c)
+  pub goes : (vs : List ℕ) → runs (finished vs) c ≡ behind e (λ _. read vs)

@@ -19,8 +19,7 @@ use Rattle.kiss.specs.Idle.{idle, LowestIdle}
 use Rattle.kiss.proofs.Leading.{lowest_idle}
 use Rattle.kiss.proofs.Final.{written_read}
 use Rattle.kiss.proofs.Promised.{of_text}
-use Rattle.kiss_reader.specs.Read.{by_room, of_card, told, read_into, Reads}
-use Rattle.kiss_reader.specs.Read.{Answer}
+use Rattle.kiss_reader.specs.Read.{Answer, read_as, by_room, of_card, told, read_into, Reads}
 use Rattle.games.specs.declared.Reason.{Reason}
 use Rattle.games.specs.declared.Reason.TheVariants as reason
 use Rattle.games.specs.Answers.{refused}
@@ -31,52 +30,52 @@ unfolding Small
 small_text [] f = tt
 small_text (b ∷ t) f = (f 0, small_text t (λ i. f (suc i)))
 
-other : {X : Type 0} (n : Reason) (p m k : ℕ) → refused n p ≡ Read m k → X
+other : {X : Type 0} (n : Reason) (p m k : ℕ) → refused n p ≡ read_as m k → X
 other n p m k e = let z : ◌≡◌ {A = ℕ} 0 1 = cc in absurd (omega arith)
 
 same_refusal : (n : Reason) (p m q : ℕ) → refused n p ≡ refused m q → (n ≡ m) × (p ≡ q)
 same_refusal n p m q e = (cc, cc)
 
-same_count : (n k m l : ℕ) → Read n k ≡ Read m l → n ≡ m
+same_count : (n k m l : ℕ) → read_as n k ≡ read_as m l → n ≡ m
 same_count n k m l e = cc
 
 module _ (t d : List ℕ) (s : Small t) (r : Answer) (left : List ℕ) where
-  refused_reads : (n : Reason) (p : ℕ) → r ≡ refused n p → (n ≡ 21 → reading t ≡ departs p) → (n ≡ 20 → (x : List ℕ) × (reading t ≡ read x) × LowestIdle x p) → Reads t r left
+  refused_reads : (n : Reason) (p : ℕ) → r ≡ refused n p → (n ≡ reason.Departs → reading t ≡ departs p) → (n ≡ reason.IdleCell → (x : List ℕ) × (reading t ≡ read x) × LowestIdle x p) → Reads t r left
   refused_reads n p e f g =
       record {
         promise = of_text t s;
         stands = λ m k h. other n p m k (sym e ∙ h);
         no_idle = λ m k h. other n p m k (sym e ∙ h);
-        departed = λ q h. let z = same_refusal n p 21 q (sym e ∙ h) in f z.0 ∙ ap departs z.1;
-        lowest = λ c h. let z = same_refusal n p 20 c (sym e ∙ h) in let y = g z.0 in (y.0, y.1, subst (LowestIdle y.0) z.1 y.2);
+        departed = λ q h. let z = same_refusal n p reason.Departs q (sym e ∙ h) in f z.0 ∙ ap departs z.1;
+        lowest = λ c h. let z = same_refusal n p reason.IdleCell c (sym e ∙ h) in let y = g z.0 in (y.0, y.1, subst (LowestIdle y.0) z.1 y.2);
       }
 
   module _ (x : List ℕ) (is : reading t ≡ read x) where
     by_room_lem : idle x ≡ nothing → (b : Bool)
-        → leaves r left ≡ cond b (leaves (refused reason.ShortRoom (length x)) d) (leaves (Read (length x) (card_cells x)) (x ++ drop (length x) d)) → Reads t r left
-    by_room_lem i true h = refused_reads 9 (length x) (ap (λ (y : Leaves Answer (List ℕ)). y.answer) h) (λ z. absurd (omega arith)) (λ z. absurd (omega arith))
+        → leaves r left ≡ cond b (leaves (refused reason.ShortRoom (length x)) d) (leaves (read_as (length x) (card_cells x)) (x ++ drop (length x) d)) → Reads t r left
+    by_room_lem i true h = refused_reads reason.ShortRoom (length x) (ap (λ (y : Leaves Answer (List ℕ)). y.answer) h) (λ z. absurd (omega arith)) (λ z. absurd (omega arith))
     by_room_lem i false h =
-        let a : r ≡ Read (length x) (card_cells x) = ap (λ (y : Leaves Answer (List ℕ)). y.answer) h in
+        let a : r ≡ read_as (length x) (card_cells x) = ap (λ (y : Leaves Answer (List ℕ)). y.answer) h in
         let l : left ≡ x ++ drop (length x) d = ap (λ (y : Leaves Answer (List ℕ)). y.left) h in
-        let back : (m k : ℕ) → r ≡ Read m k → take m left ≡ x =
+        let back : (m k : ℕ) → r ≡ read_as m k → take m left ≡ x =
         λ m k g. ap (take m) l ∙ take_at x (drop (length x) d) m (same_count (length x) (card_cells x) m k (sym a ∙ g)) in
         record {
           promise = of_text t s;
           stands = λ m k g. is ∙ ap read (sym (back m k g));
           no_idle = λ m k g. ap idle (back m k g) ∙ i;
-          departed = λ q g. other 21 q (length x) (card_cells x) (sym g ∙ a);
-          lowest = λ c g. other 20 c (length x) (card_cells x) (sym g ∙ a);
+          departed = λ q g. other reason.Departs q (length x) (card_cells x) (sym g ∙ a);
+          lowest = λ c g. other reason.IdleCell c (length x) (card_cells x) (sym g ∙ a);
         }
 
     by_idle : (f : Found) → idle x ≡ f → leaves r left ≡ at_found f (λ c. leaves (refused reason.IdleCell c) d) (by_room x d) → Reads t r left
     unfolding by_room
     by_idle (found c) i h =
-        refused_reads 20 c (ap (λ (y : Leaves Answer (List ℕ)). y.answer) h) (λ z. absurd (omega arith)) (λ z. (x, is, lowest_idle x (written_read t x s is).0 c i))
+        refused_reads reason.IdleCell c (ap (λ (y : Leaves Answer (List ℕ)). y.answer) h) (λ z. absurd (omega arith)) (λ z. (x, is, lowest_idle x (written_read t x s is).0 c i))
     by_idle nothing i h = by_room_lem i (ltb (length d) (length x)) h
 
   by_outcome : (o : Outcome) → reading t ≡ o → leaves r left ≡ told o d → Reads t r left
   unfolding told of_card
-  by_outcome (departs p) e h = refused_reads 21 p (ap (λ (y : Leaves Answer (List ℕ)). y.answer) h) (λ z. e) (λ z. absurd (omega arith))
+  by_outcome (departs p) e h = refused_reads reason.Departs p (ap (λ (y : Leaves Answer (List ℕ)). y.answer) h) (λ z. e) (λ z. absurd (omega arith))
   by_outcome (read x) e h = by_idle x e (idle x) refl h
 
   reads : leaves r left ≡ read_into t d → Reads t r left

@@ -1,3 +1,4 @@
 pub mod Storing
+pub mod Sizing
 pub mod Reading
 pub mod Read

@@ -9,14 +9,14 @@ use Rattle.kiss.specs.Profile.{reading}
 use Rattle.kiss.specs.Idle.{idle, LowestIdle}
 use Rattle.kiss.specs.Promise.{OfText}
 use Rattle.games.specs.declared.Refusal.{Refusal}
-use Rattle.kiss_reader.specs.declared.Read.{Read}
+use Rattle.kiss_reader.specs.declared.Extent.{Extent}
 use Rattle.std.specs.Prelude.{Result, Ok}
 use Rattle.games.specs.declared.Reason.TheVariants as reason
 use Rattle.games.specs.Answers.{refused}
 
 -- what reading answers: the words of the card and its cells, or a refusal
 abbrev pub Answer : Type 0
-Answer = Result Read Refusal
+Answer = Result Extent Refusal
 
 abbrev pub read_as : (words cells : ℕ) → Answer
 read_as words cells = Ok (record { words = words; cells = cells })

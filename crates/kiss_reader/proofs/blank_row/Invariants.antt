@@ -1,12 +1,8 @@
 -- `kiss_reader::blank_row` meets its contract. The loop's invariant: the words for the observations below j are written.
-use Prim.Native.Nat.{◌≤◌, ◌-◌}
 use Rattle.games.specs.Automaton.{no_cell}
 use Rattle.games.specs.Fields.{word}
 use Rattle.cards.proofs.Parts.{Filled}
 use Rattle.kiss_reader.proofs.blank_row.Given as goal
 
 abbrev pub invariant-loop-j : goal.invariant-loop-j
-invariant-loop-j l = (l.j ≤ l.o) × Filled l.o (λ i. word l.kind no_cell i 0) l.j l.row
-
-abbrev pub decreases-loop-j : goal.decreases-loop-j
-decreases-loop-j l = l.o - l.j
+invariant-loop-j l = Filled l.o (λ i. word l.kind no_cell i 0) l.j l.row

@@ -1,22 +1,52 @@
 -- `kiss_reader::read_entry` meets its contract.
-use Rattle.kiss_reader.proofs.Lines.{says_long, most_fits, entry_read}
-use native.Mathlib.Omega.{arith}
+use Rattle.std.proofs.Common.{◌-◌, ◌<◌, ℕ, refl, sym, ap, ◌∙◌, arith}
+use Rattle.std.proofs.lemmas.Result.{err_from_is_err_and}
+use Rattle.kiss_reader.specs.Reading.{entry}
+use Rattle.kiss_reader.proofs.Parts.{given}
+use Rattle.kiss_reader.proofs.Lines.{range_least_is, range_most_is, range_below}
 use Rattle.kiss_reader.proofs.read_entry.Goals as goal
 
-pub own_word-requires : goal.own_word-requires
-own_word-requires c = (c.requires.1, omega (arith, c.number-n.ensures.bounded, c.requires.1.some_cell), says_long c.args.z c.requires.2.machine c.args.words.now c.requires.2.says)
+pub outputs-requires : goal.outputs-requires
+outputs-requires c = omega (arith, c.in_ok-cell.ensures.bounded, c.args.machine.sizes.sized.some_cell)
 
-pub number-u-requires : goal.number-u-requires
-number-u-requires c = (
-  c.expect-gap.ensures.within,
-  omega arith,
-  omega arith,
-  c.requires.1.outputs,
-  omega (arith, c.requires.1.few_outputs),
-  most_fits c.args.z c.args.words.now c.number-n.result.value _ c.outputs-range.result c.requires.1 c.requires.2 (omega (arith, c.number-n.ensures.bounded, c.requires.1.some_cell)) c.own_word.ensures c.outputs-range.ensures,
-)
+pub number-requires-2 : goal.number-requires-2
+number-requires-2 c =
+    omega (arith, range_below c.args.machine.sizes c.args.machine.words.now c.in_ok-cell.cell _ (omega (arith, c.in_ok-cell.ensures.bounded, c.args.machine.sizes.sized.some_cell)) c.outputs.ensures c.args.machine.held, c.args.machine.sizes.sized.output_enough)
+
+pub returns-in_err-expect : goal.returns-in_err-expect
+unfolding entry
+returns-in_err-expect c =
+    let p = err_from_is_err_and c.from_residual.result c.from_residual.ensures.1 in
+    rw (p.1, p.2) (record { bounded = tt; goes = λ B s next. c.in_err-expect.ensures.goes _ })
+
+pub returns-in_err-cell : goal.returns-in_err-cell
+unfolding entry
+returns-in_err-cell c =
+    let p = err_from_is_err_and c.from_residual-in_err-cell.result c.from_residual-in_err-cell.ensures.1 in
+    rw (p.1, p.2) (record { bounded = tt; goes = λ B s next. c.in_ok-expect.ensures.goes _ ∙ given _ _ _ _ _ _ _ _ _ c.in_err-cell.ensures refl refl refl (ap (λ (m : ℕ). m - 1) (sym s.size)) _ })
+
+pub returns-in_err-expect-2 : goal.returns-in_err-expect-2
+unfolding entry
+returns-in_err-expect-2 c =
+    let p = err_from_is_err_and c.from_residual-in_err-expect-2.result c.from_residual-in_err-expect-2.ensures.1 in
+    rw (p.1, p.2) (record { bounded = tt; goes = λ B s next. c.in_ok-expect.ensures.goes _ ∙ given _ _ _ _ _ _ _ _ _ c.in_ok-cell.ensures refl refl refl (ap (λ (m : ℕ). m - 1) (sym s.size)) _ ∙ c.in_err-expect-2.ensures.goes _ })
+
+pub returns-in_err-output : goal.returns-in_err-output
+unfolding entry
+returns-in_err-output c =
+    let p = err_from_is_err_and c.from_residual-in_err-output.result c.from_residual-in_err-output.ensures.1 in
+    let inside : c.in_ok-cell.cell < c.args.machine.sizes.cells = omega (arith, c.in_ok-cell.ensures.bounded, c.args.machine.sizes.sized.some_cell) in
+    rw (p.1, p.2) (record { bounded = tt; goes = λ B s next. c.in_ok-expect.ensures.goes _ ∙ given _ _ _ _ _ _ _ _ _ c.in_ok-cell.ensures refl refl refl (ap (λ (m : ℕ). m - 1) (sym s.size)) _ ∙ c.in_ok-expect-2.ensures.goes _ ∙ given _ _ _ _ _ _ _ _ _ c.in_err-output.ensures c.args.machine.sizes.sized.output_base c.args.machine.sizes.sized.output (range_least_is _ _ _ _ inside c.outputs.ensures B s) (range_most_is _ _ _ _ inside c.outputs.ensures B s) _ })
+
+pub returns-in_err-expect-3 : goal.returns-in_err-expect-3
+unfolding entry
+returns-in_err-expect-3 c =
+    let p = err_from_is_err_and c.from_residual-in_err-expect-3.result c.from_residual-in_err-expect-3.ensures.1 in
+    let inside : c.in_ok-cell.cell < c.args.machine.sizes.cells = omega (arith, c.in_ok-cell.ensures.bounded, c.args.machine.sizes.sized.some_cell) in
+    rw (p.1, p.2) (record { bounded = tt; goes = λ B s next. c.in_ok-expect.ensures.goes _ ∙ given _ _ _ _ _ _ _ _ _ c.in_ok-cell.ensures refl refl refl (ap (λ (m : ℕ). m - 1) (sym s.size)) _ ∙ c.in_ok-expect-2.ensures.goes _ ∙ given _ _ _ _ _ _ _ _ _ c.in_ok-output.ensures c.args.machine.sizes.sized.output_base c.args.machine.sizes.sized.output (range_least_is _ _ _ _ inside c.outputs.ensures B s) (range_most_is _ _ _ _ inside c.outputs.ensures B s) _ ∙ c.in_err-expect-3.ensures.goes _ })
 
 pub returns : goal.returns
+unfolding entry
 returns c =
-    entry_read c.args.t.now c.args.c _ c.number-n.result c.expect-gap.result c.number-u.result c.expect-end.result c.args.z c.args.words.now _ c.outputs-range.result
-    c.requires.1 c.requires.2 c.expect-name.ensures c.number-n.ensures c.expect-gap.ensures c.own_word.ensures c.outputs-range.ensures c.number-u.ensures c.expect-end.ensures
+    let inside : c.in_ok-cell.cell < c.args.machine.sizes.cells = omega (arith, c.in_ok-cell.ensures.bounded, c.args.machine.sizes.sized.some_cell) in
+    record { bounded = record { cell = inside; output = omega (arith, c.in_ok-output.ensures.bounded, range_below c.args.machine.sizes c.args.machine.words.now c.in_ok-cell.cell _ inside c.outputs.ensures c.args.machine.held) }; goes = λ B s next. c.in_ok-expect.ensures.goes _ ∙ given _ _ _ _ _ _ _ _ _ c.in_ok-cell.ensures refl refl refl (ap (λ (m : ℕ). m - 1) (sym s.size)) _ ∙ c.in_ok-expect-2.ensures.goes _ ∙ given _ _ _ _ _ _ _ _ _ c.in_ok-output.ensures c.args.machine.sizes.sized.output_base c.args.machine.sizes.sized.output (range_least_is _ _ _ _ inside c.outputs.ensures B s) (range_most_is _ _ _ _ inside c.outputs.ensures B s) _ ∙ c.in_ok-expect-3.ensures.goes _ }

@@ -1,16 +1,28 @@
 -- `kiss_reader::read_state` meets its contract.
-use native.Mathlib.Omega.{arith}
-use Prim.Native.Nat.{◌-◌}
-use mathlib.Core.Path.{◌≡◌}
-use Rattle.kiss_reader.proofs.Parts.{state_first, state_named}
+use Rattle.std.proofs.Common.{refl, ◌∙◌, arith}
+use Rattle.std.proofs.lemmas.Result.{err_from_is_err_and}
+use Rattle.kiss_reader.proofs.Parts.{given, state_first, state_other}
 use Rattle.kiss_reader.proofs.read_state.Goals as goal
-use Rattle.kiss_reader.proofs.read_state.Goals.{then-least-eq0, else-least-eq0}
 
-pub returns-then-least-b : goal.returns-then-least-b
-returns-then-least-b c = state_first c.args.t.now c.args.c c.args.m c.args.least _ c.byte_at-b.ensures c.expect-reset.result c.if-least-b.true c.expect-reset.ensures
+pub returns-in_err-expect : goal.returns-in_err-expect
+returns-in_err-expect c =
+    let p = err_from_is_err_and c.from_residual.result c.from_residual.ensures.1 in
+    rw (p.1, p.2) (record { bounded = tt; goes = λ next. state_first c.args.r.now c.args.m c.args.least c.byte_at.result c.byte_at.ensures.there (rw (c.eq.ensures) at c.if-least-eq.true) _ ∙ c.in_err-expect.ensures.goes _ })
+
+pub returns-then-least-eq : goal.returns-then-least-eq
+returns-then-least-eq c =
+    record { bounded = omega arith; goes = λ next. state_first c.args.r.now c.args.m c.args.least c.byte_at.result c.byte_at.ensures.there (rw (c.eq.ensures) at c.if-least-eq.true) _ ∙ c.in_ok-expect.ensures.goes _ }
+
+pub returns-in_err-expect-2 : goal.returns-in_err-expect-2
+returns-in_err-expect-2 c =
+    let p = err_from_is_err_and c.from_residual-in_err-expect-2.result c.from_residual-in_err-expect-2.ensures.1 in
+    rw (p.1, p.2) (record { bounded = tt; goes = λ next. state_other c.args.r.now c.args.m c.args.least c.byte_at.result c.byte_at.ensures.there (rw (c.eq.ensures) at c.if-least-eq.false) _ ∙ c.in_err-expect-2.ensures.goes _ })
+
+pub returns-in_err-cell : goal.returns-in_err-cell
+returns-in_err-cell c =
+    let p = err_from_is_err_and c.from_residual-in_err-cell.result c.from_residual-in_err-cell.ensures.1 in
+    rw (p.1, p.2) (record { bounded = tt; goes = λ next. state_other c.args.r.now c.args.m c.args.least c.byte_at.result c.byte_at.ensures.there (rw (c.eq.ensures) at c.if-least-eq.false) _ ∙ c.in_ok-expect-2.ensures.goes _ ∙ given _ _ _ _ _ _ _ _ _ c.in_err-cell.ensures refl refl c.saturating_sub.ensures refl _ })
 
 pub returns : goal.returns
 returns c =
-    let lowest : c.if-least-eq0.lowest ≡ c.args.least - 1 = elim c.if-least-eq0.branch [ then-least-eq0 w ↦ omega arith | else-least-eq0 w ↦ omega arith ] in
-    state_named c.args.t.now c.args.c c.args.m c.args.least _ c.byte_at-b.ensures c.expect-name.result c.number-cell.result _
-    c.if-least-b.false c.expect-name.ensures c.number-cell.ensures c.requires.1 lowest
+    record { bounded = omega (arith, c.in_ok-cell.ensures.bounded); goes = λ next. state_other c.args.r.now c.args.m c.args.least c.byte_at.result c.byte_at.ensures.there (rw (c.eq.ensures) at c.if-least-eq.false) _ ∙ c.in_ok-expect-2.ensures.goes _ ∙ given _ _ _ _ _ _ _ _ _ c.in_ok-cell.ensures refl refl c.saturating_sub.ensures refl _ }
