@@ -1,6 +1,6 @@
 -- What the parts of the reader promise: from one place to the next, whatever follows.
 -- Assumes nothing.
-use Rattle.std.specs.Prelude.{◌≡◌, Bool, cond, not, ◌&&◌, List, ℕ, ◌+◌, ◌*◌, ◌-◌, ◌≤◌, ◌<◌, eqb, ltb, length, take, Result, IfOk}
+use Rattle.std.specs.Prelude.{◌≡◌, Bool, cond, not, ◌&&◌, List, ℕ, ◌+◌, ◌*◌, ◌-◌, ◌≤◌, ◌<◌, eqb, ltb, length, take, Result, Ok, IfOk}
 use Rattle.games.specs.Format.{max_actions, max_observations, max_cells}
 use Rattle.games.specs.Automaton.{Automaton}
 use Rattle.games.specs.Fields.{low_field, action_field}

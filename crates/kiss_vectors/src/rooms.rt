@@ -53,11 +53,11 @@ fn shown_words(room: &[u32]) -> Words<'_> {
 
 // The words and the cells of a card that was read.
 #[derive(Clone, Copy)]
-struct Got(kiss_reader::Read);
+struct Got(kiss_reader::Extent);
 
 impl Display for Got {
     fn fmt<W: fmt::Write>(&self, f: &mut fmt::Formatter<W>) -> fmt::Result {
-        let kiss_reader::Read { words, cells } = self.0;
+        let kiss_reader::Extent { words, cells } = self.0;
         write!(f, "read {words} {cells}")
     }
 }

@@ -12,4 +12,4 @@ returns-in-Ok c =
 pub returns-in-Err : goal.returns-in-Err
 returns-in-Err c =
     let w = whole c.args.text.now c.args.out.now (small_text _ (λ i. omega (arith, c.type_inv.text i))) _ _ (read_departs _ _ _ c.in-Err.ensures.reads) in
-    record { determined = w.0; promised = w.1 }
+    rw (c.at.ensures) (record { determined = w.0; promised = w.1 })
