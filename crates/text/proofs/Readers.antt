@@ -1,6 +1,7 @@
 -- Laws of the readers as the code goes: one for each way on, and one for each way out.
 -- Assumes nothing.
 use mathlib.Core.Path.{◌≡◌}
+use Rattle.std.specs.Prelude.{Ok, IfOk}
 use mathlib.Core.Logic.{⊎_elim}
 use mathlib.Core.Bool.{true, false}
 use mathlib.Core.List.{List, [], ◌∷◌}
@@ -13,28 +14,26 @@ use lib.ListN.{length, get_or, drop, drop_of_length-le}
 use lib.Seq.{drop-cons}
 use Rattle.sets.proofs.Logic.{decided, lt_or_le, same_truth, or_left, or_right, or_false_left, or_false_right, or_false_intro}
 use Rattle.text.specs.Decimal.{digit_of, digit_at}
-use Rattle.text.specs.Read.{matched, skipped, number, no_number, misplaced, further_digits, number_of, read_decimal}
-use Rattle.text.specs.declared.Cursor.{Cursor}
-use Rattle.text.specs.declared.Cursor.TheVariants.{At, Wrong}
+use Rattle.text.specs.Read.{wrong, matched, number, no_number, misplaced, further_digits, number_of}
 use Rattle.text.proofs.Decimals.{digit_within}
 
 -- ---- a literal run of bytes: s from its byte i on, at place `next` of the text l
 
 module _ (s l : List ℕ) (i next : ℕ) where
   -- s is at its end
-  pub matched_end : length s ≤ i → matched (drop i s) next (drop next l) ≡ At next
+  pub matched_end : length s ≤ i → matched (drop i s) next (drop next l) ≡ Ok next
   unfolding matched
   matched_end h = rw (drop_of_length-le s h)
 
   module _ (h : i < length s) where
     -- the text is, before s
-    pub matched_short : length l ≤ next → matched (drop i s) next (drop next l) ≡ Wrong next
+    pub matched_short : length l ≤ next → matched (drop i s) next (drop next l) ≡ wrong next
     unfolding matched
     matched_short m = rw (drop-cons s i 0 h, drop_of_length-le l m)
 
     module _ (m : next < length l) where
       -- the bytes differ
-      pub matched_other : (get_or l next 0 ≡ get_or s i 0 → ⊥) → matched (drop i s) next (drop next l) ≡ Wrong next
+      pub matched_other : (get_or l next 0 ≡ get_or s i 0 → ⊥) → matched (drop i s) next (drop next l) ≡ wrong next
       unfolding matched
       matched_other d = rw (drop-cons s i 0 h, drop-cons l next 0 m, ne_eqb (get_or l next 0) (get_or s i 0) d)
 
@@ -42,16 +41,6 @@ module _ (s l : List ℕ) (i next : ℕ) where
       pub matched_more : get_or l next 0 ≡ get_or s i 0 → matched (drop i s) next (drop next l) ≡ matched (drop (i + 1) s) (next + 1) (drop (next + 1) l)
       unfolding matched
       matched_more e = rw (drop-cons s i 0 h, drop-cons l next 0 m, eq-eqb (get_or l next 0) (get_or s i 0) e, add-one i, add-one next)
-
--- from a cursor
-module _ (s l : List ℕ) {c : Cursor} {i : ℕ} where
-  pub skipped_at : c ≡ At i → skipped s l c ≡ matched s i (drop i l)
-  unfolding skipped
-  skipped_at e = rw e
-
-  pub skipped_wrong : c ≡ Wrong i → skipped s l c ≡ Wrong i
-  unfolding skipped
-  skipped_wrong e = rw e
 
 -- ---- a digit behind a number
 
@@ -85,6 +74,12 @@ module _ (most v d : ℕ) where
   well_placed e =
       let z : v ≡ 0 → ⊥ = eqb-false v 0 (or_false_left (eqb v 0) (ltb most (v * 10 + d)) e) in
       (omega arith, ltb-false most (v * 10 + d) (or_false_right (eqb v 0) (ltb most (v * 10 + d)) e))
+
+-- ---- a number at the end of the text
+
+pub further_end : (most v : ℕ) (l : List ℕ) (i : ℕ) → length l ≤ i → further_digits most v i (drop i l) ≡ number v i
+unfolding further_digits
+further_end most v l i h = rw (drop_of_length-le l h)
 
 -- ---- a number: d is the digit at place i of the text l
 
@@ -128,34 +123,23 @@ module _ (most v : ℕ) (l : List ℕ) (i d : ℕ) (e : d ≡ digit_at l i) wher
 
 -- ---- a number's bound
 
-further_bounded : (most v i : ℕ) (l : List ℕ) → v ≤ most → (further_digits most v i l).value ≤ most
+further_bounded : (most v i : ℕ) (l : List ℕ) → v ≤ most → IfOk (further_digits most v i l) (λ r. r.0 ≤ most)
 unfolding further_digits
 further_bounded most v i [] h = h
 further_bounded most v i (b ∷ l) h =
     ⊎_elim (λ (t : ltb 9 (digit_of b) ≡ true). rw t h)
-    (λ (t : ltb 9 (digit_of b) ≡ false). ⊎_elim (λ (m : misplaced most v (digit_of b) ≡ true). rw (t, m) (omega arith))
+    (λ (t : ltb 9 (digit_of b) ≡ false). ⊎_elim (λ (m : misplaced most v (digit_of b) ≡ true). rw (t, m) tt)
     (λ (m : misplaced most v (digit_of b) ≡ false). rw (t, m) (further_bounded most (v * 10 + digit_of b) (suc i) l (well_placed most v (digit_of b) m).1))
     (decided (misplaced most v (digit_of b))))
     (decided (ltb 9 (digit_of b)))
 
--- at most the bound, 0 where there is none
-pub number_bounded : (most i : ℕ) (l : List ℕ) → (number_of most i l).value ≤ most
+-- at most the bound, where there is one
+pub number_bounded : (most i : ℕ) (l : List ℕ) → IfOk (number_of most i l) (λ r. r.0 ≤ most)
 unfolding number_of
-number_bounded most i [] = omega arith
+number_bounded most i [] = tt
 number_bounded most i (b ∷ l) =
-    ⊎_elim (λ (t : ltb 9 (digit_of b) ≡ true). rw t (omega arith))
-    (λ (t : ltb 9 (digit_of b) ≡ false). ⊎_elim (λ (m : ltb most (digit_of b) ≡ true). rw (t, m) (omega arith))
+    ⊎_elim (λ (t : ltb 9 (digit_of b) ≡ true). rw t tt)
+    (λ (t : ltb 9 (digit_of b) ≡ false). ⊎_elim (λ (m : ltb most (digit_of b) ≡ true). rw (t, m) tt)
     (λ (m : ltb most (digit_of b) ≡ false). rw (t, m) (further_bounded most (digit_of b) (suc i) l (ltb-false most (digit_of b) m)))
     (decided (ltb most (digit_of b))))
     (decided (ltb 9 (digit_of b)))
-
--- ---- a number, from a cursor
-
-module _ (most : ℕ) (l : List ℕ) {c : Cursor} {i : ℕ} where
-  pub read_at : c ≡ At i → read_decimal most l c ≡ number_of most i (drop i l)
-  unfolding read_decimal
-  read_at e = rw e
-
-  pub read_wrong : c ≡ Wrong i → read_decimal most l c ≡ no_number i
-  unfolding read_decimal
-  read_wrong e = rw e

@@ -3,6 +3,7 @@
 use mathlib.Core.Path.{◌≡◌, refl, sym, ap, ap₂, ◌∙◌}
 use mathlib.Core.Logic.{⊎_elim}
 use mathlib.Core.Bool.{true, false}
+use Rattle.std.specs.Prelude.{Ok}
 use mathlib.Core.List.{List, [], ◌∷◌, ◌++◌, append_assoc}
 use Prim.Native.Nat.{ℕ, suc, ◌+◌, ◌-◌, ◌*◌, ◌/◌, ◌%◌, ◌≤◌, ◌<◌}
 use native.Mathlib.Nat.{add-zero, add-suc, suc-add}
@@ -15,31 +16,29 @@ use lib.Seq.{drop-drop, get_or-drop}
 use Rattle.sets.proofs.Logic.{decided}
 use Rattle.text.specs.Text.{Wrote, Stands}
 use Rattle.text.specs.Decimal.{digit, decimal, digit_of, digit_at}
-use Rattle.text.specs.Read.{matched, skipped, number, no_number, misplaced, further_digits, number_of, read_decimal}
-use Rattle.text.specs.declared.Cursor.{Cursor}
-use Rattle.text.specs.declared.Cursor.TheVariants.{At, Wrong}
-use Rattle.text.specs.declared.Read.{Read}
+use Rattle.text.specs.Read.{wrong, matched, skipped, number, no_number, misplaced, further_digits, number_of, read_decimal}
+use Rattle.text.specs.declared.Wrong.{Wrong}
 use Rattle.text.proofs.Writing.{stands_wrote, wrote_stands}
 use Rattle.text.proofs.Decimals.{by_digits, digit_of_lem, digit_byte, decimal_small, decimal_large, decimal_longer}
 use Rattle.text.proofs.Readers.{placed, well_placed, further_none}
 
--- a wrong place is no next place
-never : {P : Type 0} (i j : ℕ) → Wrong i ≡ At j → P
-never i j e = let z : ◌≡◌ {A = ℕ} 0 1 = cc in absurd (omega arith)
+-- a wrong place is no answer
+never : {A P : Type 0} (i : ℕ) (a : A) → wrong i ≡ Ok a → P
+never i a e = let z : ◌≡◌ {A = ℕ} 0 1 = cc in absurd (omega arith)
 
 -- ---- a literal run of bytes
 
-matched_self : (s : List ℕ) (i : ℕ) (rest : List ℕ) → matched s i (s ++ rest) ≡ At (i + length s)
+matched_self : (s : List ℕ) (i : ℕ) (rest : List ℕ) → matched s i (s ++ rest) ≡ Ok (i + length s)
 unfolding matched
 matched_self [] i rest = rw (add-zero i)
 matched_self (b ∷ s) i rest = rw (eq-eqb b b refl, add-suc i (length s), ← (suc-add i (length s))) (matched_self s (suc i) rest)
 
 -- what stands there is passed
-pub skip_stands : {s l : List ℕ} {i j : ℕ} → Stands s i l j → skipped s l (At i) ≡ At j
+pub skip_stands : {s l : List ℕ} {i j : ℕ} → Stands s i l j → skipped s l i ≡ Ok j
 unfolding skipped
-skip_stands {s} {l} {i} {j} h = rw h.text (matched_self s i (drop j l) ∙ ap At (sym h.next))
+skip_stands {s} {l} {i} {j} h = rw h.text (matched_self s i (drop j l) ∙ ap (λ (k : ℕ). Ok k) (sym h.next))
 
-matched_is : (s : List ℕ) (i j : ℕ) (l : List ℕ) → matched s i l ≡ At j → (j ≡ i + length s) × (l ≡ s ++ drop (length s) l)
+matched_is : (s : List ℕ) (i j : ℕ) (l : List ℕ) → matched s i l ≡ Ok j → (j ≡ i + length s) × (l ≡ s ++ drop (length s) l)
 unfolding matched
 matched_is [] i j l e = (omega (arith, (let q : i ≡ j = cc in q)), refl)
 matched_is (b ∷ s) i j [] e = never i j e
@@ -51,12 +50,11 @@ matched_is (b ∷ s) i j (c ∷ l) e =
     (decided (eqb c b))
 
 -- what was passed stands there
-pub skip_is : (s l : List ℕ) (c : Cursor) (j : ℕ) → skipped s l c ≡ At j → (i : ℕ) × (c ≡ At i) × Stands s i l j
+pub skip_is : (s l : List ℕ) (i j : ℕ) → skipped s l i ≡ Ok j → Stands s i l j
 unfolding skipped
-skip_is s l (At i) j e =
+skip_is s l i j e =
     let r = matched_is s i j (drop i l) e in
-    (i, refl, record { next = r.0; text = r.1 ∙ rw (drop-drop (length s) i l, r.0) })
-skip_is s l (Wrong i) j e = never i j e
+    record { next = r.0; text = r.1 ∙ rw (drop-drop (length s) i l, r.0) }
 
 -- ---- a number in decimal
 
@@ -88,7 +86,7 @@ reads : (n : ℕ) → ReadBack n
 reads = by_digits ReadBack reads_small reads_large
 
 -- what stands there is read, where no digit follows
-pub read_stands : (most n : ℕ) {l : List ℕ} {i j : ℕ} → Stands (decimal n) i l j → n ≤ most → 9 < digit_at l j → read_decimal most l (At i) ≡ number n j
+pub read_stands : (most n : ℕ) {l : List ℕ} {i j : ℕ} → Stands (decimal n) i l j → n ≤ most → 9 < digit_at l j → read_decimal most l i ≡ number n j
 unfolding read_decimal
 read_stands most n {l} {i} {j} h m d =
     rw h.text (reads n most i (drop j l) m ∙ rw (← h.next) (further_none most n l j (digit_at l j) refl d))
@@ -104,14 +102,14 @@ record Is (most n i j : ℕ) (front l : List ℕ) : Type 0 where
 module _ (most n j : ℕ) where
   stopped : (v i : ℕ) (l : List ℕ) → v ≤ most → 9 < digit_at l 0 → number v i ≡ number n j → Is most n i j (decimal v) l
   stopped v i l m s h =
-      let a : v ≡ n = ap (λ (r : Read). r.value) h in
-      let q : At i ≡ At j = ap (λ (r : Read). r.next) h in
-      let b : i ≡ j = cc in
+      let p : ◌≡◌ {A = ℕ × ℕ} (v, i) (n, j) = cc in
+      let a : v ≡ n = ap (λ (x : ℕ × ℕ). x.0) p in
+      let b : i ≡ j = ap (λ (x : ℕ × ℕ). x.1) p in
       let z : j - i ≡ 0 = omega arith in
       record { forward = omega arith; next = rw (a, b); bounded = omega arith; text = rw (z, a); stops = rw z s }
 
   nowhere : {P : Type 0} (i : ℕ) → no_number i ≡ number n j → P
-  nowhere i h = never i j (ap (λ (r : Read). r.next) h)
+  nowhere i h = never i (n, j) h
 
   -- one digit more in front
   further : (b v i : ℕ) (l : List ℕ) → digit_of b ≤ 9 → 0 < v → Is most n (suc i) j (decimal (v * 10 + digit_of b)) l → Is most n i j (decimal v) (b ∷ l)
@@ -166,57 +164,45 @@ module _ (most n j : ℕ) where
       (decided (ltb most (digit_of b))))
       (decided (ltb 9 (digit_of b)))
 
--- the number n, at most `most`, was read at the cursor c of the text l, up to place j
-pub record ReadAs (most : ℕ) (l : List ℕ) (c : Cursor) (n j : ℕ) : Type 0 where
-  pub at : ℕ
-  pub cursor : c ≡ At at
-  pub stands : Stands (decimal n) at l j
+-- the number n, at most `most`, was read at place i of the text l, up to place j
+pub record ReadAs (most : ℕ) (l : List ℕ) (i n j : ℕ) : Type 0 where
+  pub stands : Stands (decimal n) i l j
   pub bounded : n ≤ most
   pub stops : 9 < digit_at l j
 
 -- what was read stands there, and no digit follows
-pub read_is : (most : ℕ) (l : List ℕ) (c : Cursor) (n j : ℕ) → read_decimal most l c ≡ number n j → ReadAs most l c n j
+pub read_is : (most : ℕ) (l : List ℕ) (i n j : ℕ) → read_decimal most l i ≡ number n j → ReadAs most l i n j
 unfolding read_decimal digit_at
-read_is most l (At i) n j e =
+read_is most l i n j e =
     let s = number_is most n j (drop i l) i e in
     let f : i ≤ j = s.forward in
     let k : i + (j - i) ≡ j = omega arith in
     record {
-      at = i;
-      cursor = refl;
       stands = record { next = omega (arith, s.next); text = s.text ∙ rw (drop-drop (j - i) i l, k) };
       bounded = s.bounded;
       stops = rw (get_or-drop i l (j - i) 0, k) at s.stops;
     }
-read_is most l (Wrong i) n j e = nowhere most n j i e
-
--- the same, from the cursor that it left
-pub read_passed : (most : ℕ) (l : List ℕ) (c : Cursor) (j : ℕ) → (read_decimal most l c).next ≡ At j → ReadAs most l c (read_decimal most l c).value j
-read_passed most l c j e =
-    read_is most l c (read_decimal most l c).value j (ap (λ (x : Cursor). record { value = (read_decimal most l c).value; next = x }) e)
 
 -- no two numbers have the same decimal
 pub decimal_injective : (a b : ℕ) → decimal a ≡ decimal b → a ≡ b
 unfolding further_digits
 decimal_injective a b e =
-    let back : List ℕ → ℕ = λ s. (number_of (a + b) 0 (s ++ [])).value in
-    let p : back (decimal a) ≡ a = ap (λ (r : Read). r.value) (reads a (a + b) 0 [] (omega arith)) in
-    let q : back (decimal b) ≡ b = ap (λ (r : Read). r.value) (reads b (a + b) 0 [] (omega arith)) in
-    sym p ∙ ap back e ∙ q
+    let p : number_of (a + b) 0 (decimal a ++ []) ≡ number a (0 + length (decimal a)) = reads a (a + b) 0 [] (omega arith) in
+    let q : number_of (a + b) 0 (decimal b ++ []) ≡ number b (0 + length (decimal b)) = reads b (a + b) 0 [] (omega arith) in
+    let r : number a (0 + length (decimal a)) ≡ number b (0 + length (decimal b)) = sym p ∙ rw e q in
+    let s : ◌≡◌ {A = ℕ × ℕ} (a, 0 + length (decimal a)) (b, 0 + length (decimal b)) = cc in
+    ap (λ (x : ℕ × ℕ). x.0) s
 
 -- ---- on the contracts
 
 -- a run of bytes that was written is passed
-pub put_then_skip : {s d e : List ℕ} {at r : ℕ} → Wrote s at d r e → r ≤ length d → skipped s e (At at) ≡ At r
+pub put_then_skip : {s d e : List ℕ} {at r : ℕ} → Wrote s at d r e → r ≤ length d → skipped s e at ≡ Ok r
 put_then_skip w h = skip_stands (wrote_stands w h)
 
 -- a number that was written is read, where no digit follows
-pub put_then_read : (most n : ℕ) {d e : List ℕ} {at r : ℕ} → Wrote (decimal n) at d r e → r ≤ length d → n ≤ most → 9 < digit_at e r → read_decimal most e (At at) ≡ number n r
+pub put_then_read : (most n : ℕ) {d e : List ℕ} {at r : ℕ} → Wrote (decimal n) at d r e → r ≤ length d → n ≤ most → 9 < digit_at e r → read_decimal most e at ≡ number n r
 put_then_read most n w h m stop = read_stands most n (wrote_stands w h) m stop
 
 -- writing what was read changes nothing
-pub read_then_put : (most : ℕ) (l : List ℕ) (i n j : ℕ) → read_decimal most l (At i) ≡ number n j → Wrote (decimal n) i l j l
-read_then_put most l i n j e =
-    let r = read_is most l (At i) n j e in
-    let q : i ≡ r.at = cc in
-    rw q (stands_wrote r.stands)
+pub read_then_put : (most : ℕ) (l : List ℕ) (i n j : ℕ) → read_decimal most l i ≡ number n j → Wrote (decimal n) i l j l
+read_then_put most l i n j e = stands_wrote (read_is most l i n j e).stands

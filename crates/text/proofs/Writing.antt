@@ -10,6 +10,8 @@ use lib.ListN.{length, get_or, set, take, drop, length-append, length-drop, take
 use lib.Seq.{sets, sets-eq, length-sets, take-suc, take_all, length-take-le, drop-drop, drop-append_seam, drop_at, get_or-drop}
 use Rattle.sets.specs.Bounded.{gather}
 use Rattle.text.specs.Text.{Wrote, Stands}
+use Rattle.text.specs.Puts.{Puts}
+use Rattle.text.specs.declared.Writer.{Writer}
 use Rattle.text.specs.Decimal.{digit_of, digit_at}
 
 -- ---- writers
@@ -27,24 +29,6 @@ pub wrote_then : {x y d e f : List ℕ} {at r q : ℕ} → Wrote x at d r e → 
 wrote_then {x} {y} {d} {e} {f} {at} {r} {q} v w =
     record { next = omega (arith, length-append x y); stored = w.stored ∙ rw (v.next, v.stored) (sets_append x y d at) }
 
--- a loop over the bytes of s: one byte more
-pub wrote_more : (s : List ℕ) (i : ℕ) {d e f : List ℕ} {at r q : ℕ} → i < length s → Wrote (take i s) at d r e → Wrote (get_or s i 0 ∷ []) r e q f → Wrote (take (i + 1) s) at d q f
-wrote_more s i l v w = rw (add-one i, take-suc s i 0) (wrote_then v w)
-
--- and its end
-pub wrote_all : {s d e : List ℕ} {at r : ℕ} (i : ℕ) → length s ≤ i → Wrote (take i s) at d r e → Wrote s at d r e
-wrote_all {s} i l w = rw (take_all i s l) at w
-
--- a loop over numbered pieces: before the first
-pub wrote_gathered_none : (piece : ℕ → List ℕ) {d : List ℕ} {at : ℕ} → Wrote (gather 0 piece) at d at d
-unfolding gather
-wrote_gathered_none piece = wrote_none
-
--- and one piece more
-pub wrote_gathered_more : (piece : ℕ → List ℕ) (i : ℕ) {d e f : List ℕ} {at r q : ℕ} → Wrote (gather i piece) at d r e → Wrote (piece i) r e q f → Wrote (gather (i + 1) piece) at d q f
-unfolding gather
-wrote_gathered_more piece i v w = rw (add-one i) (wrote_then v w)
-
 -- the buffer keeps its length
 pub wrote_length : {s d e : List ℕ} {at r : ℕ} → Wrote s at d r e → length e ≡ length d
 wrote_length {s} {d} {e} {at} w = rw w.stored (length-sets d at s)
@@ -52,6 +36,33 @@ wrote_length {s} {d} {e} {at} w = rw w.stored (length-sets d at s)
 -- a whole text, in a buffer with room for it
 pub wrote_front : {s d e : List ℕ} {r : ℕ} → Wrote s 0 d r e → length s ≤ length d → e ≡ s ++ drop (length s) d
 wrote_front {s} {d} {e} {r} w l = w.stored ∙ rw (zero-add (length s)) at (sets-eq s d 0 (rw (zero-add (length s)) l))
+
+-- ---- the same of a writer
+
+-- nothing yet
+pub puts_none : {w : Writer} → Puts [] w w
+puts_none = record { buffer = refl; wrote = wrote_none }
+
+-- x, then y behind it
+pub puts_then : {x y : List ℕ} {w v u : Writer} → Puts x w v → Puts y v u → Puts (x ++ y) w u
+puts_then a b = record { buffer = b.buffer ∙ a.buffer; wrote = wrote_then a.wrote b.wrote }
+
+-- a loop over the bytes of s: one byte more, and its end
+pub puts_more : (s : List ℕ) (i : ℕ) {w v u : Writer} → i < length s → Puts (take i s) w v → Puts (get_or s i 0 ∷ []) v u → Puts (take (i + 1) s) w u
+puts_more s i l a b = rw (add-one i, take-suc s i 0) (puts_then a b)
+
+pub puts_all : {s : List ℕ} {w v : Writer} (i : ℕ) → length s ≤ i → Puts (take i s) w v → Puts s w v
+puts_all {s} i l a = rw (take_all i s l) at a
+
+-- a loop over numbered pieces: before the first
+pub puts_gathered_none : (piece : ℕ → List ℕ) {w : Writer} → Puts (gather 0 piece) w w
+unfolding gather
+puts_gathered_none piece = puts_none
+
+-- and one piece more
+pub puts_gathered_more : (piece : ℕ → List ℕ) (i : ℕ) {w v u : Writer} → Puts (gather i piece) w v → Puts (piece i) v u → Puts (gather (i + 1) piece) w u
+unfolding gather
+puts_gathered_more piece i a b = rw (add-one i) (puts_then a b)
 
 -- ---- what stands at a place
 

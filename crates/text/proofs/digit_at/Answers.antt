@@ -1,21 +1,22 @@
 -- `text::digit_at` meets its contract: one law for each answer.
 use mathlib.Core.Path.{sym}
+use native.Mathlib.Omega.{arith}
 use lib.ListN.{get_or}
 use Rattle.text.specs.Decimal.{digit_at}
 use Rattle.text.proofs.Decimals.{digit_low, digit_high, digit_is, digit_past}
 use Rattle.text.proofs.digit_at.Goals as goal
 
-pub returns-then-text-i : goal.returns-then-text-i
-returns-then-text-i c = sym (digit_past c.args.text.now _ c.if-text-i.true)
+pub returns-in_err-b-clause-none : goal.returns-in_err-b-clause-none
+returns-in_err-b-clause-none c = rw c.from_residual.ensures (omega (arith, digit_past c.args.text.now c.args.i c.in_err-b.ensures.lookup.3))
 
-pub returns-then-b-lt48 : goal.returns-then-b-lt48
+pub returns-in-48-to-57-clause-some : goal.returns-in-48-to-57-clause-some
 unfolding digit_at
-returns-then-b-lt48 c = sym (digit_low (get_or c.args.text.now c.args.i 0) c.if-b-lt48.true)
+returns-in-48-to-57-clause-some c = (rw (← (c.in_ok-b.ensures.lookup.3.1 0)) (sym (digit_is c.in_ok-b.field-0.now (omega arith) (omega arith))), omega arith)
 
-pub returns-then-b-gt57 : goal.returns-then-b-gt57
+pub returns-in_default-clause-none : goal.returns-in_default-clause-none
 unfolding digit_at
-returns-then-b-gt57 c = sym (digit_high (get_or c.args.text.now c.args.i 0) c.if-b-gt57.true)
+returns-in_default-clause-none c = rw (← (c.in_ok-b.ensures.lookup.3.1 0), digit_low c.in_ok-b.field-0.now (omega arith)) (omega arith)
 
-pub returns : goal.returns
+pub returns-in_default-2-clause-none : goal.returns-in_default-2-clause-none
 unfolding digit_at
-returns c = sym (digit_is (get_or c.args.text.now c.args.i 0) c.if-b-lt48.false c.if-b-gt57.false)
+returns-in_default-2-clause-none c = rw (← (c.in_ok-b.ensures.lookup.3.1 0), digit_high c.in_ok-b.field-0.now (omega arith)) (omega arith)
