@@ -1,13 +1,14 @@
 -- Laws of the printed texts: a cell's field by its case, the pieces that a loop writes, and how many bytes a card takes.
 -- Assumes nothing.
-use mathlib.Core.Path.{◌≡◌, sym, ap, subst, ◌∙◌}
-use mathlib.Core.List.{List, ◌++◌}
-use Prim.Native.Nat.{ℕ, suc, ◌+◌, ◌*◌, ◌≤◌, ◌<◌}
+use mathlib.Core.Path.{◌≡◌, refl, sym, ap, subst, ◌∙◌}
+use mathlib.Core.List.{List, [], ◌∷◌, ◌++◌}
+use Rattle.std.specs.Prelude.{Ok}
+use Prim.Native.Nat.{ℕ, zero, suc, ◌+◌, ◌*◌, ◌≤◌, ◌<◌}
 use native.Mathlib.Nat.{suc-mul, mul_assoc, mul-le-mul_right}
 use native.Mathlib.Numerals.{add-one}
 use native.Mathlib.Omega.{arith}
 use borrow.Author.Tests.{eq-eqb, ne_eqb}
-use lib.ListN.{length, take, drop}
+use lib.ListN.{length, get_or, take, drop}
 use lib.Seq.{take-append_seam}
 use Rattle.sets.specs.Bounded.{gather}
 use Rattle.games.specs.Automaton.{no_cell}
@@ -15,10 +16,13 @@ use Rattle.games.specs.Words.{part_length}
 use Rattle.cards.specs.Card.{card_cells, card_observations, checked}
 use Rattle.cards.proofs.Checked.{sound}
 use Rattle.text.specs.Text.{bytes, Wrote}
+use Rattle.text.specs.Puts.{Puts}
+use Rattle.text.specs.declared.Writer.{Writer}
 use Rattle.text.specs.Decimal.{decimal}
-use Rattle.text.proofs.Writing.{wrote_gathered_none, wrote_gathered_more, wrote_front}
+use Rattle.text.proofs.Writing.{puts_then, puts_gathered_none, puts_gathered_more, wrote_front}
 use Rattle.printout.specs.Lines.{cell_text, cell_field, line_bytes}
-use Rattle.std.specs.Prelude.{Ok}
+use Rattle.printout.specs.Fields.{field_of, with_fields}
+use Rattle.printout.specs.declared.Field.{Field}
 
 -- no cell, and a cell
 pub field_none : (c : ℕ) → c ≡ no_cell → cell_field c ≡ bytes " " ++ bytes "-"
@@ -29,42 +33,52 @@ pub field_cell : (c : ℕ) → (c ≡ no_cell → ⊥) → cell_field c ≡ byte
 unfolding cell_field cell_text
 field_cell c n = rw (cell_text, ne_eqb c no_cell n)
 
+-- ---- the fields of a line
+
+-- one field more
+with_more : (fs : List Field) (i : ℕ) (s : List ℕ) (d : Field) → i < length fs → with_fields s (take (i + 1) fs) ≡ with_fields s (take i fs) ++ field_of (get_or fs i d)
+with_more [] i s d l = absurd (omega arith)
+with_more (f ∷ fs) zero s d l = refl
+with_more (f ∷ fs) (suc i) s d l = rw (add-one (suc i)) (rw (add-one i) at (with_more fs i (s ++ field_of f) d (omega arith)))
+
+pub fields_more : (s : List ℕ) (fs : List Field) (i : ℕ) (d : Field) {w v u : Writer}
+    → i < length fs → Puts (with_fields s (take i fs)) w v → Puts (field_of (get_or fs i d)) v u → Puts (with_fields s (take (i + 1) fs)) w u
+fields_more s fs i d l a b = rw (with_more fs i s d l) (puts_then a b)
+
 -- ---- a loop over n pieces, of `width` bytes at most
 
 -- the pieces below j are written
-pub record Below (piece : ℕ → List ℕ) (width n j at : ℕ) (d : List ℕ) (r : ℕ) (e : List ℕ) : Type 0 where
-  pub within : j ≤ n
-  pub wrote : Wrote (gather j piece) at d r e
-  pub most : r ≤ at + j * width
+pub record Below (piece : ℕ → List ℕ) (width j : ℕ) (w v : Writer) : Type 0 where
+  pub puts : Puts (gather j piece) w v
+  pub most : v.at ≤ w.at + j * width
 
 -- one piece more is no longer than all of them
 inside : (j n width : ℕ) → j < n → j * width + width ≤ n * width
 inside j n width l = let h = mul-le-mul_right {m = suc j} {n = n} width l in omega (arith, suc-mul j width)
 
-module _ (piece : ℕ → List ℕ) (width n : ℕ) where
-  pub below_none : {d : List ℕ} {at : ℕ} → Below piece width n 0 at d at d
-  below_none = record { within = omega arith; wrote = wrote_gathered_none piece; most = omega arith }
+module _ (piece : ℕ → List ℕ) (width : ℕ) where
+  pub below_none : {w : Writer} → Below piece width 0 w w
+  below_none = record { puts = puts_gathered_none piece; most = omega arith }
 
-  module _ (j : ℕ) {d e : List ℕ} {at r : ℕ} (b : Below piece width n j at d r e) where
+  module _ (j : ℕ) {w v : Writer} (b : Below piece width j w v) where
     -- there is room for one more
-    pub below_fits : j < n → r + width ≤ at + n * width
-    below_fits l = omega (arith, b.most, inside j n width l)
+    pub below_fits : (n : ℕ) → j < n → v.at + width ≤ w.at + n * width
+    below_fits n l = omega (arith, b.most, inside j n width l)
 
     -- it is written
-    pub below_more : {s f : List ℕ} {q : ℕ} → s ≡ piece j → j < n → Wrote s r e q f × (q ≤ r + width) → Below piece width n (j + 1) at d q f
-    below_more {s} {f} {q} t l w =
-        let h : q ≤ r + width = w.1 in
+    pub below_more : {s : List ℕ} {u : Writer} → s ≡ piece j → Puts s v u × (u.at ≤ v.at + width) → Below piece width (j + 1) w u
+    below_more {s} {u} t l =
+        let h : u.at ≤ v.at + width = l.1 in
         record {
-          within = omega arith;
-          wrote = wrote_gathered_more piece j b.wrote (subst (λ (x : List ℕ). Wrote x r e q f) t w.0);
+          puts = puts_gathered_more piece j b.puts (subst (λ (x : List ℕ). Puts x v u) t l.0);
           most = rw (add-one j) (omega (arith, b.most, suc-mul j width));
         }
 
     -- all of them are; m is their number as the definition has it
-    pub below_all : (m : ℕ) → n ≡ m → n ≤ j → Wrote (gather m piece) at d r e × (r ≤ at + m * width)
-    below_all m g l =
-        let h : j ≡ m = omega (arith, b.within) in
-        (subst (λ (i : ℕ). Wrote (gather i piece) at d r e) h b.wrote, rw (← h) b.most)
+    pub below_all : (n m : ℕ) → n ≡ m → j ≤ n → n ≤ j → Puts (gather m piece) w v × (v.at ≤ w.at + m * width)
+    below_all n m g h l =
+        let e : j ≡ m = omega arith in
+        (subst (λ (i : ℕ). Puts (gather i piece) w v) e b.puts, rw (← e) b.most)
 
 -- ---- how many bytes a card takes
 

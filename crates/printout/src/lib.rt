@@ -5,11 +5,14 @@ ghost use Rattle.std.specs.Prelude.{◌≡◌, ◌++◌, ◌+◌, ◌*◌, ◌�
 ghost use Rattle.games.specs.Answers.{number_of};
 ghost use Rattle.games.specs.Words.{part_length};
 ghost use Rattle.cards.specs.Card.{card_cells, card_observations, checked};
-ghost use Rattle.text.specs.Text.{room, Wrote};
-ghost use Rattle.printout.specs.Lines.{newline, field, cell_field, yes_line, first_line, cell_line, next_line, no_line, refused_line};
+ghost use Rattle.text.specs.Text.{room};
+ghost use Rattle.text.specs.Puts.{Puts};
+ghost use Rattle.printout.specs.Lines.{newline, yes_line, first_line, cell_line, next_line, no_line, refused_line};
 ghost use Rattle.printout.specs.Lines.{front_text, own_text, part_text, card_text, unread_line, unwritten_line, field_bytes, line_bytes};
+ghost use Rattle.printout.specs.Fields.{field_of, with_fields};
 
 use games::{Action, Cell, Observation, Refusal};
+use text::Writer;
 
 // The most bytes of a field: a space and the digits of a 64-bit number.
 const FIELD_BYTES: usize = 1 + 20;
@@ -17,182 +20,172 @@ const FIELD_BYTES: usize = 1 + 20;
 // The most bytes of a line: the longest word, three fields, the end.
 pub const LINE_BYTES: usize = 7 + 3 * FIELD_BYTES + 1;
 
-// The bytes of a space, of the sign for no cell, and of a line's end.
-const SPACE: u8 = 32;
-
-const DASH: u8 = 45;
-
-const NEWLINE: u8 = 10;
-
-// A space, and the number.
-fn put_field(out: &mut [u8], at: usize, n: u64) -> usize
-    requires { at + field_bytes < room }
-    ensures { Wrote (field n) at out.old result out.new × (result ≤ at + field_bytes) }
-{
-    let next = text::put(out, at, SPACE);
-    text::put_decimal(out, next, n)
+// What a field of a line shows: a number; or a cell, or that there is none.
+#[derive(Clone, Copy)]
+enum Field {
+    Number(u64),
+    Entered(Cell),
 }
 
-// A space, and the cell's number, or the sign for no cell.
-fn put_cell_field(out: &mut [u8], at: usize, cell: Cell) -> usize
-    requires { at + field_bytes < room }
-    ensures { Wrote (cell_field cell.0) at out.old result out.new × (result ≤ at + field_bytes) }
+// A space, and what the field shows.
+fn put_field(out: &mut Writer, field: Field)
+    requires { out.old.at + field_bytes < room }
+    ensures { Puts (field_of field) out.old out.new × (out.new.at ≤ out.old.at + field_bytes) }
 {
-    let next = text::put(out, at, SPACE);
-    if cell.0 == games::NO_CELL {
-        text::put(out, next, DASH)
-    } else {
-        text::put_decimal(out, next, cell.0 as u64)
+    out.put(b' ');
+    match field {
+        Field::Number(n) => out.put_decimal(n),
+        Field::Entered(cell) => {
+            if cell.0 == games::NO_CELL {
+                out.put(b'-')
+            } else {
+                out.put_decimal(cell.0 as u64)
+            }
+        }
     }
 }
 
-// A line of a word and two numbers.
-fn put_numbers(out: &mut [u8], at: usize, word: &[u8], x: u64, y: u64) -> usize
-    requires { (length word.now ≤ 7) × (at + line_bytes < room) }
-    ensures { Wrote (word.now ++ field x ++ field y ++ newline) at out.old result out.new
-        × (result ≤ at + line_bytes) }
+// A line of a word and its fields.
+fn put_line(out: &mut Writer, word: &[u8], fields: &[Field])
+    requires { (length word.now ≤ 7) × (length fields.now ≤ 3) × (out.old.at + line_bytes < room) }
+    ensures { Puts (with_fields word.now fields.now ++ newline) out.old out.new
+        × (out.new.at ≤ out.old.at + line_bytes) }
 {
-    let next = text::put_bytes(out, at, word);
-    let next = put_field(out, next, x);
-    let next = put_field(out, next, y);
-    text::put(out, next, NEWLINE)
+    out.put_bytes(word);
+    for field in fields {
+        put_field(out, *field);
+    }
+    out.put(b'\n');
 }
 
 // The line of a yes: the settling count and the cells.
-pub fn put_yes(out: &mut [u8], at: usize, settled: u32, cells: u32) -> usize
-    requires { at + line_bytes < room }
-    ensures { Wrote (yes_line settled cells) at out.old result out.new × (result ≤ at + line_bytes) }
+pub fn put_yes(out: &mut Writer, settled: u32, cells: u32)
+    requires { out.old.at + line_bytes < room }
+    ensures { Puts (yes_line settled cells) out.old out.new × (out.new.at ≤ out.old.at + line_bytes) }
 {
-    put_numbers(out, at, b"yes", settled as u64, cells as u64)
+    put_line(
+        out,
+        b"yes",
+        &[Field::Number(settled as u64), Field::Number(cells as u64)],
+    )
 }
 
 // The line of a no: the round number.
-pub fn put_no(out: &mut [u8], at: usize, round: u32) -> usize
-    requires { at + line_bytes < room }
-    ensures { Wrote (no_line round) at out.old result out.new × (result ≤ at + line_bytes) }
+pub fn put_no(out: &mut Writer, round: u32)
+    requires { out.old.at + line_bytes < room }
+    ensures { Puts (no_line round) out.old out.new × (out.new.at ≤ out.old.at + line_bytes) }
 {
-    let next = text::put_bytes(out, at, b"no");
-    let next = put_field(out, next, round as u64);
-    text::put(out, next, NEWLINE)
+    put_line(out, b"no", &[Field::Number(round as u64)])
 }
 
 // The line of a refusal: its number and place.
-pub fn put_refused(out: &mut [u8], at: usize, refusal: Refusal) -> usize
-    requires { at + line_bytes < room }
-    ensures { Wrote (refused_line (number_of refusal.reason) refusal.place) at out.old result out.new × (result ≤ at + line_bytes) }
+pub fn put_refused(out: &mut Writer, refusal: Refusal)
+    requires { out.old.at + line_bytes < room }
+    ensures { Puts (refused_line (number_of refusal.reason) refusal.place) out.old out.new
+        × (out.new.at ≤ out.old.at + line_bytes) }
 {
     let number = refusal.reason.number();
-    put_numbers(out, at, b"refused", number as u64, refusal.place as u64)
+    put_line(out, b"refused", &[Field::Number(number as u64), Field::Number(refusal.place as u64)])
 }
 
 // The line of an observation's first cell.
-fn put_first(out: &mut [u8], at: usize, first: Observation, to: Cell) -> usize
-    requires { at + line_bytes < room }
-    ensures { Wrote (first_line first.0 to.0) at out.old result out.new × (result ≤ at + line_bytes) }
+fn put_first(out: &mut Writer, first: Observation, to: Cell)
+    requires { out.old.at + line_bytes < room }
+    ensures { Puts (first_line first.0 to.0) out.old out.new × (out.new.at ≤ out.old.at + line_bytes) }
 {
-    let next = text::put_bytes(out, at, b"first");
-    let next = put_field(out, next, first.0 as u64);
-    let next = put_cell_field(out, next, to);
-    text::put(out, next, NEWLINE)
+    put_line(
+        out,
+        b"first",
+        &[Field::Number(first.0 as u64), Field::Entered(to)],
+    )
 }
 
 // A cell's own line: its set and action.
-fn put_cell(out: &mut [u8], at: usize, cell: Cell, set: u32, picked: Action) -> usize
-    requires { at + line_bytes < room }
-    ensures { Wrote (cell_line cell.0 set picked.0) at out.old result out.new × (result ≤ at + line_bytes) }
+fn put_cell(out: &mut Writer, cell: Cell, set: u32, picked: Action)
+    requires { out.old.at + line_bytes < room }
+    ensures { Puts (cell_line cell.0 set picked.0) out.old out.new × (out.new.at ≤ out.old.at + line_bytes) }
 {
-    let next = text::put_bytes(out, at, b"cell");
-    let next = put_field(out, next, cell.0 as u64);
-    let next = put_field(out, next, set as u64);
-    let next = put_field(out, next, picked.0 as u64);
-    text::put(out, next, NEWLINE)
+    let fields = [
+        Field::Number(cell.0 as u64),
+        Field::Number(set as u64),
+        Field::Number(picked.0 as u64),
+    ];
+    put_line(out, b"cell", &fields)
 }
 
 // The line of the cell that an observation leads to.
-fn put_next(out: &mut [u8], at: usize, from: Cell, seen: Observation, to: Cell) -> usize
-    requires { at + line_bytes < room }
-    ensures { Wrote (next_line from.0 seen.0 to.0) at out.old result out.new × (result ≤ at + line_bytes) }
+fn put_next(out: &mut Writer, from: Cell, seen: Observation, to: Cell)
+    requires { out.old.at + line_bytes < room }
+    ensures { Puts (next_line from.0 seen.0 to.0) out.old out.new × (out.new.at ≤ out.old.at + line_bytes) }
 {
-    let next = text::put_bytes(out, at, b"next");
-    let next = put_field(out, next, from.0 as u64);
-    let next = put_field(out, next, seen.0 as u64);
-    let next = put_cell_field(out, next, to);
-    text::put(out, next, NEWLINE)
+    let fields = [
+        Field::Number(from.0 as u64),
+        Field::Number(seen.0 as u64),
+        Field::Entered(to),
+    ];
+    put_line(out, b"next", &fields)
 }
 
 // The first lines of a card.
-fn put_front(out: &mut [u8], at: usize, card: &[u32]) -> usize
-    requires { (checked card.now ≡ Ok tt) × (at + card_observations card.now * line_bytes < room) }
-    ensures { Wrote (front_text card.now) at out.old result out.new
-        × (result ≤ at + card_observations card.now * line_bytes) }
+fn put_front(out: &mut Writer, card: &[u32])
+    requires { (checked card.now ≡ Ok tt) × (out.old.at + card_observations card.now * line_bytes < room) }
+    ensures { Puts (front_text card.now) out.old out.new
+        × (out.new.at ≤ out.old.at + card_observations card.now * line_bytes) }
 {
-    let o = cards::observations(card);
-    let mut next = at;
-    let mut j: u32 = 0;
-    while j < o {
+    for j in 0..cards::observations(card) {
         let first = Observation(j);
-        next = put_first(out, next, first, cards::first_cell(card, first));
-        j += 1;
+        put_first(out, first, cards::first_cell(card, first));
     }
-    next
 }
 
 // A cell's own line.
-fn put_own(out: &mut [u8], at: usize, card: &[u32], cell: Cell) -> usize
-    requires { (checked card.now ≡ Ok tt) × (cell.0 < card_cells card.now) × (at + line_bytes < room) }
-    ensures { Wrote (own_text card.now cell.0) at out.old result out.new × (result ≤ at + line_bytes) }
+fn put_own(out: &mut Writer, card: &[u32], cell: Cell)
+    requires { (checked card.now ≡ Ok tt) × (cell.0 < card_cells card.now) × (out.old.at + line_bytes < room) }
+    ensures { Puts (own_text card.now cell.0) out.old out.new × (out.new.at ≤ out.old.at + line_bytes) }
 {
     let set = cards::cell_set(card, cell);
     let action = cards::cell_action(card, cell);
-    put_cell(out, at, cell, set, action)
+    put_cell(out, cell, set, action)
 }
 
 // A cell's part: its own line and its next lines.
-fn put_part(out: &mut [u8], at: usize, card: &[u32], cell: Cell) -> usize
+fn put_part(out: &mut Writer, card: &[u32], cell: Cell)
     requires { (checked card.now ≡ Ok tt) × (cell.0 < card_cells card.now)
-        × (at + part_length (card_observations card.now) * line_bytes < room) }
-    ensures { Wrote (part_text card.now cell.0) at out.old result out.new
-        × (result ≤ at + part_length (card_observations card.now) * line_bytes) }
+        × (out.old.at + part_length (card_observations card.now) * line_bytes < room) }
+    ensures { Puts (part_text card.now cell.0) out.old out.new
+        × (out.new.at ≤ out.old.at + part_length (card_observations card.now) * line_bytes) }
 {
-    let o = cards::observations(card);
-    let mut next = put_own(out, at, card, cell);
-    let mut j: u32 = 0;
-    while j < o {
+    put_own(out, card, cell);
+    for j in 0..cards::observations(card) {
         let seen = Observation(j);
-        next = put_next(out, next, cell, seen, cards::next_cell(card, cell, seen));
-        j += 1;
+        put_next(out, cell, seen, cards::next_cell(card, cell, seen));
     }
-    next
 }
 
 // The lines of a card: its first lines, then its cells' parts. No word of it takes more than a line, and the head none.
-pub fn put_card(out: &mut [u8], at: usize, card: &[u32]) -> usize
-    requires { (checked card.now ≡ Ok tt) × (at + length card.now * line_bytes < room) }
-    ensures { Wrote (card_text card.now) at out.old result out.new
-        × (result + line_bytes ≤ at + length card.now * line_bytes) }
+pub fn put_card(out: &mut Writer, card: &[u32])
+    requires { (checked card.now ≡ Ok tt) × (out.old.at + length card.now * line_bytes < room) }
+    ensures { Puts (card_text card.now) out.old out.new
+        × (out.new.at + line_bytes ≤ out.old.at + length card.now * line_bytes) }
 {
-    let m = cards::cells(card);
-    let mut next = put_front(out, at, card);
-    let mut c: u32 = 0;
-    while c < m {
-        next = put_part(out, next, card, Cell(c));
-        c += 1;
+    put_front(out, card);
+    for c in 0..cards::cells(card) {
+        put_part(out, card, Cell(c));
     }
-    next
 }
 
 // The line of an input that can't be read.
-pub fn put_unread(out: &mut [u8], at: usize) -> usize
-    requires { at + line_bytes < room }
-    ensures { Wrote unread_line at out.old result out.new × (result ≤ at + line_bytes) }
+pub fn put_unread(out: &mut Writer)
+    requires { out.old.at + line_bytes < room }
+    ensures { Puts unread_line out.old out.new × (out.new.at ≤ out.old.at + line_bytes) }
 {
-    text::put_bytes(out, at, b"the input can't be read\n")
+    out.put_bytes(b"the input can't be read\n")
 }
 
 // The line of an answer that can't be written out.
-pub fn put_unwritten(out: &mut [u8], at: usize) -> usize
-    requires { at + line_bytes < room }
-    ensures { Wrote unwritten_line at out.old result out.new × (result ≤ at + line_bytes) }
+pub fn put_unwritten(out: &mut Writer)
+    requires { out.old.at + line_bytes < room }
+    ensures { Puts unwritten_line out.old out.new × (out.new.at ≤ out.old.at + line_bytes) }
 {
-    text::put_bytes(out, at, b"the answer can't be written\n")
+    out.put_bytes(b"the answer can't be written\n")
 }

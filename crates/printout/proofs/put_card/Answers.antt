@@ -1,31 +1,28 @@
-use mathlib.Core.Path.{refl, ◌∙◌}
 use native.Mathlib.Omega.{arith}
-use Rattle.text.proofs.Writing.{wrote_then, wrote_length}
+use mathlib.Core.Path.{refl}
+use Rattle.text.proofs.Writing.{puts_then}
 use Rattle.printout.specs.Lines.{card_text}
 use Rattle.printout.proofs.Texts.{below_none, below_more, below_fits, below_all, card_bytes}
 use Rattle.printout.proofs.put_card.Goals as goal
 
-pub put_front-next-requires : goal.put_front-next-requires
-put_front-next-requires c = (c.requires.0, omega (arith, c.requires.1, card_bytes _ c.requires.0))
+pub put_front-requires : goal.put_front-requires
+put_front-requires c = (c.requires.0, omega (arith, c.requires.1, card_bytes _ c.requires.0))
 
 pub loop-c-init : goal.loop-c-init
-loop-c-init c = below_none _ _ _
+loop-c-init c = below_none _ _
 
-pub put_part-next-requires : goal.put_part-next-requires
-put_part-next-requires c = (
+pub put_part-requires : goal.put_part-requires
+put_part-requires c = (
   c.requires.0,
-  omega (arith, c.cells-m.ensures, c.loop-c-test.true),
-  omega (arith, c.requires.1, card_bytes _ c.requires.0, c.put_front-next.ensures.1, rw c.cells-m.ensures at (below_fits _ _ _ _ c.loop-c.invariant c.loop-c-test.true)),
+  omega (arith, c.cells-c-end.ensures, c.loop-c-test.true),
+  omega (arith, c.requires.1, card_bytes _ c.requires.0, c.put_front.ensures.1, rw c.cells-c-end.ensures at (below_fits _ _ _ c.loop-c.invariant _ c.loop-c-test.true)),
 )
 
 pub loop-c-preserved : goal.loop-c-preserved
-loop-c-preserved c = below_more _ _ _ _ c.loop-c.invariant refl c.loop-c-test.true c.put_part-next.ensures
-
-pub shape_of-out : goal.shape_of-out
-shape_of-out c = wrote_length c.loop-c.invariant.wrote ∙ wrote_length c.put_front-next.ensures.0
+loop-c-preserved c = below_more _ _ _ c.loop-c.invariant refl c.put_part.ensures
 
 pub returns : goal.returns
 unfolding card_text
 returns c =
-    let parts = below_all _ _ _ _ c.loop-c.invariant _ c.cells-m.ensures c.loop-c-test.false in
-    (wrote_then c.put_front-next.ensures.0 parts.0, omega (arith, parts.1, c.put_front-next.ensures.1, card_bytes _ c.requires.0))
+    let parts = below_all _ _ _ c.loop-c.invariant _ _ c.cells-c-end.ensures c.loop-c.auto.c-end c.loop-c-test.false in
+    (puts_then c.put_front.ensures.0 parts.0, omega (arith, parts.1, c.put_front.ensures.1, card_bytes _ c.requires.0))

@@ -1,5 +1,5 @@
 -- Invariant: behind the first lines, the parts of the cells below c are written.
-use Prim.Native.Nat.{◌*◌, ◌-◌}
+use Prim.Native.Nat.{◌*◌}
 use Rattle.games.specs.Words.{part_length}
 use Rattle.cards.specs.Card.{card_observations}
 use Rattle.printout.specs.Lines.{line_bytes, part_text}
@@ -7,7 +7,4 @@ use Rattle.printout.proofs.Texts.{Below}
 use Rattle.printout.proofs.put_card.Given as goal
 
 abbrev pub invariant-loop-c : goal.invariant-loop-c
-invariant-loop-c l = Below (part_text l.card) (part_length (card_observations l.card) * line_bytes) l.m l.c l.initial.next l.initial.out l.next l.out
-
-abbrev pub decreases-loop-c : goal.decreases-loop-c
-decreases-loop-c l = l.m - l.c
+invariant-loop-c l = Below (part_text l.card) (part_length (card_observations l.card) * line_bytes) l.c l.initial.out l.out

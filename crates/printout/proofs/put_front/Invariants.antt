@@ -1,11 +1,7 @@
 -- Invariant: the first lines of the observations below j are written.
-use Prim.Native.Nat.{◌-◌}
 use Rattle.printout.specs.Lines.{line_bytes, first_text}
 use Rattle.printout.proofs.Texts.{Below}
 use Rattle.printout.proofs.put_front.Given as goal
 
 abbrev pub invariant-loop-j : goal.invariant-loop-j
-invariant-loop-j l = Below (first_text l.card) line_bytes l.o l.j l.at l.initial.out l.next l.out
-
-abbrev pub decreases-loop-j : goal.decreases-loop-j
-decreases-loop-j l = l.o - l.j
+invariant-loop-j l = Below (first_text l.card) line_bytes l.j l.initial.out l.out

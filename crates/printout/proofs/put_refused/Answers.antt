@@ -1,7 +1,6 @@
--- `printout::put_refused` meets its contract: a word and two numbers.
 use Rattle.printout.specs.Lines.{refused_line}
 use Rattle.printout.proofs.put_refused.Goals as goal
 
 pub returns : goal.returns
 unfolding refused_line
-returns c = c.put_numbers.ensures
+returns c = c.put_line.ensures

@@ -1,7 +1,6 @@
--- `printout::put_yes` meets its contract: a word and two numbers.
 use Rattle.printout.specs.Lines.{yes_line}
 use Rattle.printout.proofs.put_yes.Goals as goal
 
 pub returns : goal.returns
 unfolding yes_line
-returns c = c.put_numbers.ensures
+returns c = c.put_line.ensures
