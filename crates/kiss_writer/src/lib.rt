@@ -1,12 +1,13 @@
 // Writing a card as KISS2 text (document 02, change 6): the room is counted, then the text is written from its first byte on.
 #![tactic(auto)]
 
-ghost use Rattle.std.specs.Prelude.{◌≡◌, [], ◌∷◌, suc, ◌+◌, ◌*◌, ◌≤◌, ◌<◌, length};
+ghost use Rattle.std.specs.Prelude.{◌≡◌, suc, ◌+◌, ◌-◌, ◌*◌, ◌^◌, ◌≤◌, ◌<◌, length, Ok};
 ghost use Rattle.sets.specs.Bounded.{gather};
 ghost use Rattle.games.specs.Answers.{leaves};
 ghost use Rattle.games.specs.Format.{max_actions, max_observations, max_cells};
 ghost use Rattle.cards.specs.Card.{automaton, card_cells, card_observations, checked};
-ghost use Rattle.text.specs.Text.{room, Wrote};
+ghost use Rattle.text.specs.Text.{room};
+ghost use Rattle.text.specs.Puts.{Puts};
 ghost use Rattle.form.specs.Form.{digits};
 ghost use Rattle.kiss.specs.Text.{cell_name, state_name, target, kiss_text};
 ghost use Rattle.kiss_writer.specs.Lines.{line_front, line_of, head_front, head_of, card_head_text, Narrow, Wide, LineLong, slot_of, lines_of};
@@ -14,6 +15,7 @@ ghost use Rattle.kiss_writer.specs.Lines.{cell_bytes, most_bytes, front_bytes, h
 ghost use Rattle.kiss_writer.specs.Write.{by_room, written_to, Writes};
 
 use games::{Action, Cell, Observation, Reason, Refusal};
+use text::Writer;
 
 // The bits of input and output.
 #[derive(Clone, Copy)]
@@ -22,15 +24,6 @@ struct Bits {
     output: u32,
 }
 
-// The bytes of a space, of a line's end, of the letter in front of a cell's number, and of the digit 0.
-const SPACE: u8 = 32;
-
-const NEWLINE: u8 = 10;
-
-const CELL: u8 = 99;
-
-const ZERO: u8 = 48;
-
 // The bytes of a line besides its bits (two names of cells, three spaces, the end); of the head; of the end.
 const LINE_BYTES: usize = 6 + 6 + 3 + 1;
 
@@ -38,275 +31,227 @@ const HEAD_BYTES: usize = 57;
 
 const END_BYTES: usize = 3;
 
-// A number of one digit, of two and of five.
-fn put_one(out: &mut [u8], at: usize, x: u32) -> usize
-    requires { (x < 10) × (at + 1 < room) }
-    ensures { Wrote (digits 10 1 x) at out.old result out.new × (result ≤ at + 1) }
+// A number of so many digits; the first may be as high as 9, whatever the base.
+fn put_digits<const BASE: u32, const WIDTH: u32>(out: &mut Writer, x: u32)
+    requires base { (2 ≤ BASE) × (BASE ≤ 10) }
+    requires width { (1 ≤ WIDTH) × (WIDTH ≤ 5) }
+    requires first { x < 10 * BASE ^ (WIDTH - 1) }
+    requires place { out.old.at + WIDTH < room }
+    ensures { Puts (digits BASE WIDTH x) out.old out.new × (out.new.at ≤ out.old.at + WIDTH) }
 {
-    text::put(out, at, ZERO + x as u8)
-}
-
-fn put_two(out: &mut [u8], at: usize, x: u32) -> usize
-    requires { (x < 100) × (at + 2 < room) }
-    ensures { Wrote (digits 10 2 x) at out.old result out.new × (result ≤ at + 2) }
-{
-    let next = text::put(out, at, ZERO + (x / 10) as u8);
-    text::put(out, next, ZERO + (x % 10) as u8)
-}
-
-fn put_five(out: &mut [u8], at: usize, x: u32) -> usize
-    requires { (x < 100000) × (at + 5 < room) }
-    ensures { Wrote (digits 10 5 x) at out.old result out.new × (result ≤ at + 5) }
-{
-    let thousands = x % 10000;
-    let hundreds = thousands % 1000;
-    let tens = hundreds % 100;
-    let next = text::put(out, at, ZERO + (x / 10000) as u8);
-    let next = text::put(out, next, ZERO + (thousands / 1000) as u8);
-    let next = text::put(out, next, ZERO + (hundreds / 100) as u8);
-    let next = text::put(out, next, ZERO + (tens / 10) as u8);
-    text::put(out, next, ZERO + (tens % 10) as u8)
-}
-
-// One bit.
-fn put_bit(out: &mut [u8], at: usize, bit: u32) -> usize
-    requires { (bit < 8) × (at + 1 < room) }
-    ensures { Wrote ((48 + bit) ∷ []) at out.old result out.new }
-{
-    text::put(out, at, ZERO + bit as u8)
+    let mut unit = BASE.pow(WIDTH - 1);
+    let mut rest = x;
+    for _ in 0..WIDTH {
+        out.put(b'0' + (rest / unit) as u8);
+        rest %= unit;
+        unit /= BASE;
+    }
 }
 
 // A number in at most three bits.
-fn put_bits(out: &mut [u8], at: usize, width: u32, x: u32) -> usize
-    requires { (1 ≤ width) × (width ≤ 3) × (x < 8) × (at + 3 < room) }
-    ensures { Wrote (digits 2 width x) at out.old result out.new × (result ≤ at + 3) }
+fn put_bits(out: &mut Writer, width: u32, x: u32)
+    requires { (1 ≤ width) × (width ≤ 3) × (x < 8) × (out.old.at + 3 < room) }
+    ensures { Puts (digits 2 width x) out.old out.new × (out.new.at ≤ out.old.at + 3) }
 {
-    if width == 1 {
-        return put_bit(out, at, x);
+    match width {
+        1 => put_digits::<2, 1>(out, x),
+        2 => put_digits::<2, 2>(out, x),
+        _ => put_digits::<2, 3>(out, x),
     }
-    if width == 2 {
-        let next = put_bit(out, at, x / 2);
-        return put_bit(out, next, x % 2);
-    }
-    let next = put_bit(out, at, x / 4);
-    let next = put_bit(out, next, x % 4 / 2);
-    put_bit(out, next, x % 4 % 2)
 }
 
 // The name of a cell; of a state, which is number 0 for the reset state and number 1 + c for cell c.
-fn put_cell(out: &mut [u8], at: usize, cell: Cell) -> usize
-    requires { (cell.0 < max_cells) × (at + cell_bytes < room) }
-    ensures { Wrote (cell_name cell.0) at out.old result out.new × (result ≤ at + cell_bytes) }
+fn put_cell(out: &mut Writer, cell: Cell)
+    requires { (cell.0 < max_cells) × (out.old.at + cell_bytes < room) }
+    ensures { Puts (cell_name cell.0) out.old out.new × (out.new.at ≤ out.old.at + cell_bytes) }
 {
-    let next = text::put(out, at, CELL);
-    put_five(out, next, cell.0)
+    out.put(b'c');
+    put_digits::<10, 5>(out, cell.0)
 }
 
-fn put_state(out: &mut [u8], at: usize, state: u32) -> usize
-    requires { (state ≤ max_cells) × (at + cell_bytes < room) }
-    ensures { Wrote (state_name state) at out.old result out.new × (result ≤ at + cell_bytes) }
+fn put_state(out: &mut Writer, state: u32)
+    requires { (state ≤ max_cells) × (out.old.at + cell_bytes < room) }
+    ensures { Puts (state_name state) out.old out.new × (out.new.at ≤ out.old.at + cell_bytes) }
 {
     if state == 0 {
-        return text::put_bytes(out, at, b"reset");
+        return out.put_bytes(b"reset");
     }
-    put_cell(out, at, Cell(state - 1))
+    put_cell(out, Cell(state - 1))
 }
 
 // A line up to the cell that is entered, and the whole line.
-fn put_line_front(out: &mut [u8], at: usize, width: u32, state: u32, seen: Observation) -> usize
-    requires { (1 ≤ width) × (width ≤ 3) × (state ≤ max_cells) × (seen.0 < max_observations) × (at + 3 + cell_bytes + 2 < room) }
-    ensures { Wrote (line_front width state seen.0) at out.old result out.new × (result ≤ at + 3 + cell_bytes + 2) }
+fn put_line_front(out: &mut Writer, width: u32, state: u32, seen: Observation)
+    requires { (1 ≤ width) × (width ≤ 3) × (state ≤ max_cells) × (seen.0 < max_observations) × (out.old.at + 3 + cell_bytes + 2 < room) }
+    ensures { Puts (line_front width state seen.0) out.old out.new
+        × (out.new.at ≤ out.old.at + 3 + cell_bytes + 2) }
 {
-    let next = put_bits(out, at, width, seen.0);
-    let next = text::put(out, next, SPACE);
-    let next = put_state(out, next, state);
-    text::put(out, next, SPACE)
+    put_bits(out, width, seen.0);
+    out.put(b' ');
+    put_state(out, state);
+    out.put(b' ')
 }
 
-fn put_line(
-    out: &mut [u8],
-    at: usize,
-    widths: Bits,
-    state: u32,
-    seen: Observation,
-    to: Cell,
-    picked: Action,
-) -> usize
+fn put_line(out: &mut Writer, widths: Bits, state: u32, seen: Observation, to: Cell, picked: Action)
     requires { Narrow widths × (state ≤ max_cells) × (seen.0 < max_observations) × (to.0 < max_cells) × (picked.0 < max_actions)
-        × (at + most_bytes < room) }
-    ensures { Wrote (line_of widths.input widths.output state seen.0 to.0 picked.0) at out.old result out.new
-        × (result ≤ at + most_bytes) }
+        × (out.old.at + most_bytes < room) }
+    ensures { Puts (line_of widths.input widths.output state seen.0 to.0 picked.0) out.old out.new
+        × (out.new.at ≤ out.old.at + most_bytes) }
 {
-    let next = put_line_front(out, at, widths.input, state, seen);
-    let next = put_cell(out, next, to);
-    let next = text::put(out, next, SPACE);
-    let next = put_bits(out, next, widths.output, picked.0);
-    text::put(out, next, NEWLINE)
-}
-
-// The cell that a state goes to on an observation; none where that cannot occur.
-fn entered(card: &[u32], state: u32, seen: Observation) -> Cell
-    requires { (checked card.now ≡ Ok tt) × (state ≤ card_cells card.now) × (seen.0 < card_observations card.now) }
-    ensures { result.0 ≡ target (automaton card.now) state seen.0 }
-{
-    if state == 0 {
-        return cards::first_cell(card, seen);
-    }
-    cards::next_cell(card, Cell(state - 1), seen)
-}
-
-// The line of a state for an observation; none where that cannot occur.
-fn put_slot(
-    out: &mut [u8],
-    at: usize,
-    card: &[u32],
-    widths: Bits,
-    state: u32,
-    seen: Observation,
-) -> usize
-    requires { (checked card.now ≡ Ok tt) × Wide card.now widths × (state ≤ card_cells card.now)
-        × (seen.0 < card_observations card.now) × (at + most_bytes < room) }
-    ensures { Wrote (slot_of card.now state seen.0) at out.old result out.new
-        × (result ≤ at + most_bytes) }
-{
-    let to = entered(card, state, seen);
-    if to.0 == games::NO_CELL {
-        return at;
-    }
-    let picked = cards::cell_action(card, to);
-    put_line(out, at, widths, state, seen, to, picked)
-}
-
-// The lines of a state.
-fn put_state_lines(out: &mut [u8], at: usize, card: &[u32], widths: Bits, state: u32) -> usize
-    requires { (checked card.now ≡ Ok tt) × Wide card.now widths × (state ≤ card_cells card.now)
-        × (at + card_observations card.now * most_bytes < room) }
-    ensures { Wrote (lines_of card.now state) at out.old result out.new
-        × (result ≤ at + card_observations card.now * most_bytes) }
-{
-    let o = cards::observations(card);
-    let mut next = at;
-    let mut j: u32 = 0;
-    while j < o {
-        next = put_slot(out, next, card, widths, state, Observation(j));
-        j += 1;
-    }
-    next
-}
-
-// The lines of the reset state and of all cells.
-fn put_lines(out: &mut [u8], at: usize, card: &[u32], widths: Bits) -> usize
-    requires { (checked card.now ≡ Ok tt) × Wide card.now widths × (at + lines_bytes < room) }
-    ensures { Wrote (gather (suc (card_cells card.now)) (lines_of card.now)) at out.old result out.new
-        × (result ≤ at + lines_bytes) }
-{
-    let states = cards::cells(card) + 1;
-    let mut next = at;
-    let mut state: u32 = 0;
-    while state < states {
-        next = put_state_lines(out, next, card, widths, state);
-        state += 1;
-    }
-    next
+    put_line_front(out, widths.input, state, seen);
+    put_cell(out, to);
+    out.put(b' ');
+    put_bits(out, widths.output, picked.0);
+    out.put(b'\n')
 }
 
 // The head up to the bits of input, and the whole head.
-fn put_head_front(out: &mut [u8], at: usize, a: u32, o: u32, input: u32) -> usize
-    requires { (a ≤ max_actions) × (o ≤ max_observations) × (input ≤ 3) × (at + head_bytes < room) }
-    ensures { Wrote (head_front a o input) at out.old result out.new × (result ≤ at + front_bytes) }
+fn put_head_front(out: &mut Writer, a: u32, o: u32, input: u32)
+    requires { (a ≤ max_actions) × (o ≤ max_observations) × (input ≤ 3) × (out.old.at + head_bytes < room) }
+    ensures { Puts (head_front a o input) out.old out.new × (out.new.at ≤ out.old.at + front_bytes) }
 {
-    let next = text::put_bytes(out, at, b"# actions ");
-    let next = put_two(out, next, a);
-    let next = text::put_bytes(out, next, b" observations ");
-    let next = put_two(out, next, o);
-    let next = text::put_bytes(out, next, b"\n.i ");
-    put_one(out, next, input)
+    out.put_bytes(b"# actions ");
+    put_digits::<10, 2>(out, a);
+    out.put_bytes(b" observations ");
+    put_digits::<10, 2>(out, o);
+    out.put_bytes(b"\n.i ");
+    put_digits::<10, 1>(out, input)
 }
 
-fn put_head(out: &mut [u8], at: usize, a: u32, o: u32, states: u32, widths: Bits) -> usize
-    requires { (a ≤ max_actions) × (o ≤ max_observations) × (states ≤ 1 + max_cells) × Narrow widths × (at + head_bytes < room) }
-    ensures { Wrote (head_of a o states widths.input widths.output) at out.old result out.new
-        × (result ≤ at + head_bytes) }
+fn put_head(out: &mut Writer, a: u32, o: u32, states: u32, widths: Bits)
+    requires { (a ≤ max_actions) × (o ≤ max_observations) × (states ≤ 1 + max_cells) × Narrow widths × (out.old.at + head_bytes < room) }
+    ensures { Puts (head_of a o states widths.input widths.output) out.old out.new
+        × (out.new.at ≤ out.old.at + head_bytes) }
 {
-    let next = put_head_front(out, at, a, o, widths.input);
-    let next = text::put_bytes(out, next, b"\n.o ");
-    let next = put_one(out, next, widths.output);
-    let next = text::put_bytes(out, next, b"\n.s ");
-    let next = put_five(out, next, states);
-    text::put_bytes(out, next, b"\n.r reset\n")
+    put_head_front(out, a, o, widths.input);
+    out.put_bytes(b"\n.o ");
+    put_digits::<10, 1>(out, widths.output);
+    out.put_bytes(b"\n.s ");
+    put_digits::<10, 5>(out, states);
+    out.put_bytes(b"\n.r reset\n")
 }
 
-// The bits of a card.
-fn widths(card: &[u32]) -> Bits
-    requires { checked card.now ≡ Ok tt }
-    ensures { Wide card.now result }
-{
-    Bits {
-        input: kiss::bits(cards::observations(card)),
-        output: kiss::bits(cards::actions(card)),
+// A checked card, with its bits.
+#[derive(Clone, Copy)]
+struct Sheet<'c> {
+    card: &'c [u32],
+    widths: Bits,
+    ghost checked: { checked card.now ≡ Ok tt },
+    ghost wide: { Wide card.now widths },
+}
+
+impl<'c> Sheet<'c> {
+    fn of(card: &'c [u32]) -> Sheet<'c>
+        requires { checked card.now ≡ Ok tt }
+        ensures { result.card.now ≡ card.now }
+    {
+        let widths = Bits {
+            input: kiss::bits(cards::observations(card)),
+            output: kiss::bits(cards::actions(card)),
+        };
+        Sheet { card, widths }
     }
-}
 
-// The head of a card's text.
-fn put_card_head(out: &mut [u8], card: &[u32], widths: Bits) -> usize
-    requires { (checked card.now ≡ Ok tt) × Wide card.now widths }
-    ensures { Wrote (card_head_text card.now) 0 out.old result out.new × (result ≤ head_bytes) }
-{
-    let a = cards::actions(card);
-    let o = cards::observations(card);
-    let states = cards::cells(card) + 1;
-    put_head(out, 0, a, o, states, widths)
-}
-
-// The text of a card from the first byte on: the head, the lines, the end.
-fn put_text(out: &mut [u8], card: &[u32], widths: Bits) -> usize
-    requires { (checked card.now ≡ Ok tt) × Wide card.now widths }
-    ensures { Wrote (kiss_text card.now) 0 out.old result out.new }
-{
-    let next = put_card_head(out, card, widths);
-    let next = put_lines(out, next, card, widths);
-    text::put_bytes(out, next, b".e\n")
-}
-
-// How many bytes the lines of a state have, where a line of it has so many: each word that names a cell is a line.
-fn state_length(card: &[u32], state: u32, line: usize) -> usize
-    requires { (checked card.now ≡ Ok tt) × (state ≤ card_cells card.now) × LineLong card.now state line }
-    ensures { (result ≡ length (lines_of card.now state)) × (result ≤ max_observations * most_bytes) }
-{
-    let o = cards::observations(card);
-    let mut bytes: usize = 0;
-    let mut j: u32 = 0;
-    while j < o {
-        if entered(card, state, Observation(j)).0 != games::NO_CELL {
-            bytes += line;
+    // The cell that a state goes to on an observation; none where that cannot occur.
+    fn entered(self, state: u32, seen: Observation) -> Cell
+        requires { (state ≤ card_cells self.card.now) × (seen.0 < card_observations self.card.now) }
+        ensures { result.0 ≡ target (automaton self.entry.card.now) state seen.0 }
+    {
+        if state == 0 {
+            return cards::first_cell(self.card, seen);
         }
-        j += 1;
+        cards::next_cell(self.card, Cell(state - 1), seen)
     }
-    bytes
-}
 
-// How many bytes the lines have. A line of the reset state is one byte shorter than the others, as its name is.
-fn lines_length(card: &[u32], widths: Bits) -> usize
-    requires { (checked card.now ≡ Ok tt) × Wide card.now widths }
-    ensures { (result ≡ length (gather (suc (card_cells card.now)) (lines_of card.now))) × (result ≤ lines_bytes) }
-{
-    let line = (widths.input + widths.output) as usize + LINE_BYTES;
-    let states = cards::cells(card) + 1;
-    let mut bytes = state_length(card, 0, line - 1);
-    let mut state: u32 = 1;
-    while state < states {
-        bytes += state_length(card, state, line);
-        state += 1;
+    // The line of a state for an observation; none where that cannot occur.
+    fn put_slot(self, out: &mut Writer, state: u32, seen: Observation)
+        requires { (state ≤ card_cells self.card.now) × (seen.0 < card_observations self.card.now) × (out.old.at + most_bytes < room) }
+        ensures { Puts (slot_of self.entry.card.now state seen.0) out.old out.new
+            × (out.new.at ≤ out.old.at + most_bytes) }
+    {
+        let to = self.entered(state, seen);
+        if to.0 == games::NO_CELL {
+            return;
+        }
+        let picked = cards::cell_action(self.card, to);
+        put_line(out, self.widths, state, seen, to, picked)
     }
-    bytes
-}
 
-// How many bytes the text of a card has.
-fn text_length(card: &[u32], widths: Bits) -> usize
-    requires { (checked card.now ≡ Ok tt) × Wide card.now widths }
-    ensures { result ≡ length (kiss_text card.now) }
-{
-    HEAD_BYTES + lines_length(card, widths) + END_BYTES
+    // The lines of a state.
+    fn put_state_lines(self, out: &mut Writer, state: u32)
+        requires { (state ≤ card_cells self.card.now) × (out.old.at + card_observations self.card.now * most_bytes < room) }
+        ensures { Puts (lines_of self.entry.card.now state) out.old out.new
+            × (out.new.at ≤ out.old.at + card_observations self.entry.card.now * most_bytes) }
+    {
+        for j in 0..cards::observations(self.card) {
+            self.put_slot(out, state, Observation(j));
+        }
+    }
+
+    // The lines of the reset state and of all cells.
+    fn put_lines(self, out: &mut Writer)
+        requires { out.old.at + lines_bytes < room }
+        ensures { Puts (gather (suc (card_cells self.entry.card.now)) (lines_of self.entry.card.now)) out.old out.new
+            × (out.new.at ≤ out.old.at + lines_bytes) }
+    {
+        for state in 0..cards::cells(self.card) + 1 {
+            self.put_state_lines(out, state);
+        }
+    }
+
+    // The head of the card's text.
+    fn put_card_head(self, out: &mut Writer)
+        requires { out.old.at + head_bytes < room }
+        ensures { Puts (card_head_text self.entry.card.now) out.old out.new
+            × (out.new.at ≤ out.old.at + head_bytes) }
+    {
+        let a = cards::actions(self.card);
+        let o = cards::observations(self.card);
+        let states = cards::cells(self.card) + 1;
+        put_head(out, a, o, states, self.widths)
+    }
+
+    // The card's text: the head, the lines, the end.
+    fn put_text(self, out: &mut Writer)
+        requires { out.old.at ≡ 0 }
+        ensures { Puts (kiss_text self.entry.card.now) out.old out.new }
+    {
+        self.put_card_head(out);
+        self.put_lines(out);
+        out.put_bytes(b".e\n")
+    }
+
+    // How many bytes the lines of a state have, where a line of it has so many: each word that names a cell is a line.
+    fn state_length(self, state: u32, line: usize) -> usize
+        requires { (state ≤ card_cells self.card.now) × LineLong self.card.now state line }
+        ensures { (result ≡ length (lines_of self.entry.card.now state)) × (result ≤ max_observations * most_bytes) }
+    {
+        let mut bytes: usize = 0;
+        for j in 0..cards::observations(self.card) {
+            if self.entered(state, Observation(j)).0 != games::NO_CELL {
+                bytes += line;
+            }
+        }
+        bytes
+    }
+
+    // How many bytes the lines have. A line of the reset state is one byte shorter than the others, as its name is.
+    fn lines_length(self) -> usize
+        ensures { (result ≡ length (gather (suc (card_cells self.entry.card.now)) (lines_of self.entry.card.now))) × (result ≤ lines_bytes) }
+    {
+        let line = (self.widths.input + self.widths.output) as usize + LINE_BYTES;
+        let mut bytes = self.state_length(0, line - 1);
+        for state in 1..cards::cells(self.card) + 1 {
+            bytes += self.state_length(state, line);
+        }
+        bytes
+    }
+
+    // How many bytes the card's text has.
+    fn text_length(self) -> usize
+        ensures { result ≡ length (kiss_text self.entry.card.now) }
+    {
+        HEAD_BYTES + self.lines_length() + END_BYTES
+    }
 }
 
 // For a card without idle cells: 9 or the text.
@@ -314,12 +259,12 @@ fn write_text(card: &[u32], out: &mut [u8]) -> Result<usize, Refusal>
     requires { checked card.now ≡ Ok tt }
     ensures { leaves result out.new ≡ by_room card.now out.old }
 {
-    let widths = widths(card);
-    let need = text_length(card, widths);
+    let sheet = Sheet::of(card);
+    let need = sheet.text_length();
     if out.len() < need {
         return Err(Reason::ShortRoom.at(need));
     }
-    put_text(out, card, widths);
+    sheet.put_text(&mut Writer::at(out, 0));
     Ok(need)
 }
 

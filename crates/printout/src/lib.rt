@@ -85,7 +85,14 @@ pub fn put_refused(out: &mut Writer, refusal: Refusal)
         × (out.new.at ≤ out.old.at + line_bytes) }
 {
     let number = refusal.reason.number();
-    put_line(out, b"refused", &[Field::Number(number as u64), Field::Number(refusal.place as u64)])
+    put_line(
+        out,
+        b"refused",
+        &[
+            Field::Number(number as u64),
+            Field::Number(refusal.place as u64),
+        ],
+    )
 }
 
 // The line of an observation's first cell.
