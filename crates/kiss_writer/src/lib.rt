@@ -34,7 +34,7 @@ const END_BYTES: usize = 3;
 // A number of so many digits; the first may be as high as 9, whatever the base.
 fn put_digits<const BASE: u32, const WIDTH: u32>(out: &mut Writer, x: u32)
     requires base { (2 ≤ BASE) × (BASE ≤ 10) }
-    requires width { (1 ≤ WIDTH) × (WIDTH ≤ 5) }
+    requires width { (1 ≤ WIDTH) × (BASE ^ (WIDTH - 1) < 2 ^ 32) }
     requires first { x < 10 * BASE ^ (WIDTH - 1) }
     requires place { out.old.at + WIDTH < room }
     ensures { Puts (digits BASE WIDTH x) out.old out.new × (out.new.at ≤ out.old.at + WIDTH) }
@@ -264,7 +264,8 @@ fn write_text(card: &[u32], out: &mut [u8]) -> Result<usize, Refusal>
     if out.len() < need {
         return Err(Reason::ShortRoom.at(need));
     }
-    sheet.put_text(&mut Writer::at(out, 0));
+    let mut text = Writer::at(out, 0);
+    sheet.put_text(&mut text);
     Ok(need)
 }
 

@@ -1,0 +1,55 @@
+use Prim.Native.Nat.{suc}
+use native.Mathlib.Omega.{arith}
+use Rattle.cards.specs.Card.{card_cells}
+use Rattle.kiss_writer.proofs.Rows.{counted_one, counted_more, counted_fits, counted_all}
+use Rattle.kiss_writer.proofs.Lines.{narrow, cells_few, cell_line_lem, reset_line}
+use borrow.Author.Rules.{rules}
+use Rattle.kiss_writer.proofs.Sheet.lines_length.Goals as goal
+
+pub overflow_add-line : goal.overflow_add-line
+overflow_add-line c =
+    let n = narrow _ c.args.self.checked _ c.args.self.wide in
+    omega (arith, n.inputs, n.outputs)
+
+pub overflow_cast-line : goal.overflow_cast-line
+overflow_cast-line c =
+    let n = narrow _ c.args.self.checked _ c.args.self.wide in
+    omega (arith, n.inputs, n.outputs)
+
+pub overflow_add-line-2 : goal.overflow_add-line-2
+overflow_add-line-2 c =
+    let n = narrow _ c.args.self.checked _ c.args.self.wide in
+    omega (arith, n.inputs, n.outputs)
+
+pub overflow_add-state-end : goal.overflow_add-state-end
+overflow_add-state-end c = omega (arith, c.cells-state-end.ensures, cells_few _ c.args.self.checked)
+
+pub state_length-bytes-requires : goal.state_length-bytes-requires
+state_length-bytes-requires c = (search rules, reset_line _ _ c.args.self.wide)
+
+pub loop-state-init : goal.loop-state-init
+loop-state-init c = counted_one _ _ _ c.state_length-bytes.ensures.0 c.state_length-bytes.ensures.1
+
+pub state_length-bytes-requires-in-loop-state : goal.state_length-bytes-requires-in-loop-state
+state_length-bytes-requires-in-loop-state c = (
+  omega (arith, c.cells-state-end.ensures, c.loop-state-test.true),
+  cell_line_lem _ _ c.args.self.wide _ c.loop-state.auto.state,
+)
+
+pub overflow_add-bytes : goal.overflow_add-bytes
+overflow_add-bytes c =
+    omega (
+      arith,
+      c.state_length-bytes-in-loop-state.ensures.1,
+      c.cells-state-end.ensures,
+      cells_few _ c.args.self.checked,
+      counted_fits _ _ _ _ c.loop-state.invariant _ c.loop-state-test.true,
+    )
+
+pub loop-state-preserved : goal.loop-state-preserved
+loop-state-preserved c = counted_more _ _ _ _ c.loop-state.invariant _ c.state_length-bytes-in-loop-state.ensures.0 c.state_length-bytes-in-loop-state.ensures.1
+
+pub returns : goal.returns
+returns c =
+    let all = counted_all _ _ _ _ c.loop-state.invariant _ (suc (card_cells c.args.self.card.now)) (omega (arith, c.cells-state-end.ensures)) (omega (arith, c.loop-state.auto.state-end)) c.loop-state-test.false in
+    (all.0, omega (arith, all.1, cells_few c.args.self.card.now c.args.self.checked))

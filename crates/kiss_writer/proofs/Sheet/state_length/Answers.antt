@@ -1,0 +1,38 @@
+use mathlib.Core.Path.{sym, ◌∙◌}
+use native.Mathlib.Omega.{arith}
+use Rattle.cards.proofs.Checked.{fitting}
+use Rattle.kiss.specs.Text.{state_text}
+use Rattle.kiss_writer.proofs.Rows.{counted_none, counted_more, counted_skip, counted_fits, counted_all}
+use Rattle.kiss_writer.proofs.Lines.{slot_none, slot_long, line_short}
+use Rattle.kiss_writer.proofs.Sheet.state_length.Goals as goal
+use Rattle.kiss_writer.proofs.Sheet.state_length.Goals.{then-entered-ne-NO_CELL, else-entered-ne-NO_CELL}
+
+pub loop-j-init : goal.loop-j-init
+loop-j-init c = counted_none _ _
+
+pub overflow_add-bytes : goal.overflow_add-bytes
+overflow_add-bytes c =
+    omega (
+      arith,
+      c.observations-j-end.ensures,
+      (fitting c.args.self.card.now c.args.self.checked).observations,
+      line_short c.args.self.card.now c.args.self.checked c.args.state _ c.requires.1,
+      counted_fits _ _ _ _ c.loop-j.invariant _ c.loop-j-test.true,
+    )
+
+pub loop-j-preserved : goal.loop-j-preserved
+loop-j-preserved c =
+    elim c.if-entered-ne-NO_CELL.branch [
+      | then-entered-ne-NO_CELL w ↦
+          rw w.bytes-is
+          (counted_more _ _ _ _ c.loop-j.invariant _ (c.requires.1 ∙ sym (slot_long c.args.self.card.now _ _ _ c.entered.ensures w.if-entered-ne-NO_CELL.true))
+          (line_short c.args.self.card.now c.args.self.checked c.args.state _ c.requires.1))
+      | else-entered-ne-NO_CELL w ↦
+          rw w.bytes-is (counted_skip _ _ _ _ c.loop-j.invariant (slot_none c.args.self.card.now _ _ _ c.entered.ensures w.if-entered-ne-NO_CELL.false))
+    ]
+
+pub returns : goal.returns
+unfolding state_text
+returns c =
+    let all = counted_all _ _ _ _ c.loop-j.invariant _ _ c.observations-j-end.ensures c.loop-j.auto.j-end c.loop-j-test.false in
+    (all.0, omega (arith, all.1, (fitting c.args.self.card.now c.args.self.checked).observations))
