@@ -1,11 +1,12 @@
 // Writing a card as KISS2 text (document 02, change 6): the room is counted, then the text is written from its first byte on.
 #![tactic(auto)]
 
-ghost use Rattle.std.specs.Prelude.{◌≡◌, suc, ◌+◌, ◌-◌, ◌*◌, ◌^◌, ◌≤◌, ◌<◌, length, Ok};
+ghost use Rattle.std.specs.Prelude.{◌≡◌, suc, ◌+◌, ◌-◌, ◌*◌, ◌^◌, ◌≤◌, ◌<◌, length};
 ghost use Rattle.sets.specs.Bounded.{gather};
 ghost use Rattle.games.specs.Answers.{leaves};
 ghost use Rattle.games.specs.Format.{max_actions, max_observations, max_cells};
-ghost use Rattle.cards.specs.Card.{automaton, card_cells, card_observations, checked};
+ghost use Rattle.cards.specs.Card.{automaton, card_cells, card_observations};
+ghost use Rattle.cards.specs.Run.{led};
 ghost use Rattle.text.specs.Text.{room};
 ghost use Rattle.text.specs.Puts.{Puts};
 ghost use Rattle.form.specs.Form.{digits};
@@ -14,6 +15,7 @@ ghost use Rattle.kiss_writer.specs.Lines.{line_front, line_of, head_front, head_
 ghost use Rattle.kiss_writer.specs.Lines.{cell_bytes, most_bytes, front_bytes, head_bytes, lines_bytes};
 ghost use Rattle.kiss_writer.specs.Write.{by_room, written_to, Writes};
 
+use cards::Card;
 use games::{Action, Cell, Observation, Reason, Refusal};
 use text::Writer;
 
@@ -130,59 +132,56 @@ fn put_head(out: &mut Writer, a: u32, o: u32, states: u32, widths: Bits)
     out.put_bytes(b"\n.r reset\n")
 }
 
-// A checked card, with its bits.
+// A card, with its bits.
 #[derive(Clone, Copy)]
 struct Sheet<'c> {
-    card: &'c [u32],
+    card: Card<'c>,
     widths: Bits,
-    ghost checked: { checked card.now ≡ Ok tt },
-    ghost wide: { Wide card.now widths },
+    ghost wide: { Wide card.words.now widths },
 }
 
 impl<'c> Sheet<'c> {
-    fn of(card: &'c [u32]) -> Sheet<'c>
-        requires { checked card.now ≡ Ok tt }
-        ensures { result.card.now ≡ card.now }
+    fn of(card: Card<'c>) -> Sheet<'c>
+        ensures { result.card ≡ card.entry }
     {
         let widths = Bits {
-            input: kiss::bits(cards::observations(card)),
-            output: kiss::bits(cards::actions(card)),
+            input: kiss::bits(card.observations()),
+            output: kiss::bits(card.actions()),
         };
         Sheet { card, widths }
     }
 
-    // The cell that a state goes to on an observation; none where that cannot occur.
-    fn entered(self, state: u32, seen: Observation) -> Cell
-        requires { (state ≤ card_cells self.card.now) × (seen.0 < card_observations self.card.now) }
-        ensures { result.0 ≡ target (automaton self.entry.card.now) state seen.0 }
+    // The cell that a state goes to on an observation, where that can occur.
+    fn entered(self, state: u32, seen: Observation) -> Option<Cell>
+        requires { (state ≤ card_cells self.card.words.now) × (seen.0 < card_observations self.card.words.now) }
+        ensures { result ≡ led (target (automaton self.entry.card.words.now) state seen.0) }
     {
         if state == 0 {
-            return cards::first_cell(self.card, seen);
+            return self.card.first_cell(seen);
         }
-        cards::next_cell(self.card, Cell(state - 1), seen)
+        self.card.next_cell(Cell(state - 1), seen)
     }
 
     // The line of a state for an observation; none where that cannot occur.
     fn put_slot(self, out: &mut Writer, state: u32, seen: Observation)
-        requires { (state ≤ card_cells self.card.now) × (seen.0 < card_observations self.card.now) × (out.old.at + most_bytes < room) }
-        ensures { Puts (slot_of self.entry.card.now state seen.0) out.old out.new
+        requires { (state ≤ card_cells self.card.words.now) × (seen.0 < card_observations self.card.words.now)
+            × (out.old.at + most_bytes < room) }
+        ensures { Puts (slot_of self.entry.card.words.now state seen.0) out.old out.new
             × (out.new.at ≤ out.old.at + most_bytes) }
     {
-        let to = self.entered(state, seen);
-        if to.0 == games::NO_CELL {
-            return;
+        if let Some(to) = self.entered(state, seen) {
+            let picked = self.card.cell_action(to);
+            put_line(out, self.widths, state, seen, to, picked)
         }
-        let picked = cards::cell_action(self.card, to);
-        put_line(out, self.widths, state, seen, to, picked)
     }
 
     // The lines of a state.
     fn put_state_lines(self, out: &mut Writer, state: u32)
-        requires { (state ≤ card_cells self.card.now) × (out.old.at + card_observations self.card.now * most_bytes < room) }
-        ensures { Puts (lines_of self.entry.card.now state) out.old out.new
-            × (out.new.at ≤ out.old.at + card_observations self.entry.card.now * most_bytes) }
+        requires { (state ≤ card_cells self.card.words.now) × (out.old.at + card_observations self.card.words.now * most_bytes < room) }
+        ensures { Puts (lines_of self.entry.card.words.now state) out.old out.new
+            × (out.new.at ≤ out.old.at + card_observations self.entry.card.words.now * most_bytes) }
     {
-        for j in 0..cards::observations(self.card) {
+        for j in 0..self.card.observations() {
             self.put_slot(out, state, Observation(j));
         }
     }
@@ -190,10 +189,10 @@ impl<'c> Sheet<'c> {
     // The lines of the reset state and of all cells.
     fn put_lines(self, out: &mut Writer)
         requires { out.old.at + lines_bytes < room }
-        ensures { Puts (gather (suc (card_cells self.entry.card.now)) (lines_of self.entry.card.now)) out.old out.new
+        ensures { Puts (gather (suc (card_cells self.entry.card.words.now)) (lines_of self.entry.card.words.now)) out.old out.new
             × (out.new.at ≤ out.old.at + lines_bytes) }
     {
-        for state in 0..cards::cells(self.card) + 1 {
+        for state in 0..self.card.cells() + 1 {
             self.put_state_lines(out, state);
         }
     }
@@ -201,19 +200,19 @@ impl<'c> Sheet<'c> {
     // The head of the card's text.
     fn put_card_head(self, out: &mut Writer)
         requires { out.old.at + head_bytes < room }
-        ensures { Puts (card_head_text self.entry.card.now) out.old out.new
+        ensures { Puts (card_head_text self.entry.card.words.now) out.old out.new
             × (out.new.at ≤ out.old.at + head_bytes) }
     {
-        let a = cards::actions(self.card);
-        let o = cards::observations(self.card);
-        let states = cards::cells(self.card) + 1;
+        let a = self.card.actions();
+        let o = self.card.observations();
+        let states = self.card.cells() + 1;
         put_head(out, a, o, states, self.widths)
     }
 
     // The card's text: the head, the lines, the end.
     fn put_text(self, out: &mut Writer)
         requires { out.old.at ≡ 0 }
-        ensures { Puts (kiss_text self.entry.card.now) out.old out.new }
+        ensures { Puts (kiss_text self.entry.card.words.now) out.old out.new }
     {
         self.put_card_head(out);
         self.put_lines(out);
@@ -222,12 +221,12 @@ impl<'c> Sheet<'c> {
 
     // How many bytes the lines of a state have, where a line of it has so many: each word that names a cell is a line.
     fn state_length(self, state: u32, line: usize) -> usize
-        requires { (state ≤ card_cells self.card.now) × LineLong self.card.now state line }
-        ensures { (result ≡ length (lines_of self.entry.card.now state)) × (result ≤ max_observations * most_bytes) }
+        requires { (state ≤ card_cells self.card.words.now) × LineLong self.card.words.now state line }
+        ensures { (result ≡ length (lines_of self.entry.card.words.now state)) × (result ≤ max_observations * most_bytes) }
     {
         let mut bytes: usize = 0;
-        for j in 0..cards::observations(self.card) {
-            if self.entered(state, Observation(j)).0 != games::NO_CELL {
+        for j in 0..self.card.observations() {
+            if self.entered(state, Observation(j)).is_some() {
                 bytes += line;
             }
         }
@@ -236,11 +235,11 @@ impl<'c> Sheet<'c> {
 
     // How many bytes the lines have. A line of the reset state is one byte shorter than the others, as its name is.
     fn lines_length(self) -> usize
-        ensures { (result ≡ length (gather (suc (card_cells self.entry.card.now)) (lines_of self.entry.card.now))) × (result ≤ lines_bytes) }
+        ensures { (result ≡ length (gather (suc (card_cells self.entry.card.words.now)) (lines_of self.entry.card.words.now))) × (result ≤ lines_bytes) }
     {
         let line = (self.widths.input + self.widths.output) as usize + LINE_BYTES;
         let mut bytes = self.state_length(0, line - 1);
-        for state in 1..cards::cells(self.card) + 1 {
+        for state in 1..self.card.cells() + 1 {
             bytes += self.state_length(state, line);
         }
         bytes
@@ -248,16 +247,15 @@ impl<'c> Sheet<'c> {
 
     // How many bytes the card's text has.
     fn text_length(self) -> usize
-        ensures { result ≡ length (kiss_text self.entry.card.now) }
+        ensures { result ≡ length (kiss_text self.entry.card.words.now) }
     {
         HEAD_BYTES + self.lines_length() + END_BYTES
     }
 }
 
 // For a card without idle cells: 9 or the text.
-fn write_text(card: &[u32], out: &mut [u8]) -> Result<usize, Refusal>
-    requires { checked card.now ≡ Ok tt }
-    ensures { leaves result out.new ≡ by_room card.now out.old }
+fn write_text(card: Card, out: &mut [u8]) -> Result<usize, Refusal>
+    ensures { leaves result out.new ≡ by_room card.entry.words.now out.old }
 {
     let sheet = Sheet::of(card);
     let need = sheet.text_length();
@@ -274,9 +272,9 @@ pub fn write(card: &[u32], out: &mut [u8]) -> Result<usize, Refusal>
     ensures determined { leaves result out.new ≡ written_to card.now out.old }
     ensures promised { Writes card.now result out.new }
 {
-    cards::check(card)?;
-    let idle = kiss::lowest_idle(card);
-    if idle < cards::cells(card) {
+    let card = Card::of(card)?;
+    let idle = kiss::lowest_idle(card.words);
+    if idle < card.cells() {
         return Err(Reason::IdleCell.at(idle as usize));
     }
     write_text(card, out)

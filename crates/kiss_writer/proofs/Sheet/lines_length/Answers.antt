@@ -8,21 +8,21 @@ use Rattle.kiss_writer.proofs.Sheet.lines_length.Goals as goal
 
 pub overflow_add-line : goal.overflow_add-line
 overflow_add-line c =
-    let n = narrow _ c.args.self.checked _ c.args.self.wide in
+    let n = narrow _ c.args.self.card.checked _ c.args.self.wide in
     omega (arith, n.inputs, n.outputs)
 
 pub overflow_cast-line : goal.overflow_cast-line
 overflow_cast-line c =
-    let n = narrow _ c.args.self.checked _ c.args.self.wide in
+    let n = narrow _ c.args.self.card.checked _ c.args.self.wide in
     omega (arith, n.inputs, n.outputs)
 
 pub overflow_add-line-2 : goal.overflow_add-line-2
 overflow_add-line-2 c =
-    let n = narrow _ c.args.self.checked _ c.args.self.wide in
+    let n = narrow _ c.args.self.card.checked _ c.args.self.wide in
     omega (arith, n.inputs, n.outputs)
 
 pub overflow_add-state-end : goal.overflow_add-state-end
-overflow_add-state-end c = omega (arith, c.cells-state-end.ensures, cells_few _ c.args.self.checked)
+overflow_add-state-end c = omega (arith, c.cells-state-end.ensures, cells_few _ c.args.self.card.checked)
 
 pub state_length-bytes-requires : goal.state_length-bytes-requires
 state_length-bytes-requires c = (search rules, reset_line _ _ c.args.self.wide)
@@ -42,7 +42,7 @@ overflow_add-bytes c =
       arith,
       c.state_length-bytes-in-loop-state.ensures.1,
       c.cells-state-end.ensures,
-      cells_few _ c.args.self.checked,
+      cells_few _ c.args.self.card.checked,
       counted_fits _ _ _ _ c.loop-state.invariant _ c.loop-state-test.true,
     )
 
@@ -51,5 +51,5 @@ loop-state-preserved c = counted_more _ _ _ _ c.loop-state.invariant _ c.state_l
 
 pub returns : goal.returns
 returns c =
-    let all = counted_all _ _ _ _ c.loop-state.invariant _ (suc (card_cells c.args.self.card.now)) (omega (arith, c.cells-state-end.ensures)) (omega (arith, c.loop-state.auto.state-end)) c.loop-state-test.false in
-    (all.0, omega (arith, all.1, cells_few c.args.self.card.now c.args.self.checked))
+    let all = counted_all _ _ _ _ c.loop-state.invariant _ (suc (card_cells c.args.self.card.words.now)) (omega (arith, c.cells-state-end.ensures)) (omega (arith, c.loop-state.auto.state-end)) c.loop-state-test.false in
+    (all.0, omega (arith, all.1, cells_few c.args.self.card.words.now c.args.self.card.checked))

@@ -6,4 +6,4 @@ use Rattle.kiss_writer.proofs.Rows.{Counted}
 use Rattle.kiss_writer.proofs.Sheet.lines_length.Given as goal
 
 abbrev pub invariant-loop-state : goal.invariant-loop-state
-invariant-loop-state l = Counted (lines_of l.self.card.now) (max_observations * most_bytes) l.state l.bytes
+invariant-loop-state l = Counted (lines_of l.self.card.words.now) (max_observations * most_bytes) l.state l.bytes

@@ -8,17 +8,17 @@ use Rattle.kiss_writer.proofs.Sheet.put_card_head.Goals as goal
 
 pub put_head-requires : goal.put_head-requires
 put_head-requires c =
-    let f = fitting c.args.self.card.now c.args.self.checked in (
+    let f = fitting c.args.self.card.words.now c.args.self.card.checked in (
       omega (arith, c.actions-a.ensures, f.actions),
       omega (arith, c.observations-o.ensures, f.observations),
-      omega (arith, c.cells-states.ensures, cells_few c.args.self.card.now c.args.self.checked),
-      narrow c.args.self.card.now c.args.self.checked _ c.args.self.wide,
+      omega (arith, c.cells-states.ensures, cells_few c.args.self.card.words.now c.args.self.card.checked),
+      narrow c.args.self.card.words.now c.args.self.card.checked _ c.args.self.wide,
       c.requires,
     )
 
 pub returns : goal.returns
 returns c = (
-  rw (← (head_is c.args.self.card.now _ _ (c.cells-states.result + 1) _ c.actions-a.ensures c.observations-o.ensures (omega (arith, c.cells-states.ensures)) c.args.self.wide))
+  rw (← (head_is c.args.self.card.words.now _ _ (c.cells-states.result + 1) _ c.actions-a.ensures c.observations-o.ensures (omega (arith, c.cells-states.ensures)) c.args.self.wide))
       c.put_head.ensures.0,
   c.put_head.ensures.1,
 )

@@ -7,7 +7,7 @@ use Rattle.kiss_writer.proofs.Lines.{cells_few}
 use Rattle.kiss_writer.proofs.Sheet.put_lines.Goals as goal
 
 pub overflow_add-state-end : goal.overflow_add-state-end
-overflow_add-state-end c = omega (arith, c.cells-state-end.ensures, cells_few c.args.self.card.now c.args.self.checked)
+overflow_add-state-end c = omega (arith, c.cells-state-end.ensures, cells_few c.args.self.card.words.now c.args.self.card.checked)
 
 pub loop-state-init : goal.loop-state-init
 loop-state-init c = below_none _ _
@@ -19,18 +19,18 @@ put_state_lines-requires c = (
     arith,
     c.cells-state-end.ensures,
     c.requires,
-    cells_few c.args.self.card.now c.args.self.checked,
-    (fitting c.args.self.card.now c.args.self.checked).observations,
+    cells_few c.args.self.card.words.now c.args.self.card.checked,
+    (fitting c.args.self.card.words.now c.args.self.card.checked).observations,
     below_fits _ _ _ c.loop-state.invariant _ c.loop-state-test.true,
   ),
 )
 
 pub loop-state-preserved : goal.loop-state-preserved
 loop-state-preserved c =
-    let few = (fitting c.args.self.card.now c.args.self.checked).observations in
+    let few = (fitting c.args.self.card.words.now c.args.self.card.checked).observations in
     below_more _ _ _ c.loop-state.invariant (c.put_state_lines.ensures.0, omega (arith, c.put_state_lines.ensures.1))
 
 pub returns : goal.returns
 returns c =
-    let all = below_all _ _ _ c.loop-state.invariant _ (suc (card_cells c.args.self.card.now)) (omega (arith, c.cells-state-end.ensures)) (omega (arith, c.loop-state.auto.state-end)) c.loop-state-test.false in
-    (all.0, omega (arith, all.1, cells_few c.args.self.card.now c.args.self.checked))
+    let all = below_all _ _ _ c.loop-state.invariant _ (suc (card_cells c.args.self.card.words.now)) (omega (arith, c.cells-state-end.ensures)) (omega (arith, c.loop-state.auto.state-end)) c.loop-state-test.false in
+    (all.0, omega (arith, all.1, cells_few c.args.self.card.words.now c.args.self.card.checked))

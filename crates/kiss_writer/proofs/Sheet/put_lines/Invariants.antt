@@ -6,4 +6,4 @@ use Rattle.kiss_writer.proofs.Rows.{Below}
 use Rattle.kiss_writer.proofs.Sheet.put_lines.Given as goal
 
 abbrev pub invariant-loop-state : goal.invariant-loop-state
-invariant-loop-state l = Below (lines_of l.self.card.now) (max_observations * most_bytes) l.state l.initial.out l.out
+invariant-loop-state l = Below (lines_of l.self.card.words.now) (max_observations * most_bytes) l.state l.initial.out l.out

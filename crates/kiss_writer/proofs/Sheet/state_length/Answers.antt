@@ -15,8 +15,8 @@ overflow_add-bytes c =
     omega (
       arith,
       c.observations-j-end.ensures,
-      (fitting c.args.self.card.now c.args.self.checked).observations,
-      line_short c.args.self.card.now c.args.self.checked c.args.state _ c.requires.1,
+      (fitting c.args.self.card.words.now c.args.self.card.checked).observations,
+      line_short c.args.self.card.words.now c.args.self.card.checked c.args.state _ c.requires.1,
       counted_fits _ _ _ _ c.loop-j.invariant _ c.loop-j-test.true,
     )
 
@@ -25,14 +25,14 @@ loop-j-preserved c =
     elim c.if-entered-ne-NO_CELL.branch [
       | then-entered-ne-NO_CELL w ↦
           rw w.bytes-is
-          (counted_more _ _ _ _ c.loop-j.invariant _ (c.requires.1 ∙ sym (slot_long c.args.self.card.now _ _ _ c.entered.ensures w.if-entered-ne-NO_CELL.true))
-          (line_short c.args.self.card.now c.args.self.checked c.args.state _ c.requires.1))
+          (counted_more _ _ _ _ c.loop-j.invariant _ (c.requires.1 ∙ sym (slot_long c.args.self.card.words.now _ _ _ c.entered.ensures w.if-entered-ne-NO_CELL.true))
+          (line_short c.args.self.card.words.now c.args.self.card.checked c.args.state _ c.requires.1))
       | else-entered-ne-NO_CELL w ↦
-          rw w.bytes-is (counted_skip _ _ _ _ c.loop-j.invariant (slot_none c.args.self.card.now _ _ _ c.entered.ensures w.if-entered-ne-NO_CELL.false))
+          rw w.bytes-is (counted_skip _ _ _ _ c.loop-j.invariant (slot_none c.args.self.card.words.now _ _ _ c.entered.ensures w.if-entered-ne-NO_CELL.false))
     ]
 
 pub returns : goal.returns
 unfolding state_text
 returns c =
     let all = counted_all _ _ _ _ c.loop-j.invariant _ _ c.observations-j-end.ensures c.loop-j.auto.j-end c.loop-j-test.false in
-    (all.0, omega (arith, all.1, (fitting c.args.self.card.now c.args.self.checked).observations))
+    (all.0, omega (arith, all.1, (fitting c.args.self.card.words.now c.args.self.card.checked).observations))

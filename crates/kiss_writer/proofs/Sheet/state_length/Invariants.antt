@@ -4,4 +4,4 @@ use Rattle.kiss_writer.proofs.Rows.{Counted}
 use Rattle.kiss_writer.proofs.Sheet.state_length.Given as goal
 
 abbrev pub invariant-loop-j : goal.invariant-loop-j
-invariant-loop-j l = Counted (slot_of l.self.card.now l.state) most_bytes l.j l.bytes
+invariant-loop-j l = Counted (slot_of l.self.card.words.now l.state) most_bytes l.j l.bytes

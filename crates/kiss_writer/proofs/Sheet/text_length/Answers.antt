@@ -3,4 +3,4 @@ use Rattle.kiss_writer.proofs.Lines.{text_long}
 use Rattle.kiss_writer.proofs.Sheet.text_length.Goals as goal
 
 pub returns : goal.returns
-returns c = text_long c.args.self.card.now _ c.lines_length.ensures.0
+returns c = text_long c.args.self.card.words.now _ c.lines_length.ensures.0
