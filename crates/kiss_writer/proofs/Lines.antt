@@ -18,7 +18,12 @@ use Rattle.kiss.proofs.Machines.{slot_none as no_line, slot_line as some-line}
 use Rattle.kiss_writer.specs.Lines.{line_front, line_of, head_front, head_of, card_head_text, Narrow, Wide, slot_of, lines_of, name_bytes, line_bytes, most_bytes, head_bytes, LineLong}
 use Rattle.kiss_writer.specs.declared.Bits.{Bits}
 use Rattle.kiss_writer.proofs.Digits.{digits_long}
-use Rattle.std.specs.Prelude.{Ok}
+use Rattle.std.specs.Prelude.{Ok, Option, Some, None, is_some}
+use Rattle.sets.proofs.Logic.{clash}
+use Rattle.games.specs.declared.Cell.{Cell}
+use Rattle.cards.specs.Run.{led}
+use Rattle.cards.proofs.Running.{led_some, led_none}
+use mathlib.Core.Bool.{true, false}
 
 -- ---- how long a line is
 
@@ -85,6 +90,27 @@ module _ (w : List ℕ) where
 
     pub slot_long : length (slot_of w q j) ≡ line_bytes (bits (card_observations w)) (bits (card_actions w)) q
     slot_long = ap length (slot_line ((automaton w).action n) refl) ∙ line_long (card_actions w) (card_observations w) q j n ((automaton w).action n)
+
+-- ---- the cell entered, as the code has it: x is the cell that state q goes to on observation j
+
+module _ (w : List ℕ) (q j : ℕ) (x : Option Cell) (e : x ≡ led (target (automaton w) q j)) where
+  pub cell_entered : (d : Cell) → x ≡ Some d → (d.0 ≡ target (automaton w) q j) × (d.0 ≡ no_cell → ⊥)
+  cell_entered d f =
+      let s = led_some (target (automaton w) q j) d (sym e ∙ f) in
+      let t : d.0 ≡ target (automaton w) q j = ap (λ (c : Cell). c.0) s.1 in
+      (t, λ g. s.0 (sym t ∙ g))
+
+  pub some_entered : is_some x ≡ true → target (automaton w) q j ≡ no_cell → ⊥
+  some_entered f g =
+      let h : is_some x ≡ false = ap is_some e ∙ ap (λ (c : ℕ). is_some (led c)) g in
+      clash f h
+
+  pub none_entered : is_some x ≡ false → target (automaton w) q j ≡ no_cell
+  none_entered f = led_none (target (automaton w) q j) (sym e ∙ is_none_of x f)
+    where
+      is_none_of : (y : Option Cell) → is_some y ≡ false → y ≡ None
+      is_none_of None h = refl
+      is_none_of (Some c) h = cc
 
 -- ---- of a checked card
 

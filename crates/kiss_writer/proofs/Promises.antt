@@ -12,7 +12,7 @@ use Rattle.sets.specs.Bounded.{Found, nothing, found, first, at_found}
 use Rattle.games.specs.Words.{card_length}
 use Rattle.games.specs.Answers.{unless, Leaves, leaves}
 use Rattle.games.specs.Answers.{Checked}
-use Rattle.games.specs.Answers.{refused}
+use Rattle.games.specs.Answers.{refused, number_of}
 use Rattle.cards.specs.Card.{head_place, card_cells, card_observations, head_fits, word_fits, words_checked, checked}
 use Rattle.kiss.specs.Text.{kiss_text}
 use Rattle.kiss.specs.Idle.{idle, LowestIdle}
@@ -21,42 +21,53 @@ use Rattle.kiss.proofs.Promised.{reads_back}
 use Rattle.kiss_writer.specs.Write.{by_room, written_to, Writes}
 use Rattle.kiss_writer.specs.Write.{Answer}
 use Rattle.games.specs.declared.Reason.{Reason}
+use Rattle.games.specs.declared.Refusal.{Refusal}
 use Rattle.games.specs.declared.Reason.TheVariants as reason
-use Rattle.std.specs.Prelude.{Ok, Err}
+use Rattle.std.specs.Prelude.{Result, Ok, Err}
 
 -- ---- the card's check refuses by 13 alone
 
-number_is : (a b c : Bool) (l : ℕ) (f : Found) (n p : ℕ)
-    → cond a (refused reason.NoCard 0) (cond b (refused reason.NoCard 0) (cond c (refused reason.NoCard l) (at_found f (refused reason.NoCard) (Ok tt)))) ≡ Stopped n p → n ≡ 13
-number_is true b c l f n p e = cc
-number_is false true c l f n p e = cc
-number_is false false true l f n p e = cc
-number_is false false false l (found i) n p e = cc
-number_is false false false l nothing n p e = cc
+err_is : {A : Type 0} (e f : Refusal) → ◌≡◌ {A = Result A Refusal} (Err e) (Err f) → e ≡ f
+err_is e f h = cc
 
-thirteen : (w : List ℕ) (n : Reason) (p : ℕ) → checked w ≡ Stopped n p → n ≡ 13
+no_card : {A : Type 0} (p : ℕ) (e : Refusal) → ◌≡◌ {A = Result A Refusal} (refused reason.NoCard p) (Err e) → e.reason ≡ reason.NoCard
+no_card p e h = sym (ap (λ (r : Refusal). r.reason) (err_is (record { reason = reason.NoCard; place = p }) e h))
+
+reason_is : (a b c : Bool) (l : ℕ) (f : Found) (e : Refusal)
+    → ◌≡◌ {A = Checked} (cond a (refused reason.NoCard 0) (cond b (refused reason.NoCard 0) (cond c (refused reason.NoCard l) (at_found f (refused reason.NoCard) (Ok tt))))) (Err e)
+    → e.reason ≡ reason.NoCard
+reason_is true b c l f e h = no_card 0 e h
+reason_is false true c l f e h = no_card 0 e h
+reason_is false false true l f e h = no_card l e h
+reason_is false false false l (found i) e h = no_card i e h
+reason_is false false false l nothing e h = cc
+
+thirteen : (w : List ℕ) (e : Refusal) → checked w ≡ Err e → e.reason ≡ reason.NoCard
 unfolding checked words_checked
-thirteen w n p e =
-    number_is (eqb (length w) 0) (not (head_fits (get_or w head_place 0))) (not (eqb (length w) (card_length (card_cells w) (card_observations w)))) (length w)
-    (first (length w) (λ q. not (word_fits w q))) n p e
+thirteen w e h =
+    reason_is (eqb (length w) 0) (not (head_fits (get_or w head_place 0))) (not (eqb (length w) (card_length (card_cells w) (card_observations w)))) (length w)
+    (first (length w) (λ q. not (word_fits w q))) e h
 
 -- ---- what the answer says
 
-other : {X : Type 0} (n : Reason) (p m : ℕ) → refused n p ≡ Written m → X
-other n p m e = let z : ◌≡◌ {A = ℕ} 0 1 = cc in absurd (omega arith)
+other : {X : Type 0} (e : Refusal) (m : ℕ) → ◌≡◌ {A = Answer} (Err e) (Ok m) → X
+other e m h = let z : ◌≡◌ {A = ℕ} 0 1 = cc in absurd (omega arith)
 
-same_refusal : (n : Reason) (p m q : ℕ) → refused n p ≡ refused m q → (n ≡ m) × (p ≡ q)
-same_refusal n p m q e = (cc, cc)
-
-same_count : (n m : ℕ) → Written n ≡ Written m → n ≡ m
+same_count : (n m : ℕ) → ◌≡◌ {A = Answer} (Ok n) (Ok m) → n ≡ m
 same_count n m e = cc
 
-refused_writes : (w : List ℕ) (r : Answer) (left : List ℕ) (n : Reason) (p : ℕ) → r ≡ refused n p → (n ≡ 20 → LowestIdle w p) → Writes w r left
-refused_writes w r left n p e f =
+-- a reason is no other one where its number isn't
+apart : {X : Type 0} (r s : Reason) → r ≡ s → (number_of r ≡ number_of s → ⊥) → X
+apart r s e n = absurd (n (ap number_of e))
+
+refused_writes : (w : List ℕ) (r : Answer) (left : List ℕ) (e : Refusal) → r ≡ Err e → (e.reason ≡ reason.IdleCell → LowestIdle w e.place) → Writes w r left
+refused_writes w r left e h f =
     record {
-      stands = λ m g. other n p m (sym e ∙ g);
-      back = λ m g. other n p m (sym e ∙ g);
-      lowest = λ c g. let s = same_refusal n p 20 c (sym e ∙ g) in subst (LowestIdle w) s.1 (f s.0);
+      stands = λ m g. other e m (sym h ∙ g);
+      back = λ m g. other e m (sym h ∙ g);
+      lowest = λ c g.
+          let s : e ≡ record { reason = reason.IdleCell; place = c } = err_is e (record { reason = reason.IdleCell; place = c }) (sym h ∙ g) in
+          subst (LowestIdle w) (ap (λ (x : Refusal). x.place) s) (f (ap (λ (x : Refusal). x.reason) s));
     }
 
 module _ (w d : List ℕ) (r : Answer) (left : List ℕ) where
@@ -64,23 +75,28 @@ module _ (w d : List ℕ) (r : Answer) (left : List ℕ) where
   need = length (kiss_text w)
 
   by_room_lem : checked w ≡ Ok tt → idle w ≡ nothing → (b : Bool)
-      → leaves r left ≡ cond b (leaves (refused reason.ShortRoom need) d) (leaves (Written need) (kiss_text w ++ drop need d)) → Writes w r left
-  by_room_lem e i true h = refused_writes w r left 9 need (ap (λ (y : Leaves Answer (List ℕ)). y.answer) h) (λ z. absurd (omega arith))
+      → leaves r left ≡ cond b (leaves (refused reason.ShortRoom need) d) (leaves (Ok need) (kiss_text w ++ drop need d)) → Writes w r left
+  by_room_lem e i true h =
+      refused_writes w r left (record { reason = reason.ShortRoom; place = need }) (ap (λ (y : Leaves Answer (List ℕ)). y.answer) h)
+      (λ z. apart reason.ShortRoom reason.IdleCell z (λ q. omega arith))
   by_room_lem e i false h =
-      let s : r ≡ Written need = ap (λ (x : Leaves Answer (List ℕ)). x.answer) h in
+      let s : r ≡ Ok need = ap (λ (x : Leaves Answer (List ℕ)). x.answer) h in
       let l : left ≡ kiss_text w ++ drop need d = ap (λ (x : Leaves Answer (List ℕ)). x.left) h in
       record {
         stands = λ m g. let n = same_count need m (sym s ∙ g) in ap (take m) l ∙ take_at (kiss_text w) (drop need d) m n;
         back = λ m g. reads_back w e i;
-        lowest = λ c g. other 20 c need (sym g ∙ s);
+        lowest = λ c g. other (record { reason = reason.IdleCell; place = c }) need (sym g ∙ s);
       }
 
   by_check : (k : Checked) (f : Found) → checked w ≡ k → idle w ≡ f
       → leaves r left ≡ unless k (λ e. leaves (Err e) d) (at_found f (λ c. leaves (refused reason.IdleCell c) d) (by_room w d)) → Writes w r left
   unfolding by_room
-  by_check (Err stop) f e i h = refused_writes w r left stop.reason stop.place (ap (λ (y : Leaves Answer (List ℕ)). y.answer) h) (λ z. absurd (omega (arith, thirteen w stop.reason stop.place e)))
-  by_check (Ok tt) (found c) e i h = refused_writes w r left 20 c (ap (λ (y : Leaves Answer (List ℕ)). y.answer) h) (λ z. lowest_idle w e c i)
-  by_check (Ok tt) nothing e i h = by_room_lem e i (ltb (length d) need) h
+  by_check (Err stop) f e i h =
+      refused_writes w r left stop (ap (λ (y : Leaves Answer (List ℕ)). y.answer) h)
+      (λ z. apart reason.NoCard reason.IdleCell (sym (thirteen w stop e) ∙ z) (λ q. omega arith))
+  by_check (Ok u) (found c) e i h =
+      refused_writes w r left (record { reason = reason.IdleCell; place = c }) (ap (λ (y : Leaves Answer (List ℕ)). y.answer) h) (λ z. lowest_idle w e c i)
+  by_check (Ok u) nothing e i h = by_room_lem e i (ltb (length d) need) h
 
   writes : leaves r left ≡ written_to w d → Writes w r left
   unfolding written_to

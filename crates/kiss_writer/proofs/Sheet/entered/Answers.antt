@@ -1,10 +1,11 @@
 -- `kiss_writer::Sheet::entered` meets its contract: both kinds of state.
-use mathlib.Core.Path.{sym, ◌∙◌}
+use mathlib.Core.Path.{sym, ap, ◌∙◌}
+use Rattle.cards.specs.Run.{led}
 use Rattle.kiss_writer.proofs.Lines.{target_first, target_next}
 use Rattle.kiss_writer.proofs.Sheet.entered.Goals as goal
 
 pub returns-then-state-eq0 : goal.returns-then-state-eq0
-returns-then-state-eq0 c = c.first_cell.ensures ∙ sym (target_first c.args.self.card.words.now c.args.state _ c.if-state-eq0.true)
+returns-then-state-eq0 c = c.first_cell.ensures ∙ ap led (sym (target_first c.args.self.card.words.now c.args.state _ c.if-state-eq0.true))
 
 pub returns : goal.returns
-returns c = c.next_cell.ensures ∙ sym (target_next c.args.self.card.words.now c.args.state _ c.if-state-eq0.false)
+returns c = c.next_cell.ensures ∙ ap led (sym (target_next c.args.self.card.words.now c.args.state _ c.if-state-eq0.false))

@@ -5,7 +5,7 @@ use Rattle.cards.proofs.Checked.{fitting}
 use Rattle.kiss_writer.proofs.Sheet.of.Goals as goal
 
 pub bits-requires : goal.bits-requires
-bits-requires c = omega (arith, c.observations.ensures, (fitting c.args.card.now c.requires).observations)
+bits-requires c = omega (arith, c.observations.ensures, (fitting c.args.card.words.now c.args.card.checked).observations)
 
 pub bits-requires-2 : goal.bits-requires-2
-bits-requires-2 c = omega (arith, c.actions.ensures, (fitting c.args.card.now c.requires).actions)
+bits-requires-2 c = omega (arith, c.actions.ensures, (fitting c.args.card.words.now c.args.card.checked).actions)

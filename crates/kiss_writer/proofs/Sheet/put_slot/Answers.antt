@@ -1,37 +1,39 @@
 -- `kiss_writer::Sheet::put_slot` meets its contract: no line, or that of the cell entered.
+use mathlib.Core.Path.{refl, sym, ◌∙◌}
 use native.Mathlib.Omega.{arith}
 use Rattle.cards.proofs.Checked.{fitting}
+use Rattle.cards.proofs.Running.{led_none}
 use Rattle.text.proofs.Writing.{puts_none}
-use Rattle.kiss_writer.proofs.Lines.{narrow, slot_none, slot_written, entered_cell, cells_few, action_few}
-use borrow.Author.Rules.{rules}
+use Rattle.kiss_writer.proofs.Lines.{narrow, slot_none, slot_written, cell_entered, entered_cell, cells_few, action_few}
 use Rattle.kiss_writer.proofs.Sheet.put_slot.Goals as goal
 
-pub returns-then-to-eq-NO_CELL : goal.returns-then-to-eq-NO_CELL
-returns-then-to-eq-NO_CELL c = (
-  rw (slot_none c.args.self.card.words.now _ _ _ c.entered-to.ensures c.if-to-eq-NO_CELL.true) puts_none,
-  search rules,
+pub returns-in_default : goal.returns-in_default
+returns-in_default c = (
+  rw (slot_none c.args.self.card.words.now _ _ _ refl (led_none _ (sym c.entered.ensures ∙ c.in_default.is))) puts_none,
+  omega arith,
 )
 
 pub cell_action-picked-requires : goal.cell_action-picked-requires
-cell_action-picked-requires c = (
-  c.args.self.card.checked,
-  entered_cell c.args.self.card.words.now c.args.self.card.checked _ _ _ c.requires.0 c.requires.1 c.entered-to.ensures c.if-to-eq-NO_CELL.false,
-)
+cell_action-picked-requires c =
+    let e = cell_entered c.args.self.card.words.now _ _ _ c.entered.ensures _ c.in-Some.is in
+    entered_cell c.args.self.card.words.now c.args.self.card.checked _ _ _ c.requires.0 c.requires.1 e.0 e.1
 
 pub put_line-requires : goal.put_line-requires
 put_line-requires c =
-    let cell = entered_cell c.args.self.card.words.now c.args.self.card.checked _ _ _ c.requires.0 c.requires.1 c.entered-to.ensures c.if-to-eq-NO_CELL.false in (
+    let e = cell_entered c.args.self.card.words.now _ _ _ c.entered.ensures _ c.in-Some.is in
+    let cell = entered_cell c.args.self.card.words.now c.args.self.card.checked _ _ _ c.requires.0 c.requires.1 e.0 e.1 in (
       narrow c.args.self.card.words.now c.args.self.card.checked _ c.args.self.wide,
       omega (arith, c.requires.0, cells_few c.args.self.card.words.now c.args.self.card.checked),
       omega (arith, c.requires.1, (fitting c.args.self.card.words.now c.args.self.card.checked).observations),
       omega (arith, cell, cells_few c.args.self.card.words.now c.args.self.card.checked),
       action_few c.args.self.card.words.now c.args.self.card.checked _ _ cell c.cell_action-picked.ensures,
-      search rules,
+      c.requires.2,
     )
 
-pub returns : goal.returns
-returns c = (
-  rw (← (slot_written c.args.self.card.words.now _ _ _ c.entered-to.ensures c.if-to-eq-NO_CELL.false _ c.args.self.wide _ c.cell_action-picked.ensures))
-      c.put_line.ensures.0,
-  c.put_line.ensures.1,
-)
+pub returns-in-Some : goal.returns-in-Some
+returns-in-Some c =
+    let e = cell_entered c.args.self.card.words.now _ _ _ c.entered.ensures _ c.in-Some.is in (
+      rw (← (slot_written c.args.self.card.words.now _ _ _ e.0 e.1 _ c.args.self.wide _ c.cell_action-picked.ensures))
+          c.put_line.ensures.0,
+      c.put_line.ensures.1,
+    )

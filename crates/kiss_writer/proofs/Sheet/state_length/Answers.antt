@@ -1,11 +1,11 @@
-use mathlib.Core.Path.{sym, ◌∙◌}
+use mathlib.Core.Path.{refl, sym, ◌∙◌}
 use native.Mathlib.Omega.{arith}
 use Rattle.cards.proofs.Checked.{fitting}
 use Rattle.kiss.specs.Text.{state_text}
 use Rattle.kiss_writer.proofs.Rows.{counted_none, counted_more, counted_skip, counted_fits, counted_all}
-use Rattle.kiss_writer.proofs.Lines.{slot_none, slot_long, line_short}
+use Rattle.kiss_writer.proofs.Lines.{slot_none, slot_long, some_entered, none_entered, line_short}
 use Rattle.kiss_writer.proofs.Sheet.state_length.Goals as goal
-use Rattle.kiss_writer.proofs.Sheet.state_length.Goals.{then-entered-ne-NO_CELL, else-entered-ne-NO_CELL}
+use Rattle.kiss_writer.proofs.Sheet.state_length.Goals.{then-is_some, else-is_some}
 
 pub loop-j-init : goal.loop-j-init
 loop-j-init c = counted_none _ _
@@ -22,13 +22,16 @@ overflow_add-bytes c =
 
 pub loop-j-preserved : goal.loop-j-preserved
 loop-j-preserved c =
-    elim c.if-entered-ne-NO_CELL.branch [
-      | then-entered-ne-NO_CELL w ↦
+    elim c.if-is_some.branch [
+      | then-is_some w ↦
           rw w.bytes-is
-          (counted_more _ _ _ _ c.loop-j.invariant _ (c.requires.1 ∙ sym (slot_long c.args.self.card.words.now _ _ _ c.entered.ensures w.if-entered-ne-NO_CELL.true))
+          (counted_more _ _ _ _ c.loop-j.invariant _
+          (c.requires.1 ∙ sym (slot_long c.args.self.card.words.now _ _ _ refl (some_entered c.args.self.card.words.now _ _ _ c.entered.ensures (cc))))
           (line_short c.args.self.card.words.now c.args.self.card.checked c.args.state _ c.requires.1))
-      | else-entered-ne-NO_CELL w ↦
-          rw w.bytes-is (counted_skip _ _ _ _ c.loop-j.invariant (slot_none c.args.self.card.words.now _ _ _ c.entered.ensures w.if-entered-ne-NO_CELL.false))
+      | else-is_some w ↦
+          rw w.bytes-is
+          (counted_skip _ _ _ _ c.loop-j.invariant
+          (slot_none c.args.self.card.words.now _ _ _ refl (none_entered c.args.self.card.words.now _ _ _ c.entered.ensures (cc))))
     ]
 
 pub returns : goal.returns
