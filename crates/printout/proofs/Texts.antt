@@ -2,12 +2,17 @@
 -- Assumes nothing.
 use mathlib.Core.Path.{◌≡◌, refl, sym, ap, subst, ◌∙◌}
 use mathlib.Core.List.{List, [], ◌∷◌, ◌++◌}
-use Rattle.std.specs.Prelude.{Ok}
+use Rattle.std.specs.Prelude.{Ok, Option}
 use Prim.Native.Nat.{ℕ, zero, suc, ◌+◌, ◌*◌, ◌≤◌, ◌<◌}
 use native.Mathlib.Nat.{suc-mul, mul_assoc, mul-le-mul_right}
 use native.Mathlib.Numerals.{add-one}
 use native.Mathlib.Omega.{arith}
-use borrow.Author.Tests.{eq-eqb, ne_eqb}
+use mathlib.Core.Logic.{⊎_elim}
+use mathlib.Core.Bool.{true, false}
+use lib.Dec.{eqb}
+use Rattle.sets.proofs.Logic.{decided}
+use Rattle.games.specs.declared.Cell.{Cell}
+use Rattle.cards.specs.Run.{led}
 use lib.ListN.{length, get_or, take, drop}
 use lib.Seq.{take-append_seam}
 use Rattle.sets.specs.Bounded.{gather}
@@ -15,23 +20,21 @@ use Rattle.games.specs.Automaton.{no_cell}
 use Rattle.games.specs.Words.{part_length}
 use Rattle.cards.specs.Card.{card_cells, card_observations, checked}
 use Rattle.cards.proofs.Checked.{sound}
-use Rattle.text.specs.Text.{bytes, Wrote}
+use Rattle.text.specs.Text.{Wrote}
 use Rattle.text.specs.Puts.{Puts}
 use Rattle.text.specs.declared.Writer.{Writer}
-use Rattle.text.specs.Decimal.{decimal}
 use Rattle.text.proofs.Writing.{puts_then, puts_gathered_none, puts_gathered_more, wrote_front}
 use Rattle.printout.specs.Lines.{cell_text, cell_field, line_bytes}
 use Rattle.printout.specs.Fields.{field_of, with_fields}
 use Rattle.printout.specs.declared.Field.{Field}
+use Rattle.printout.specs.declared.Field.TheVariants.{Entered}
 
--- no cell, and a cell
-pub field_none : (c : ℕ) → c ≡ no_cell → cell_field c ≡ bytes " " ++ bytes "-"
+-- the field of the cell that a number names, as the code has it
+pub entered_field : (c : ℕ) (x : Option Cell) → x ≡ led c → field_of (Entered x) ≡ cell_field c
 unfolding cell_field cell_text
-field_none c e = rw (cell_text, eq-eqb c no_cell e)
-
-pub field_cell : (c : ℕ) → (c ≡ no_cell → ⊥) → cell_field c ≡ bytes " " ++ decimal c
-unfolding cell_field cell_text
-field_cell c n = rw (cell_text, ne_eqb c no_cell n)
+entered_field c x e =
+    rw e
+    (⊎_elim (λ (h : eqb c no_cell ≡ true). rw (h, cell_text) refl) (λ (h : eqb c no_cell ≡ false). rw (h, cell_text) refl) (decided (eqb c no_cell)))
 
 -- ---- the fields of a line
 

@@ -1,17 +1,18 @@
 // What the solving program prints (document 01): its lines, and a card part by part, written into a lent buffer.
 #![tactic(auto)]
 
-ghost use Rattle.std.specs.Prelude.{◌≡◌, ◌++◌, ◌+◌, ◌*◌, ◌≤◌, ◌<◌, length};
+ghost use Rattle.std.specs.Prelude.{◌++◌, ◌+◌, ◌*◌, ◌≤◌, ◌<◌, length};
 ghost use Rattle.games.specs.Answers.{number_of};
 ghost use Rattle.games.specs.Words.{part_length};
-ghost use Rattle.cards.specs.Card.{card_cells, card_observations, checked};
+ghost use Rattle.cards.specs.Card.{card_cells, card_observations};
 ghost use Rattle.text.specs.Text.{room};
 ghost use Rattle.text.specs.Puts.{Puts};
-ghost use Rattle.printout.specs.Lines.{newline, yes_line, first_line, cell_line, next_line, no_line, refused_line};
-ghost use Rattle.printout.specs.Lines.{front_text, own_text, part_text, card_text, unread_line, unwritten_line, field_bytes, line_bytes};
+ghost use Rattle.printout.specs.Lines.{newline, yes_line, no_line, refused_line};
+ghost use Rattle.printout.specs.Lines.{front_text, first_text, own_text, next_text, part_text, card_text, unread_line, unwritten_line, field_bytes, line_bytes};
 ghost use Rattle.printout.specs.Fields.{field_of, with_fields};
 
-use games::{Action, Cell, Observation, Refusal};
+use cards::Card;
+use games::{Cell, Observation, Refusal};
 use text::Writer;
 
 // The most bytes of a field: a space and the digits of a 64-bit number.
@@ -20,11 +21,11 @@ const FIELD_BYTES: usize = 1 + 20;
 // The most bytes of a line: the longest word, three fields, the end.
 pub const LINE_BYTES: usize = 7 + 3 * FIELD_BYTES + 1;
 
-// What a field of a line shows: a number; or a cell, or that there is none.
+// What a field of a line shows: a number; or the cell that is entered, if one is.
 #[derive(Clone, Copy)]
 enum Field {
     Number(u64),
-    Entered(Cell),
+    Entered(Option<Cell>),
 }
 
 // A space, and what the field shows.
@@ -35,13 +36,8 @@ fn put_field(out: &mut Writer, field: Field)
     out.put(b' ');
     match field {
         Field::Number(n) => out.put_decimal(n),
-        Field::Entered(cell) => {
-            if cell.0 == games::NO_CELL {
-                out.put(b'-')
-            } else {
-                out.put_decimal(cell.0 as u64)
-            }
-        }
+        Field::Entered(Some(cell)) => out.put_decimal(cell.0 as u64),
+        Field::Entered(None) => out.put(b'-'),
     }
 }
 
@@ -96,10 +92,12 @@ pub fn put_refused(out: &mut Writer, refusal: Refusal)
 }
 
 // The line of an observation's first cell.
-fn put_first(out: &mut Writer, first: Observation, to: Cell)
-    requires { out.old.at + line_bytes < room }
-    ensures { Puts (first_line first.0 to.0) out.old out.new × (out.new.at ≤ out.old.at + line_bytes) }
+fn put_first(out: &mut Writer, card: Card, first: Observation)
+    requires { (first.0 < card_observations card.words.now) × (out.old.at + line_bytes < room) }
+    ensures { Puts (first_text card.entry.words.now first.0) out.old out.new
+        × (out.new.at ≤ out.old.at + line_bytes) }
 {
+    let to = card.first_cell(first);
     put_line(
         out,
         b"first",
@@ -108,10 +106,13 @@ fn put_first(out: &mut Writer, first: Observation, to: Cell)
 }
 
 // A cell's own line: its set and action.
-fn put_cell(out: &mut Writer, cell: Cell, set: u32, picked: Action)
-    requires { out.old.at + line_bytes < room }
-    ensures { Puts (cell_line cell.0 set picked.0) out.old out.new × (out.new.at ≤ out.old.at + line_bytes) }
+fn put_own(out: &mut Writer, card: Card, cell: Cell)
+    requires { (cell.0 < card_cells card.words.now) × (out.old.at + line_bytes < room) }
+    ensures { Puts (own_text card.entry.words.now cell.0) out.old out.new
+        × (out.new.at ≤ out.old.at + line_bytes) }
 {
+    let set = card.cell_set(cell);
+    let picked = card.cell_action(cell);
     let fields = [
         Field::Number(cell.0 as u64),
         Field::Number(set as u64),
@@ -121,62 +122,51 @@ fn put_cell(out: &mut Writer, cell: Cell, set: u32, picked: Action)
 }
 
 // The line of the cell that an observation leads to.
-fn put_next(out: &mut Writer, from: Cell, seen: Observation, to: Cell)
-    requires { out.old.at + line_bytes < room }
-    ensures { Puts (next_line from.0 seen.0 to.0) out.old out.new × (out.new.at ≤ out.old.at + line_bytes) }
+fn put_next(out: &mut Writer, card: Card, from: Cell, seen: Observation)
+    requires { (from.0 < card_cells card.words.now) × (seen.0 < card_observations card.words.now) × (out.old.at + line_bytes < room) }
+    ensures { Puts (next_text card.entry.words.now from.0 seen.0) out.old out.new
+        × (out.new.at ≤ out.old.at + line_bytes) }
 {
     let fields = [
         Field::Number(from.0 as u64),
         Field::Number(seen.0 as u64),
-        Field::Entered(to),
+        Field::Entered(card.next_cell(from, seen)),
     ];
     put_line(out, b"next", &fields)
 }
 
 // The first lines of a card.
-fn put_front(out: &mut Writer, card: &[u32])
-    requires { (checked card.now ≡ Ok tt) × (out.old.at + card_observations card.now * line_bytes < room) }
-    ensures { Puts (front_text card.now) out.old out.new
-        × (out.new.at ≤ out.old.at + card_observations card.now * line_bytes) }
+fn put_front(out: &mut Writer, card: Card)
+    requires { out.old.at + card_observations card.words.now * line_bytes < room }
+    ensures { Puts (front_text card.entry.words.now) out.old out.new
+        × (out.new.at ≤ out.old.at + card_observations card.entry.words.now * line_bytes) }
 {
-    for j in 0..cards::observations(card) {
-        let first = Observation(j);
-        put_first(out, first, cards::first_cell(card, first));
+    for j in 0..card.observations() {
+        put_first(out, card, Observation(j));
     }
 }
 
-// A cell's own line.
-fn put_own(out: &mut Writer, card: &[u32], cell: Cell)
-    requires { (checked card.now ≡ Ok tt) × (cell.0 < card_cells card.now) × (out.old.at + line_bytes < room) }
-    ensures { Puts (own_text card.now cell.0) out.old out.new × (out.new.at ≤ out.old.at + line_bytes) }
-{
-    let set = cards::cell_set(card, cell);
-    let action = cards::cell_action(card, cell);
-    put_cell(out, cell, set, action)
-}
-
 // A cell's part: its own line and its next lines.
-fn put_part(out: &mut Writer, card: &[u32], cell: Cell)
-    requires { (checked card.now ≡ Ok tt) × (cell.0 < card_cells card.now)
-        × (out.old.at + part_length (card_observations card.now) * line_bytes < room) }
-    ensures { Puts (part_text card.now cell.0) out.old out.new
-        × (out.new.at ≤ out.old.at + part_length (card_observations card.now) * line_bytes) }
+fn put_part(out: &mut Writer, card: Card, cell: Cell)
+    requires { (cell.0 < card_cells card.words.now)
+        × (out.old.at + part_length (card_observations card.words.now) * line_bytes < room) }
+    ensures { Puts (part_text card.entry.words.now cell.0) out.old out.new
+        × (out.new.at ≤ out.old.at + part_length (card_observations card.entry.words.now) * line_bytes) }
 {
     put_own(out, card, cell);
-    for j in 0..cards::observations(card) {
-        let seen = Observation(j);
-        put_next(out, cell, seen, cards::next_cell(card, cell, seen));
+    for j in 0..card.observations() {
+        put_next(out, card, cell, Observation(j));
     }
 }
 
 // The lines of a card: its first lines, then its cells' parts. No word of it takes more than a line, and the head none.
-pub fn put_card(out: &mut Writer, card: &[u32])
-    requires { (checked card.now ≡ Ok tt) × (out.old.at + length card.now * line_bytes < room) }
-    ensures { Puts (card_text card.now) out.old out.new
-        × (out.new.at + line_bytes ≤ out.old.at + length card.now * line_bytes) }
+pub fn put_card(out: &mut Writer, card: Card)
+    requires { out.old.at + length card.words.now * line_bytes < room }
+    ensures { Puts (card_text card.entry.words.now) out.old out.new
+        × (out.new.at + line_bytes ≤ out.old.at + length card.entry.words.now * line_bytes) }
 {
     put_front(out, card);
-    for c in 0..cards::cells(card) {
+    for c in 0..card.cells() {
         put_part(out, card, Cell(c));
     }
 }

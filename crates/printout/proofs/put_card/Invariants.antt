@@ -7,4 +7,4 @@ use Rattle.printout.proofs.Texts.{Below}
 use Rattle.printout.proofs.put_card.Given as goal
 
 abbrev pub invariant-loop-c : goal.invariant-loop-c
-invariant-loop-c l = Below (part_text l.card) (part_length (card_observations l.card) * line_bytes) l.c l.initial.out l.out
+invariant-loop-c l = Below (part_text l.card.words.now) (part_length (card_observations l.card.words.now) * line_bytes) l.c l.initial.out l.out

@@ -1,5 +1,5 @@
-use mathlib.Core.Path.{ap}
-use Rattle.printout.specs.Lines.{first_line, front_text}
+use mathlib.Core.Path.{refl}
+use Rattle.printout.specs.Lines.{front_text}
 use Rattle.printout.proofs.Texts.{below_none, below_more, below_fits, below_all}
 use Rattle.printout.proofs.put_front.Goals as goal
 
@@ -7,7 +7,7 @@ pub loop-j-init : goal.loop-j-init
 loop-j-init c = below_none _ _
 
 pub loop-j-preserved : goal.loop-j-preserved
-loop-j-preserved c = below_more _ _ _ c.loop-j.invariant (ap (first_line _) c.first_cell.ensures) c.put_first.ensures
+loop-j-preserved c = below_more _ _ _ c.loop-j.invariant refl c.put_first.ensures
 
 pub returns : goal.returns
 unfolding front_text

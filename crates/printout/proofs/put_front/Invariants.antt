@@ -4,4 +4,4 @@ use Rattle.printout.proofs.Texts.{Below}
 use Rattle.printout.proofs.put_front.Given as goal
 
 abbrev pub invariant-loop-j : goal.invariant-loop-j
-invariant-loop-j l = Below (first_text l.card) line_bytes l.j l.initial.out l.out
+invariant-loop-j l = Below (first_text l.card.words.now) line_bytes l.j l.initial.out l.out

@@ -1,7 +1,7 @@
-use mathlib.Core.Path.{ap}
+use mathlib.Core.Path.{refl}
 use native.Mathlib.Omega.{arith}
 use Rattle.text.proofs.Writing.{puts_then}
-use Rattle.printout.specs.Lines.{next_line, part_text}
+use Rattle.printout.specs.Lines.{part_text}
 use Rattle.printout.proofs.Texts.{below_none, below_more, below_fits, below_all}
 use Rattle.printout.proofs.put_part.Goals as goal
 
@@ -9,7 +9,7 @@ pub loop-j-init : goal.loop-j-init
 loop-j-init c = below_none _ _
 
 pub loop-j-preserved : goal.loop-j-preserved
-loop-j-preserved c = below_more _ _ _ c.loop-j.invariant (ap (next_line _ _) c.next_cell.ensures) c.put_next.ensures
+loop-j-preserved c = below_more _ _ _ c.loop-j.invariant refl c.put_next.ensures
 
 pub returns : goal.returns
 unfolding part_text

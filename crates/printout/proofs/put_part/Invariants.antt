@@ -4,4 +4,4 @@ use Rattle.printout.proofs.Texts.{Below}
 use Rattle.printout.proofs.put_part.Given as goal
 
 abbrev pub invariant-loop-j : goal.invariant-loop-j
-invariant-loop-j l = Below (next_text l.card l.cell.0) line_bytes l.j l.initial.out l.out
+invariant-loop-j l = Below (next_text l.card.words.now l.cell.0) line_bytes l.j l.initial.out l.out

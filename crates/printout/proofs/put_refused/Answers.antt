@@ -3,4 +3,4 @@ use Rattle.printout.proofs.put_refused.Goals as goal
 
 pub returns : goal.returns
 unfolding refused_line
-returns c = c.put_line.ensures
+returns c = rw (← c.number-number.ensures) c.put_line.ensures
