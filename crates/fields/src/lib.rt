@@ -11,7 +11,7 @@ ghost use Rattle.fields.specs.RoundTrip.{WritesBack, ReadsBack};
 ghost use Rattle.fields.specs.Write.{mask_of, word_at, unused_zero, slots_checked, masks_checked, fields_checked, words_length, written_to, write_of};
 
 use games::{Place, Reason, Refusal};
-use tables::Fields;
+use tables::{Accepted, Fields};
 
 // Checks a table and reads it into fields.
 #[tactic(auto, unfolding(crate::specs::Read::read_of))]
@@ -19,21 +19,19 @@ pub fn read(table: &[u32]) -> Result<Fields, Refusal>
     ensures answers { result ≡ read_of table.now }
     ensures written_back { WritesBack table.now result }
 {
-    tables::check(table)?;
-    Ok(tables::fields_of(table))
+    let accepted = Accepted::of(table)?;
+    Ok(accepted.table.fields())
 }
 
 // The slots from `used` up are 0.
 fn unused_zero(slots: &[u32], used: usize) -> bool
     ensures { result ≡ unused_zero used slots.now }
 {
-    let mut j: usize = 0;
-    while j < slots.len() {
-        let clean = (j < used) | (slots[j] == 0);
+    for (j, slot) in slots.iter().enumerate() {
+        let clean = (j < used) | (*slot == 0);
         if !clean {
             return false;
         }
-        j += 1;
     }
     true
 }
@@ -64,13 +62,10 @@ fn check_masks(f: Fields) -> Result<(), Refusal>
     ensures { result ≡ masks_checked f }
 {
     let full = sets::single(f.states);
-    let words = games::table_length(tables::fields_shape(f));
-    let mut p: usize = 1;
-    while p < words {
+    for p in 1..games::table_length(tables::fields_shape(f)) {
         if full <= mask_at(f, p) {
             return Err(Reason::StateBeyond.at(p));
         }
-        p += 1;
     }
     Ok(())
 }
@@ -134,10 +129,8 @@ fn write_words(f: Fields, out: &mut [u32]) -> Result<usize, Refusal>
     if out.len() < words {
         return Err(Reason::ShortTable.at(words));
     }
-    let mut p: usize = 0;
-    while p < words {
+    for p in 0..words {
         out[p] = word_at(f, p);
-        p += 1;
     }
     Ok(words)
 }

@@ -1,12 +1,8 @@
 -- `fields::check_masks` meets its contract: before each turn no mask so far is too wide.
 use mathlib.Core.Path.{◌≡◌}
-use Prim.Native.Nat.{◌≤◌, ◌-◌}
 use Rattle.sets.specs.Bounded.{first, nothing}
 use Rattle.fields.specs.Write.{wide_at}
 use Rattle.fields.proofs.check_masks.Given as goal
 
 abbrev pub invariant-loop-p : goal.invariant-loop-p
-invariant-loop-p l = (1 ≤ l.p) × (l.p ≤ l.words) × (first l.p (wide_at l.f) ≡ nothing)
-
-abbrev pub decreases-loop-p : goal.decreases-loop-p
-decreases-loop-p l = l.words - l.p
+invariant-loop-p l = first l.p (wide_at l.f) ≡ nothing

@@ -1,14 +1,13 @@
--- `fields::read` meets its contract: the answer of `check`, with its fields; what was read is written back.
-use mathlib.Core.Path.{sym, ◌∙◌}
-use Rattle.tables.proofs.Checks.{sized}
+-- `fields::read` meets its contract: the answer of the checks, with the fields; what was read is written back.
+use mathlib.Core.Path.{◌≡◌, ap, ◌∙◌}
+use Rattle.std.specs.Prelude.{Ok}
+use Rattle.fields.specs.Read.{read_of}
 use Rattle.fields.proofs.Laws.{read_fine}
 use Rattle.fields.proofs.RoundTrip.{writes_back}
 use Rattle.fields.proofs.read.Goals as goal
 
-pub fields_of-requires : goal.fields_of-requires
-fields_of-requires c = sized c.args.table.now (sym c.check.ensures ∙ c.in_ok-check.was)
-
 pub returns : goal.returns
 returns c =
-    let told = read_fine c.args.table.now _ (sym c.check.ensures ∙ c.in_ok-check.was) c.fields_of.ensures in
+    let same = ap (λ b. b.now) c.in_ok-accepted.ensures.table in
+    let told : Ok c.fields.result ≡ read_of c.args.table.now = read_fine _ _ c.in_ok-accepted.accepted.checked c.fields.ensures ∙ ap read_of same in
     record { answers = told; written_back = writes_back c.args.table.now told }

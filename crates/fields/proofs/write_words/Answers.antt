@@ -16,7 +16,7 @@ returns-then-out-words c =
     rw c.at.ensures (written_none c.args.f c.args.out.now c.table_length-words.result long c.if-out-words.true)
 
 pub loop-p-init : goal.loop-p-init
-loop-p-init c = (search rules, search rules, filled_none (word_at c.args.f) c.args.out.now)
+loop-p-init c = (search rules, filled_none (word_at c.args.f) c.args.out.now)
 
 pub word_at-requires : goal.word_at-requires
 word_at-requires c =
@@ -24,10 +24,10 @@ word_at-requires c =
     (c.requires.0, c.requires.1, omega (arith, long))
 
 pub loop-p-preserved : goal.loop-p-preserved
-loop-p-preserved c = (search rules, search rules, rw (c.loop-p.invariant.2, c.word_at.ensures) (filled_more (word_at c.args.f) c.loop-p.p c.args.out.now (omega arith)))
+loop-p-preserved c = (search rules, rw (c.loop-p.invariant.1, c.word_at.ensures) (filled_more (word_at c.args.f) c.loop-p.p c.args.out.now (omega arith)))
 
 pub returns : goal.returns
 returns c =
     let long : c.table_length-words.result ≡ words_length c.args.f = c.table_length-words.ensures ∙ ap table_length c.fields_shape.ensures in
     let e : c.loop-p.p ≡ c.table_length-words.result = omega arith in
-    written_done c.args.f c.args.out.now c.loop-p.out c.table_length-words.result long (omega arith) (rw e at c.loop-p.invariant.2)
+    written_done c.args.f c.args.out.now c.loop-p.out c.table_length-words.result long (omega arith) (rw e at c.loop-p.invariant.1)

@@ -1,13 +1,9 @@
 -- `fields::write_words` meets its contract: before each turn the first p places hold words, the rest is as it was.
 use mathlib.Core.Path.{◌≡◌}
-use Prim.Native.Nat.{◌≤◌, ◌-◌}
 use lib.ListN.{length}
 use Rattle.sets.specs.Bounded.{filled_by}
 use Rattle.fields.specs.Write.{word_at}
 use Rattle.fields.proofs.write_words.Given as goal
 
 abbrev pub invariant-loop-p : goal.invariant-loop-p
-invariant-loop-p l = (l.p ≤ l.words) × (length l.out ≡ length l.initial.out) × (l.out ≡ filled_by l.p (word_at l.f) l.initial.out)
-
-abbrev pub decreases-loop-p : goal.decreases-loop-p
-decreases-loop-p l = l.words - l.p
+invariant-loop-p l = (length l.out ≡ length l.initial.out) × (l.out ≡ filled_by l.p (word_at l.f) l.initial.out)
