@@ -20,12 +20,14 @@ use Rattle.cards.specs.Checking.{FirstWrong}
 use Rattle.cards.proofs.Checked.{part_in, part_behind, shaped, firsts_in}
 use Rattle.cards.proofs.Passing.{pass_all, row_stop, row_pass, front_wrong, behind_front}
 use Rattle.moves.specs.Halves.{posted}
-use Rattle.std.specs.Prelude.{Some, None}
+use Rattle.std.specs.Prelude.{Option, Some, None}
+use Rattle.games.specs.declared.Cell.{Cell}
+use Rattle.cards.specs.Run.{led}
 use Rattle.moves.proofs.Posting.{posted_blocked, posted_post}
 use Rattle.pairs.specs.Pair.{checked}
-use Rattle.certificates.specs.Certificate.{lies, first_holds, set_fits, cell_holds, next_holds, word_holds, words_certified, certified, Safe}
-use Rattle.certificates.specs.Judging.{HoldsBelow, part_holds}
-use Rattle.certificates.proofs.Words.{head_word_lem, first_word, cell_word, next_word_lem}
+use Rattle.certificates.specs.Certificate.{first_holds, set_fits, cell_holds, next_holds, word_holds, words_certified, certified, Safe}
+use Rattle.certificates.specs.Judging.{lies_in, HoldsBelow, part_holds}
+use Rattle.certificates.proofs.Words.{head_word_lem, first_word, cell_word, next_word_lem, lies_led}
 use Rattle.certificates.proofs.Certified.{certified_safe}
 use Rattle.games.specs.declared.Reason.{Reason}
 use Rattle.games.specs.declared.Reason.TheVariants as reason
@@ -33,14 +35,14 @@ use Rattle.std.specs.Prelude.{Ok}
 
 -- ---- a first and a next word, by the set and the cell that the code has
 
-module _ (g : Game) (A : Automaton) (s d : ℕ) where
-  pub first_told : (j : ℕ) → s ≡ start_set g j → d ≡ A.begins j → first_holds g A j ≡ lies A s d
+module _ (g : Game) (A : Automaton) (s : ℕ) (d : Option Cell) where
+  pub first_told : (j : ℕ) → s ≡ start_set g j → d ≡ led (A.begins j) → first_holds g A j ≡ lies_in A s d
   unfolding first_holds
-  first_told j e f = rw (e, f)
+  first_told j e f = rw (e, f) (sym (lies_led A (start_set g j) (A.begins j)))
 
-  pub next_told : (c j u : ℕ) → u ≡ post g (A.set c) (A.action c) → s ≡ common u (g.shown j) → d ≡ A.next c j → next_holds g A c j ≡ lies A s d
+  pub next_told : (c j u : ℕ) → u ≡ post g (A.set c) (A.action c) → s ≡ common u (g.shown j) → d ≡ led (A.next c j) → next_holds g A c j ≡ lies_in A s d
   unfolding next_holds after
-  next_told c j u h e f = rw (e, f, h)
+  next_told c j u h e f = rw (e, f, h) (sym (lies_led A (common (post g (A.set c) (A.action c)) (g.shown j)) (A.next c j)))
 
 -- ---- a cell's part, by the set and the action that the code has
 

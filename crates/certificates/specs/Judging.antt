@@ -1,22 +1,23 @@
 -- What the functions of the judge of cards promise each other.
 -- Assumes nothing.
-use Rattle.std.specs.Prelude.{◌≡◌, Bool, List, ℕ, ◌+◌, length, Option, IfSome}
+use Rattle.std.specs.Prelude.{◌≡◌, Bool, eqb, List, ℕ, ◌+◌, length, Option, None, Some, IfSome}
+use Rattle.sets.specs.Mask.{subset}
 use Rattle.games.specs.Game.{Game}
+use Rattle.games.specs.Automaton.{Automaton}
+use Rattle.games.specs.declared.Cell.{Cell}
 use Rattle.cards.specs.Card.{cell_place, card_observations}
 use Rattle.cards.specs.Checking.{Pass}
 use Rattle.moves.specs.declared.Moves.{Moves}
-use Rattle.pairs.specs.Pair.{checked}
 use Rattle.certificates.specs.Certificate.{word_holds}
-use Rattle.std.specs.Prelude.{Ok}
+
+-- all the states in question lie in the set of the cell named; where there is none, there are none
+abbrev pub lies_in : Automaton → (s : ℕ) → Option Cell → Bool
+lies_in A s None = eqb s 0
+lies_in A s (Some c) = subset s (A.set c.0)
 
 -- where there are half tables, they are those of the table's moves
 abbrev pub Halves : (table : List ℕ) → Option Moves → Type 0
 Halves w moves = IfSome moves (λ m. m.table.now ≡ w)
-
--- a table and a card that go together, and the half tables, if any
-pub record Prepared (table : List ℕ) (moves : Option Moves) (card : List ℕ) : Type 0 where
-  pub fine : checked table card ≡ Ok tt
-  pub halves : Halves table moves
 
 -- the words below place p hold
 abbrev pub HoldsBelow : Game → (card : List ℕ) → (p : ℕ) → Type 0
