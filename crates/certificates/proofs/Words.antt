@@ -5,8 +5,11 @@ use mathlib.Core.Bool.{true}
 use mathlib.Core.List.{List}
 use Prim.Native.Nat.{ℕ, ◌<◌}
 use native.Mathlib.Omega.{arith}
+use lib.Dec.{eqb}
+use borrow.Author.Tests.{eq-eqb, ne_eqb}
+use Rattle.sets.specs.Mask.{subset}
 use Rattle.games.specs.Game.{Game}
-use Rattle.games.specs.Automaton.{Automaton}
+use Rattle.games.specs.Automaton.{Automaton, no_cell}
 use Rattle.cards.specs.Card.{first_place, cell_place, next_place, Spot, at_head, at_first, at_cell, at_next, spot_at, card_observations, automaton}
 use Rattle.cards.proofs.Spots.{spot_head, spot_first, spot_cell, spot_next}
 use Rattle.cards.specs.Run.{led}
@@ -38,6 +41,16 @@ module _ (g : Game) (k : List ℕ) where
 
 -- ---- states lie in the cell named
 
-pub lies_led : (A : Automaton) (s c : ℕ) → lies_in A s (led c) ≡ lies A s c
-unfolding lies
-lies_led A s c = grind arith
+module _ (A : Automaton) (s c : ℕ) where
+  pub lies_none : c ≡ no_cell → eqb s 0 ≡ lies A s c
+  unfolding lies
+  lies_none e = rw (eq-eqb c no_cell e)
+
+  pub lies_some : (t : ℕ) → (c ≡ no_cell → ⊥) → t ≡ A.set c → subset s t ≡ lies A s c
+  unfolding lies
+  lies_some t n e = rw (ne_eqb c no_cell n, e)
+
+  -- the same of the cell that a word leads to
+  pub lies_led : lies_in A s (led c) ≡ lies A s c
+  unfolding lies
+  lies_led = grind arith

@@ -70,7 +70,7 @@ fn post(table: Table, moves: Option<Moves>, s: u32, a: Action) -> Option<u32>
 fn nexts_hold(pair: Pair, cell: Cell, u: u32) -> u32
     requires { (cell.0 < card_cells pair.card.words.now)
         × (u ≡ post_of (game pair.table.table.words.now) ((automaton pair.card.words.now).set cell.0)
-            ((automaton pair.card.words.now).action cell.0)) }
+        ((automaton pair.card.words.now).action cell.0)) }
     ensures { FirstWrong (next_holds (game pair.entry.table.table.words.now) (automaton pair.entry.card.words.now) cell.0)
         (card_observations pair.entry.card.words.now) result }
 {
