@@ -3,14 +3,13 @@
 use mathlib.Core.Path.{◌≡◌, sym, ap, ◌∙◌}
 use mathlib.Core.Logic.{⊎_elim}
 use mathlib.Core.Bool.{true, false}
-use mathlib.Core.List.{List, ◌++◌, append-nil}
+use mathlib.Core.List.{List}
 use Prim.Native.Nat.{ℕ, ◌+◌, ◌*◌, ◌/◌, ◌%◌, ◌<◌}
 use native.Mathlib.Omega.{arith}
 use lib.Dec.{eqb, ltb}
 use lib.ListN.{length, get_or, replicate, length-set, length-replicate, get_or-replicate, get_or-eq_default}
-use lib.Seq.{get_or-set_same, get_or-set_other, drop-length}
+use lib.Seq.{get_or-set_same, get_or-set_other}
 use borrow.Author.Tests.{lt-ltb, le-ltb, eqb-true, eqb-false}
-use Rattle.sets.specs.Bounded.{fill}
 use Rattle.sets.proofs.Logic.{decided, lt_or_le}
 use Rattle.trimmer.specs.Halves.{half_values, lower_half, upper_half, put_lower, put_upper, marked}
 
@@ -82,12 +81,9 @@ unfolding marked
 same_mark v w c e = ap (ltb 0) e
 
 -- no cell is marked in words of 0
-pub zeroed : (w : List ℕ) (c : ℕ) → marked (fill (length w) 0 w) c ≡ false
-zeroed w c =
-    let n = length w in
+pub zeroed : (n c : ℕ) → marked (replicate n 0) c ≡ false
+zeroed n c =
     let long : length {A = ℕ} (replicate n 0) ≡ n = length-replicate {0} {A = ℕ} n 0 in
-    let all : fill n 0 w ≡ replicate n 0 = ap (λ (d : List ℕ). replicate n 0 ++ d) (drop-length w) ∙ append-nil (replicate n 0) in
-    no_mark (fill n 0 w) c
-    (ap (λ (d : List ℕ). get_or d c 0 % half_values) all
-    ∙ ap (λ (y : ℕ). y % half_values)
+    no_mark (replicate n 0) c
+    (ap (λ (y : ℕ). y % half_values)
     (⊎_elim (λ l. get_or-replicate n c 0 0 l) (λ l. get_or-eq_default (replicate n 0) 0 (omega (arith, long))) (lt_or_le c n)))

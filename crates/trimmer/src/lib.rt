@@ -7,13 +7,14 @@ ghost use Rattle.std.specs.Prelude.{◌≡◌, ◌++◌, ◌+◌, ◌<◌, ◌�
 ghost use Rattle.games.specs.Answers.{leaves};
 ghost use Rattle.games.specs.Automaton.{no_cell};
 ghost use Rattle.games.specs.Format.{number_values, kind_values};
-ghost use Rattle.cards.specs.Card.{card_cells, card_observations, automaton, checked};
+ghost use Rattle.cards.specs.Card.{card_cells, card_observations, automaton};
 ghost use Rattle.trimming.specs.Trim.{trimmed};
 ghost use Rattle.trimmer.specs.Halves.{half_values, lower_half, upper_half, put_lower, put_upper, marked};
 ghost use Rattle.trimmer.specs.Marking.{Listing, Added, named_from, named_or, NamesInside, Naming, Own, FirstNamed, Taking, Marked};
 ghost use Rattle.trimmer.specs.Numbering.{Numbered, Renumbering, numbered_as, new_name, row_words};
 ghost use Rattle.trimmer.specs.Trimmer.{kept_cells, by_room, buffers, trimmed_into, Trims};
 
+use cards::Card;
 use games::{Cell, Observation, Reason, Refusal};
 
 // A trimmed card: its words and its cells.
@@ -23,7 +24,8 @@ pub struct Trimmed {
     pub cells: u32,
 }
 
-// The numbers that a half of a word can hold.
+// The numbers that a half of a word can hold. Two numbers share a word since the work that is lent has one word for each cell, and there
+// is no heap for more.
 const HALF_VALUES: u32 = 1 << 16;
 
 pub fn lower(work: &[u32], i: usize) -> u32
@@ -64,7 +66,8 @@ struct Waiting {
     next: Cell,
 }
 
-// The cell that a word names; the other one where it names none.
+// The cell that a word names; the other one where it names none. The number 65,535 is asked for and no `Option`: tried, a `match` on one
+// is a branch for each word of the card, and this is none.
 fn named_or(cell: Cell, other: Cell) -> Cell
     ensures { result.0 ≡ named_or cell.0 other.0 }
 {
@@ -109,46 +112,40 @@ fn mark_named(
         work.new result.cells result.next.0 }
 {
     let mut listed = waiting;
-    let mut j: u32 = 0;
-    while j < count {
+    for j in 0..count {
         let cell = games::low_field(card[at + j as usize]);
         listed = mark(work, own, Cell(cell), listed);
-        j += 1;
     }
     listed
 }
 
 // The first cell that a first word names; cell 0 where none does.
-fn first_named(card: &[u32]) -> Cell
-    requires { checked card.now ≡ Ok tt }
-    ensures { FirstNamed (automaton card.now) (card_observations card.now) result.0 }
+fn first_named(card: Card) -> Cell
+    ensures { FirstNamed (automaton card.entry.words.now) (card_observations card.entry.words.now) result.0 }
 {
-    let o = cards::observations(card);
-    let mut j: u32 = 0;
-    while j < o {
-        let cell = cards::first_cell(card, Observation(j));
-        if cell.0 != games::NO_CELL {
+    let o = card.observations();
+    for j in 0..o {
+        if let Some(cell) = card.first_cell(Observation(j)) {
             return cell;
         }
-        j += 1;
     }
     Cell(0)
 }
 
 // Marks the cells where a run begins: those that first words name, or cell 0 where no first word names one.
-fn mark_firsts(card: &[u32], work: &mut [u32]) -> Waiting
-    requires { (checked card.now ≡ Ok tt) × (length work.old ≡ card_cells card.now) }
-    ensures { Taking (automaton card.now) (card_observations card.now) 0 work.new result.cells result.next.0 }
+fn mark_firsts(card: Card, work: &mut [u32]) -> Waiting
+    requires { length work.old ≡ card_cells card.words.now }
+    ensures { Taking (automaton card.entry.words.now) (card_observations card.entry.words.now) 0
+        work.new result.cells result.next.0 }
 {
-    let cells = work.len();
-    sets::fill(work, cells, 0);
+    work.fill(0);
     let first = first_named(card);
     put_lower(work, first.0 as usize, 1);
     let waiting = Waiting {
         cells: 1,
         next: first,
     };
-    mark_named(card, 1, cards::observations(card), first, work, waiting)
+    mark_named(card.words, 1, card.observations(), first, work, waiting)
 }
 
 // What waits behind the next cell.
@@ -165,18 +162,18 @@ fn behind_next(work: &[u32], waiting: Waiting) -> Waiting
 
 // Marks the reached cells: each waiting cell is taken up once, and the cells that its next words name wait then. How many cells are
 // reached.
-pub fn mark_reached(card: &[u32], work: &mut [u32]) -> usize
-    requires { (checked card.now ≡ Ok tt) × (length work.old ≡ card_cells card.now) }
-    ensures { Marked (automaton card.now) (card_observations card.now) work.new result }
+pub fn mark_reached(card: Card, work: &mut [u32]) -> usize
+    requires { length work.old ≡ card_cells card.words.now }
+    ensures { Marked (automaton card.entry.words.now) (card_observations card.entry.words.now) work.new result }
 {
-    let o = cards::observations(card);
+    let o = card.observations();
     let mut waiting = mark_firsts(card, work);
     let mut taken: usize = 0;
     while 0 < waiting.cells {
         let cell = waiting.next;
-        let at = cards::cell_place(o, cell);
+        let at = card.cell_place(cell);
         let others = behind_next(work, waiting);
-        waiting = mark_named(card, at + 1, o, cell, work, others);
+        waiting = mark_named(card.words, at + 1, o, cell, work, others);
         taken += 1;
     }
     taken
@@ -188,14 +185,12 @@ fn number(work: &mut [u32])
     ensures { Numbered (length work.old) (marked work.old) work.new }
 {
     let mut kept: usize = 0;
-    let mut c: usize = 0;
-    while c < work.len() {
+    for c in 0..work.len() {
         if 0 < lower(work, c) {
             put_lower(work, c, kept as u32);
             put_upper(work, kept, c as u32);
             kept += 1;
         }
-        c += 1;
     }
 }
 
@@ -233,34 +228,32 @@ fn write_row(
         × (length out.old ≡ 1 + count) × (0 < length work.now) }
     ensures { out.new ≡ row_words card.now at count kind own work.now }
 {
-    let mut j: u32 = 0;
-    while j < count {
+    for j in 0..count {
         let cell = games::low_field(card[at + j as usize]);
         let new = new_name(work, Cell(cell));
         out[1 + j as usize] = cards::naming(kind, new, Observation(j));
-        j += 1;
     }
     out[0] = own;
 }
 
 // The trimmed card at the front of its room, from the new numbers: the front, and the parts of the kept cells.
-fn write_trimmed(card: &[u32], work: &[u32], kept: u32, out: &mut [u32])
-    requires { (checked card.now ≡ Ok tt) × Renumbering (automaton card.now) (card_observations card.now) work.now
-        × (kept ≡ kept_cells card.now) × (length (trimmed card.now) ≤ length out.old) }
-    ensures { out.new ≡ trimmed card.now ++ drop (length (trimmed card.now)) out.old }
+fn write_trimmed(card: Card, work: &[u32], kept: u32, out: &mut [u32])
+    requires { Renumbering (automaton card.words.now) (card_observations card.words.now) work.now
+        × (kept ≡ kept_cells card.words.now) × (length (trimmed card.words.now) ≤ length out.old) }
+    ensures { out.new ≡ trimmed card.entry.words.now ++ drop (length (trimmed card.entry.words.now)) out.old }
 {
-    let o = cards::observations(card);
+    let o = card.observations();
     let front = games::front_length(o);
     let part = games::part_length(o);
-    let head = cards::heading(kept, o, cards::actions(card));
-    write_row(card, 1, o, games::KIND_FIRST, head, work, &mut out[..front]);
-    let mut i: u32 = 0;
-    while i < kept {
-        let from = cards::cell_place(o, Cell(upper(work, i as usize)));
-        let own = card[from];
+    let head = cards::heading(kept, o, card.actions());
+    let words = card.words;
+    write_row(words, 1, o, games::KIND_FIRST, head, work, &mut out[..front]);
+    for i in 0..kept {
+        let from = card.cell_place(Cell(upper(work, i as usize)));
+        let own = words[from];
         let at = cards::cell_place(o, Cell(i));
         write_row(
-            card,
+            words,
             from + 1,
             o,
             games::KIND_NEXT,
@@ -268,7 +261,6 @@ fn write_trimmed(card: &[u32], work: &[u32], kept: u32, out: &mut [u32])
             work,
             &mut out[at..at + part],
         );
-        i += 1;
     }
 }
 
@@ -277,21 +269,17 @@ pub fn copy_card(card: &[u32], out: &mut [u32])
     requires { length card.now ≤ length out.old }
     ensures { out.new ≡ card.now ++ drop (length card.now) out.old }
 {
-    let mut i: usize = 0;
-    while i < card.len() {
-        out[i] = card[i];
-        i += 1;
-    }
+    out[..card.len()].copy_from_slice(card);
 }
 
 // The trimmed card at the front of its room, from the marks. A card without idle cells stays as it is.
-fn write_marked(card: &[u32], work: &mut [u32], kept: u32, out: &mut [u32])
-    requires { (checked card.now ≡ Ok tt) × Marked (automaton card.now) (card_observations card.now) work.old kept
-        × (length (trimmed card.now) ≤ length out.old) }
-    ensures { out.new ≡ trimmed card.now ++ drop (length (trimmed card.now)) out.old }
+fn write_marked(card: Card, work: &mut [u32], kept: u32, out: &mut [u32])
+    requires { Marked (automaton card.words.now) (card_observations card.words.now) work.old kept
+        × (length (trimmed card.words.now) ≤ length out.old) }
+    ensures { out.new ≡ trimmed card.entry.words.now ++ drop (length (trimmed card.entry.words.now)) out.old }
 {
-    if kept == cards::cells(card) {
-        copy_card(card, out);
+    if kept == card.cells() {
+        copy_card(card.words, out);
         return;
     }
     number(work);
@@ -299,12 +287,12 @@ fn write_marked(card: &[u32], work: &mut [u32], kept: u32, out: &mut [u32])
 }
 
 // For a card with work for its cells: the reached cells, then 9 or the trimmed card.
-fn trim_into(card: &[u32], work: &mut [u32], out: &mut [u32]) -> Result<Trimmed, Refusal>
-    requires { (checked card.now ≡ Ok tt) × (length work.old ≡ card_cells card.now) }
-    ensures { leaves result out.new ≡ by_room card.now out.old }
+fn trim_into(card: Card, work: &mut [u32], out: &mut [u32]) -> Result<Trimmed, Refusal>
+    requires { length work.old ≡ card_cells card.words.now }
+    ensures { leaves result out.new ≡ by_room card.entry.words.now out.old }
 {
     let kept = mark_reached(card, work) as u32;
-    let need = games::card_length(kept, cards::observations(card));
+    let need = games::card_length(kept, card.observations());
     if out.len() < need {
         return Err(Reason::ShortRoom.at(need));
     }
@@ -321,12 +309,12 @@ pub fn trim(card: &[u32], work: &mut [u32], out: &mut [u32]) -> Result<Trimmed, 
         ≡ trimmed_into card.now work.old out.old }
     ensures promised { Trims card.now result out.new }
 {
-    cards::check(card)?;
-    let need = cards::cells(card) as usize;
+    let card = Card::of(card)?;
+    let need = card.cells() as usize;
     if work.len() < need {
         return Err(Reason::ShortWork.at(need));
     }
     let answer = trim_into(card, &mut work[..need], out);
-    sets::fill(work, need, 0);
+    work[..need].fill(0);
     answer
 }

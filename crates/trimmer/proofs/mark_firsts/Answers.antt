@@ -4,7 +4,8 @@ use mathlib.Core.Bool.{false}
 use mathlib.Core.List.{List}
 use Prim.Native.Nat.{ℕ, ◌≤◌, ◌<◌}
 use native.Mathlib.Omega.{arith}
-use lib.ListN.{length}
+use borrow.Author.Rules.{rules}
+use lib.ListN.{length, replicate}
 use Rattle.games.specs.Automaton.{Automaton}
 use Rattle.cards.specs.Card.{card_cells, card_observations, automaton}
 use Rattle.cards.proofs.Checked.{fitting}
@@ -18,10 +19,10 @@ use Rattle.trimmer.proofs.mark_firsts.Goals as goal
 
 pub put_lower-requires : goal.put_lower-requires
 put_lower-requires c =
-    let words : List ℕ = c.args.card.now in
-    let zeros : List ℕ = c.fill.new.d in
+    let words : List ℕ = c.args.card.words.now in
+    let zeros : List ℕ = c.fill.new.self in
     let played : Automaton = automaton words in
-    let many : length zeros ≡ card_cells words = c.fill.auto.d ∙ c.requires.1 in
+    let many : length zeros ≡ card_cells words = c.fill.auto.self ∙ c.requires in
     let sized : length zeros ≡ played.size = many ∙ sym (size_of words) in
     let first : ℕ = c.first_named-first.result.0 in
     let inside : first < length zeros = omega (arith, c.first_named-first.ensures.inside, sized) in
@@ -29,13 +30,14 @@ put_lower-requires c =
 
 pub mark_named-requires : goal.mark_named-requires
 mark_named-requires c =
-    let words : List ℕ = c.args.card.now in
-    let zeros : List ℕ = c.fill.new.d in
+    let words : List ℕ = c.args.card.words.now in
+    let zeros : List ℕ = c.fill.new.self in
     let played : Automaton = automaton words in
-    let no_marks : (d : ℕ) → marked zeros d ≡ false = λ d. ap (λ (w : List ℕ). marked w d) c.fill.ensures ∙ zeroed c.args.work.now d in
-    let many : length zeros ≡ card_cells words = c.fill.auto.d ∙ c.requires.1 in
+    let cleared : zeros ≡ replicate (length c.args.work.now) 0 = search rules in
+    let no_marks : (d : ℕ) → marked zeros d ≡ false = λ d. ap (λ (w : List ℕ). marked w d) cleared ∙ zeroed (length c.args.work.now) d in
+    let many : length zeros ≡ card_cells words = c.fill.auto.self ∙ c.requires in
     let sized : length zeros ≡ played.size = many ∙ sym (size_of words) in
-    let few : length zeros ≤ half_values = omega (arith, sized, (fitting words c.requires.0).cells) in
+    let few : length zeros ≤ half_values = omega (arith, sized, (fitting words c.args.card.checked).cells) in
     let first : ℕ = c.first_named-first.result.0 in
     let inside : first < length zeros = omega (arith, c.first_named-first.ensures.inside, sized) in
     let one_is : c.put_lower.new.work ≡ put_lower zeros first 1 = c.put_lower.ensures in
@@ -43,18 +45,19 @@ mark_named-requires c =
     let own : Own c.put_lower.new.work first = subst (λ (w : List ℕ). Own w first) (sym one_is)
     (record { inside = omega (arith, inside, put_lower_length zeros first 1); is_marked = one_marked zeros no_marks first inside few }) in
     let listing : Listing c.put_lower.new.work 1 first = subst (λ (w : List ℕ). Listing w 1 first) (sym one_is) (one_listing zeros no_marks first inside few) in
-    let naming : Naming words 1 c.observations.result (length c.put_lower.new.work) = firsts_naming words c.requires.0 _ _ c.observations.ensures one_long in
+    let naming : Naming words 1 c.observations.result (length c.put_lower.new.work) = firsts_naming words c.args.card.checked _ _ c.observations.ensures one_long in
     (naming, listing, own)
 
 pub returns : goal.returns
 returns c =
-    let words : List ℕ = c.args.card.now in
-    let zeros : List ℕ = c.fill.new.d in
+    let words : List ℕ = c.args.card.words.now in
+    let zeros : List ℕ = c.fill.new.self in
     let played : Automaton = automaton words in
-    let no_marks : (d : ℕ) → marked zeros d ≡ false = λ d. ap (λ (w : List ℕ). marked w d) c.fill.ensures ∙ zeroed c.args.work.now d in
-    let many : length zeros ≡ card_cells words = c.fill.auto.d ∙ c.requires.1 in
+    let cleared : zeros ≡ replicate (length c.args.work.now) 0 = search rules in
+    let no_marks : (d : ℕ) → marked zeros d ≡ false = λ d. ap (λ (w : List ℕ). marked w d) cleared ∙ zeroed (length c.args.work.now) d in
+    let many : length zeros ≡ card_cells words = c.fill.auto.self ∙ c.requires in
     let sized : length zeros ≡ played.size = many ∙ sym (size_of words) in
-    let few : length zeros ≤ half_values = omega (arith, sized, (fitting words c.requires.0).cells) in
+    let few : length zeros ≤ half_values = omega (arith, sized, (fitting words c.args.card.checked).cells) in
     let first : ℕ = c.first_named-first.result.0 in
     let inside : first < length zeros = omega (arith, c.first_named-first.ensures.inside, sized) in
     let one_is : c.put_lower.new.work ≡ put_lower zeros first 1 = c.put_lower.ensures in
@@ -63,6 +66,6 @@ returns c =
     let A = played in
     let o = card_observations w in
     begun zeros no_marks first inside few A o sized c.first_named-first.ensures c.mark_named.new.work c.mark_named.result.cells c.mark_named.result.next.0
-    (added_ext (named_from w 1) A.begins o _ 1 first c.mark_named.new.work c.mark_named.result.cells c.mark_named.result.next.0 (first_name w c.requires.0 _ _ c.observations.ensures one_long)
+    (added_ext (named_from w 1) A.begins o _ 1 first c.mark_named.new.work c.mark_named.result.cells c.mark_named.result.next.0 (first_name w c.args.card.checked _ _ c.observations.ensures one_long)
     (subst (λ (u : List ℕ). Added (named_from w 1) o u 1 first c.mark_named.new.work c.mark_named.result.cells c.mark_named.result.next.0) one_is
     (subst (λ (n : ℕ). Added (named_from w 1) n c.put_lower.new.work 1 first c.mark_named.new.work c.mark_named.result.cells c.mark_named.result.next.0) c.observations.ensures c.mark_named.ensures)))

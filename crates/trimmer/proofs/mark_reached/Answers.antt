@@ -1,10 +1,10 @@
-use mathlib.Core.Path.{◌≡◌, sym, ◌∙◌, subst}
+use mathlib.Core.Path.{◌≡◌, sym, ap, ◌∙◌, subst}
 use mathlib.Core.List.{List}
 use Prim.Native.Nat.{ℕ, ◌+◌, ◌≤◌, ◌<◌}
 use native.Mathlib.Omega.{arith}
 use lib.ListN.{length}
 use Rattle.games.specs.Automaton.{Automaton}
-use Rattle.cards.specs.Card.{card_cells, card_observations, automaton, checked, Fitting, card_actions}
+use Rattle.cards.specs.Card.{card_cells, card_observations, cell_place, automaton, checked, Fitting, card_actions}
 use Rattle.cards.proofs.Checked.{fitting}
 use Rattle.cards.proofs.Running.{size_of}
 use Rattle.sets.proofs.Bounded.{count_le}
@@ -15,9 +15,6 @@ use Rattle.trimmer.proofs.Naming.{next_name, nexts_naming}
 use Rattle.trimmer.proofs.mark_reached.Goals as goal
 use Rattle.std.specs.Prelude.{Ok}
 
-pub observations-o-requires : goal.observations-o-requires
-observations-o-requires c = c.requires.0
-
 pub mark_firsts-waiting-requires : goal.mark_firsts-waiting-requires
 mark_firsts-waiting-requires c = c.requires
 
@@ -26,20 +23,12 @@ loop-waiting-init c = c.mark_firsts-waiting.ensures
 
 pub cell_place-at-requires : goal.cell_place-at-requires
 cell_place-at-requires c =
-    let words : List ℕ = c.args.card.now in
-    let played : Automaton = automaton words in
-    let o : ℕ = c.observations-o.result in
-    let fine : checked words ≡ Ok tt = c.requires.0 in
-    let fits : Fitting played (card_actions words) (card_observations words) = fitting words fine in
-    let seen : o ≡ card_observations words = c.observations-o.ensures in
-    let some : 0 < c.loop-waiting.waiting.cells = c.loop-waiting-test.true in
-    let cell : ℕ = c.loop-waiting.waiting.next.0 in
-    let inside : cell < played.size = next_inside played (card_observations words) c.loop-waiting.taken c.loop-waiting.work _ cell c.loop-waiting.invariant some in
-    (omega (arith, seen, fits.observations), omega (arith, inside, fits.cells))
+    let A : Automaton = automaton c.args.card.words.now in
+    omega (arith, next_inside A (card_observations c.args.card.words.now) c.loop-waiting.taken c.loop-waiting.work _ c.loop-waiting.waiting.next.0 c.loop-waiting.invariant c.loop-waiting-test.true, size_of c.args.card.words.now)
 
 pub behind_next-others-requires : goal.behind_next-others-requires
 behind_next-others-requires c =
-    let words : List ℕ = c.args.card.now in
+    let words : List ℕ = c.args.card.words.now in
     let played : Automaton = automaton words in
     let few : c.loop-waiting.taken + c.loop-waiting.waiting.cells ≤ played.size = omega (arith, c.loop-waiting.invariant.many, count_le played.size (marked c.loop-waiting.work)) in
     let some : 0 < c.loop-waiting.waiting.cells = c.loop-waiting-test.true in
@@ -47,25 +36,25 @@ behind_next-others-requires c =
 
 pub overflow_add-at : goal.overflow_add-at
 overflow_add-at c =
-    let words : List ℕ = c.args.card.now in
+    let words : List ℕ = c.args.card.words.now in
     let played : Automaton = automaton words in
     let o : ℕ = c.observations-o.result in
-    let fine : checked words ≡ Ok tt = c.requires.0 in
+    let fine : checked words ≡ Ok tt = c.args.card.checked in
     let seen : o ≡ card_observations words = c.observations-o.ensures in
     let many : length c.loop-waiting.work ≡ card_cells words = c.loop-waiting.invariant.size ∙ size_of words in
     let some : 0 < c.loop-waiting.waiting.cells = c.loop-waiting-test.true in
     let cell : ℕ = c.loop-waiting.waiting.next.0 in
     let inside : cell < played.size = next_inside played (card_observations words) c.loop-waiting.taken c.loop-waiting.work _ cell c.loop-waiting.invariant some in
     let below : cell < card_cells words = omega (arith, inside, size_of words) in
-    let naming : Naming words (c.cell_place-at.result + 1) o (length c.loop-waiting.work) = nexts_naming words fine _ _ seen many cell _ below c.cell_place-at.ensures in
+    let naming : Naming words (c.cell_place-at.result + 1) o (length c.loop-waiting.work) = nexts_naming words fine _ _ seen many cell _ below (c.cell_place-at.ensures ∙ ap (λ (n : ℕ). cell_place n cell) (sym seen)) in
     omega (arith, naming.within)
 
 pub mark_named-waiting-requires : goal.mark_named-waiting-requires
 mark_named-waiting-requires c =
-    let words : List ℕ = c.args.card.now in
+    let words : List ℕ = c.args.card.words.now in
     let played : Automaton = automaton words in
     let o : ℕ = c.observations-o.result in
-    let fine : checked words ≡ Ok tt = c.requires.0 in
+    let fine : checked words ≡ Ok tt = c.args.card.checked in
     let seen : o ≡ card_observations words = c.observations-o.ensures in
     let many : length c.loop-waiting.work ≡ card_cells words = c.loop-waiting.invariant.size ∙ size_of words in
     let some : 0 < c.loop-waiting.waiting.cells = c.loop-waiting-test.true in
@@ -76,15 +65,15 @@ mark_named-waiting-requires c =
       inside = omega (arith, inside, c.loop-waiting.invariant.size);
       is_marked = next_marked played (card_observations words) c.loop-waiting.taken c.loop-waiting.work _ cell c.loop-waiting.invariant some;
     } in
-    let naming : Naming words (c.cell_place-at.result + 1) o (length c.loop-waiting.work) = nexts_naming words fine _ _ seen many cell _ below c.cell_place-at.ensures in
+    let naming : Naming words (c.cell_place-at.result + 1) o (length c.loop-waiting.work) = nexts_naming words fine _ _ seen many cell _ below (c.cell_place-at.ensures ∙ ap (λ (n : ℕ). cell_place n cell) (sym seen)) in
     let listing : Listing c.loop-waiting.work c.behind_next-others.result.cells c.behind_next-others.result.next.0 = rest_listing played (card_observations words) c.loop-waiting.taken c.loop-waiting.work _ cell c.loop-waiting.invariant some _ _ c.behind_next-others.ensures.0 c.behind_next-others.ensures.1 c.behind_next-others.ensures.2 in
     (naming, listing, own)
 
 pub overflow_add-taken : goal.overflow_add-taken
 overflow_add-taken c =
-    let words : List ℕ = c.args.card.now in
+    let words : List ℕ = c.args.card.words.now in
     let played : Automaton = automaton words in
-    let fine : checked words ≡ Ok tt = c.requires.0 in
+    let fine : checked words ≡ Ok tt = c.args.card.checked in
     let fits : Fitting played (card_actions words) (card_observations words) = fitting words fine in
     let few : c.loop-waiting.taken + c.loop-waiting.waiting.cells ≤ played.size = omega (arith, c.loop-waiting.invariant.many, count_le played.size (marked c.loop-waiting.work)) in
     let some : 0 < c.loop-waiting.waiting.cells = c.loop-waiting-test.true in
@@ -92,7 +81,7 @@ overflow_add-taken c =
 
 pub loop-waiting-smaller : goal.loop-waiting-smaller
 loop-waiting-smaller c =
-    let words : List ℕ = c.args.card.now in
+    let words : List ℕ = c.args.card.words.now in
     let played : Automaton = automaton words in
     let few : c.loop-waiting.taken + c.loop-waiting.waiting.cells ≤ played.size = omega (arith, c.loop-waiting.invariant.many, count_le played.size (marked c.loop-waiting.work)) in
     let first_many : length c.mark_firsts-waiting.new.work ≡ played.size = c.mark_firsts-waiting.ensures.size in
@@ -101,10 +90,10 @@ loop-waiting-smaller c =
 
 pub loop-waiting-preserved : goal.loop-waiting-preserved
 loop-waiting-preserved c =
-    let words : List ℕ = c.args.card.now in
+    let words : List ℕ = c.args.card.words.now in
     let played : Automaton = automaton words in
     let o : ℕ = c.observations-o.result in
-    let fine : checked words ≡ Ok tt = c.requires.0 in
+    let fine : checked words ≡ Ok tt = c.args.card.checked in
     let seen : o ≡ card_observations words = c.observations-o.ensures in
     let many : length c.loop-waiting.work ≡ card_cells words = c.loop-waiting.invariant.size ∙ size_of words in
     let some : 0 < c.loop-waiting.waiting.cells = c.loop-waiting-test.true in
@@ -116,17 +105,17 @@ loop-waiting-preserved c =
     let name = named_from w (c.cell_place-at.result + 1) in
     taking_more A (card_observations w) c.loop-waiting.taken c.loop-waiting.work _ cell c.loop-waiting.invariant some c.behind_next-others.result.cells c.behind_next-others.result.next.0 c.behind_next-others.ensures.0 c.behind_next-others.ensures.1 c.mark_named-waiting.new.work c.mark_named-waiting.result.cells c.mark_named-waiting.result.next.0
     (added_ext name (A.next cell) (card_observations w) c.loop-waiting.work c.behind_next-others.result.cells c.behind_next-others.result.next.0 c.mark_named-waiting.new.work c.mark_named-waiting.result.cells c.mark_named-waiting.result.next.0
-    (next_name w fine _ _ seen many cell _ below c.cell_place-at.ensures)
+    (next_name w fine _ _ seen many cell _ below (c.cell_place-at.ensures ∙ ap (λ (n : ℕ). cell_place n cell) (sym seen)))
     (subst (λ (n : ℕ). Added name n c.loop-waiting.work c.behind_next-others.result.cells c.behind_next-others.result.next.0 c.mark_named-waiting.new.work c.mark_named-waiting.result.cells c.mark_named-waiting.result.next.0) seen c.mark_named-waiting.ensures))
 
 pub shape_of-work : goal.shape_of-work
 shape_of-work c =
-    let words : List ℕ = c.args.card.now in
+    let words : List ℕ = c.args.card.words.now in
     let many : length c.loop-waiting.work ≡ card_cells words = c.loop-waiting.invariant.size ∙ size_of words in
-    many ∙ sym c.requires.1
+    many ∙ sym c.requires
 
 pub returns : goal.returns
 returns c =
-    let words : List ℕ = c.args.card.now in
+    let words : List ℕ = c.args.card.words.now in
     let played : Automaton = automaton words in
     taking_end played (card_observations words) c.loop-waiting.taken c.loop-waiting.work _ _ c.loop-waiting.invariant c.loop-waiting-test.false

@@ -7,7 +7,7 @@ use Rattle.trimmer.specs.Marking.{Taking}
 use Rattle.trimmer.proofs.mark_reached.Given as goal
 
 abbrev pub invariant-loop-waiting : goal.invariant-loop-waiting
-invariant-loop-waiting l = Taking (automaton l.card) (card_observations l.card) l.taken l.work l.waiting.cells l.waiting.next.0
+invariant-loop-waiting l = Taking (automaton l.card.words.now) (card_observations l.card.words.now) l.taken l.work l.waiting.cells l.waiting.next.0
 
 abbrev pub decreases-loop-waiting : goal.decreases-loop-waiting
 decreases-loop-waiting l = length l.initial.work - l.taken

@@ -14,25 +14,24 @@ use Rattle.trimmer.proofs.write_marked.Goals as goal
 
 pub copy_card-requires : goal.copy_card-requires
 copy_card-requires c =
-    let words : List ℕ = c.args.card.now in
+    let words : List ℕ = c.args.card.words.now in
     let same : trimmed words ≡ words = let w = words in
-    full_trimmed w c.requires.0 (sym c.requires.1.many ∙ c.if-kept-cells.true ∙ c.cells.ensures ∙ sym (size_of w)) in
-    subst (λ (w : List ℕ). length w ≤ length c.args.out.now) same c.requires.2
+    full_trimmed w c.args.card.checked (sym c.requires.0.many ∙ c.if-kept-cells.true ∙ c.cells.ensures ∙ sym (size_of w)) in
+    subst (λ (w : List ℕ). length w ≤ length c.args.out.now) same c.requires.1
 
 pub returns-then-kept-cells : goal.returns-then-kept-cells
 returns-then-kept-cells c =
-    let words : List ℕ = c.args.card.now in
+    let words : List ℕ = c.args.card.words.now in
     let same : trimmed words ≡ words = let w = words in
-    full_trimmed w c.requires.0 (sym c.requires.1.many ∙ c.if-kept-cells.true ∙ c.cells.ensures ∙ sym (size_of w)) in
+    full_trimmed w c.args.card.checked (sym c.requires.0.many ∙ c.if-kept-cells.true ∙ c.cells.ensures ∙ sym (size_of w)) in
     c.copy_card.ensures ∙ ap (λ (w : List ℕ). w ++ drop (length w) c.args.out.now) (sym same)
 
 pub number-requires : goal.number-requires
-number-requires c = omega (arith, c.requires.1.size, (fitting c.args.card.now c.requires.0).cells)
+number-requires c = omega (arith, c.requires.0.size, (fitting c.args.card.words.now c.args.card.checked).cells)
 
 pub write_trimmed-requires : goal.write_trimmed-requires
 write_trimmed-requires c = (
-  c.requires.0,
-  numbered_new (automaton c.args.card.now) (card_observations c.args.card.now) c.args.kept c.args.work.now c.number.new.work (fitting c.args.card.now c.requires.0).cells c.requires.1 c.number.ensures,
-  c.requires.1.many,
-  c.requires.2,
+  numbered_new (automaton c.args.card.words.now) (card_observations c.args.card.words.now) c.args.kept c.args.work.now c.number.new.work (fitting c.args.card.words.now c.args.card.checked).cells c.requires.0 c.number.ensures,
+  c.requires.0.many,
+  c.requires.1,
 )

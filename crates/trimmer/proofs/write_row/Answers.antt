@@ -11,7 +11,7 @@ use Rattle.trimmer.proofs.Writing.{name_small}
 use Rattle.trimmer.proofs.write_row.Goals as goal
 
 pub loop-j-init : goal.loop-j-init
-loop-j-init c = (omega arith, filled_none _ _ c.args.out.now c.requires.3)
+loop-j-init c = filled_none _ _ c.args.out.now c.requires.3
 
 pub overflow_add-at : goal.overflow_add-at
 overflow_add-at c =
@@ -42,44 +42,36 @@ naming-requires c =
 
 pub overflow_add-out : goal.overflow_add-out
 overflow_add-out c =
-    let in_room : 1 + c.loop-j.j < length c.loop-j.out = omega (arith, c.loop-j-test.true, c.loop-j.invariant.1.size) in
+    let in_room : 1 + c.loop-j.j < length c.loop-j.out = omega (arith, c.loop-j-test.true, c.loop-j.invariant.size) in
     omega (arith, in_room)
 
 pub offset_bounds-out-j : goal.offset_bounds-out-j
 offset_bounds-out-j c =
-    let in_room : 1 + c.loop-j.j < length c.loop-j.out = omega (arith, c.loop-j-test.true, c.loop-j.invariant.1.size) in
+    let in_room : 1 + c.loop-j.j < length c.loop-j.out = omega (arith, c.loop-j-test.true, c.loop-j.invariant.size) in
     omega (arith, in_room)
 
 pub bounds-out-j : goal.bounds-out-j
 bounds-out-j c =
-    let in_room : 1 + c.loop-j.j < length c.loop-j.out = omega (arith, c.loop-j-test.true, c.loop-j.invariant.1.size) in
+    let in_room : 1 + c.loop-j.j < length c.loop-j.out = omega (arith, c.loop-j-test.true, c.loop-j.invariant.size) in
     in_room
-
-pub overflow_add-j : goal.overflow_add-j
-overflow_add-j c = omega (arith, c.loop-j-test.true)
-
-pub loop-j-smaller : goal.loop-j-smaller
-loop-j-smaller c = omega (arith, c.loop-j-test.true)
 
 pub loop-j-preserved : goal.loop-j-preserved
 loop-j-preserved c =
     let names : ℕ → ℕ = named_from c.args.card.now c.args.at in
     let written : ℕ → ℕ = λ i. word c.args.kind (new_name c.args.work.now (names i)) i 0 in
-    let new : c.new_name-new.result.0 ≡ new_name c.args.work.now (names c.loop-j.j) = c.new_name-new.ensures ∙ ap (new_name c.args.work.now) c.low_field-cell.ensures in (
-      omega (arith, c.loop-j-test.true),
+    let new : c.new_name-new.result.0 ≡ new_name c.args.work.now (names c.loop-j.j) = c.new_name-new.ensures ∙ ap (new_name c.args.work.now) c.low_field-cell.ensures in
       filled_more c.args.count written c.loop-j.j c.loop-j.out c.naming.result c.loop-j-test.true
-          (c.naming.ensures ∙ ap (λ (y : ℕ). word c.args.kind y c.loop-j.j 0) new) c.loop-j.invariant.1,
-    )
+          (c.naming.ensures ∙ ap (λ (y : ℕ). word c.args.kind y c.loop-j.j 0) new) c.loop-j.invariant
 
 pub bounds-out-0 : goal.bounds-out-0
-bounds-out-0 c = omega (arith, c.loop-j.invariant.1.size)
+bounds-out-0 c = omega (arith, c.loop-j.invariant.size)
 
 pub shape_of-out : goal.shape_of-out
-shape_of-out c = length-set c.loop-j.out 0 _ ∙ c.loop-j.invariant.1.size ∙ sym c.requires.3
+shape_of-out c = length-set c.loop-j.out 0 _ ∙ c.loop-j.invariant.size ∙ sym c.requires.3
 
 pub returns : goal.returns
 unfolding row_words
 returns c =
     let names : ℕ → ℕ = named_from c.args.card.now c.args.at in
     let written : ℕ → ℕ = λ i. word c.args.kind (new_name c.args.work.now (names i)) i 0 in
-    filled_end c.args.count written c.loop-j.j c.loop-j.out c.args.own c.loop-j-test.false c.loop-j.invariant.0 c.loop-j.invariant.1
+    filled_end c.args.count written c.loop-j.j c.loop-j.out c.args.own c.loop-j-test.false c.loop-j.auto.j-end c.loop-j.invariant

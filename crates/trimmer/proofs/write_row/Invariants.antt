@@ -1,5 +1,4 @@
 -- `trimmer::write_row` meets its contract. The loop's invariant: the words for the observations below j are written.
-use Prim.Native.Nat.{◌≤◌, ◌-◌}
 use Rattle.games.specs.Fields.{word}
 use Rattle.cards.proofs.Parts.{Filled}
 use Rattle.trimmer.specs.Marking.{named_from}
@@ -7,7 +6,4 @@ use Rattle.trimmer.specs.Numbering.{new_name}
 use Rattle.trimmer.proofs.write_row.Given as goal
 
 abbrev pub invariant-loop-j : goal.invariant-loop-j
-invariant-loop-j l = (l.j ≤ l.count) × Filled l.count (λ i. word l.kind (new_name l.work (named_from l.card l.at i)) i 0) l.j l.out
-
-abbrev pub decreases-loop-j : goal.decreases-loop-j
-decreases-loop-j l = l.count - l.j
+invariant-loop-j l = Filled l.count (λ i. word l.kind (new_name l.work (named_from l.card l.at i)) i 0) l.j l.out

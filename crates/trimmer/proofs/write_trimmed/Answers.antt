@@ -20,23 +20,17 @@ use Rattle.trimmer.proofs.Writing.{front_of, front_long, front_is, kept_inside, 
 use Rattle.trimmer.proofs.write_trimmed.Goals as goal
 use Rattle.std.specs.Prelude.{Ok}
 
-pub observations-o-requires : goal.observations-o-requires
-observations-o-requires c = c.requires.0
-
-pub actions-requires : goal.actions-requires
-actions-requires c = c.requires.0
-
 pub heading-head-requires : goal.heading-head-requires
 heading-head-requires c =
-    let F = fitting c.args.card.now c.requires.0 in (
-      omega (arith, c.requires.2, kept_few (automaton c.args.card.now) (card_observations c.args.card.now), F.cells),
+    let F = fitting c.args.card.words.now c.args.card.checked in (
+      omega (arith, c.requires.1, kept_few (automaton c.args.card.words.now) (card_observations c.args.card.words.now), F.cells),
       omega (arith, c.observations-o.ensures, F.observations),
       omega (arith, c.actions.ensures, F.actions),
     )
 
 pub slice_bounds-write_row-end : goal.slice_bounds-write_row-end
 slice_bounds-write_row-end c =
-    let words : List ℕ = c.args.card.now in
+    let words : List ℕ = c.args.card.words.now in
     let room : List ℕ = c.args.out.now in
     let seen : ℕ = card_observations words in
     let many : ℕ = c.args.kept in
@@ -44,14 +38,14 @@ slice_bounds-write_row-end c =
     let front : ℕ = c.front_length-front.result in
     let o_is : o ≡ seen = c.observations-o.ensures in
     let front_length_is : front ≡ front_length seen = c.front_length-front.ensures ∙ ap front_length o_is in
-    let long : length (trimmed words) ≡ card_length many seen = trimmed_long words ∙ ap (λ (m : ℕ). card_length m seen) (sym c.requires.2) in
-    let enough : card_length many seen ≤ length room = subst (λ (n : ℕ). n ≤ length room) long c.requires.3 in
+    let long : length (trimmed words) ≡ card_length many seen = trimmed_long words ∙ ap (λ (m : ℕ). card_length m seen) (sym c.requires.1) in
+    let enough : card_length many seen ≤ length room = subst (λ (n : ℕ). n ≤ length room) long c.requires.2 in
     let front_fits : front ≤ length room = omega (arith, front_length_is, front_within many seen (length room) enough) in
     front_fits
 
 pub slice_bounds-write_row-end-2 : goal.slice_bounds-write_row-end-2
 slice_bounds-write_row-end-2 c =
-    let words : List ℕ = c.args.card.now in
+    let words : List ℕ = c.args.card.words.now in
     let room : List ℕ = c.args.out.now in
     let seen : ℕ = card_observations words in
     let many : ℕ = c.args.kept in
@@ -59,28 +53,28 @@ slice_bounds-write_row-end-2 c =
     let front : ℕ = c.front_length-front.result in
     let o_is : o ≡ seen = c.observations-o.ensures in
     let front_length_is : front ≡ front_length seen = c.front_length-front.ensures ∙ ap front_length o_is in
-    let long : length (trimmed words) ≡ card_length many seen = trimmed_long words ∙ ap (λ (m : ℕ). card_length m seen) (sym c.requires.2) in
-    let enough : card_length many seen ≤ length room = subst (λ (n : ℕ). n ≤ length room) long c.requires.3 in
+    let long : length (trimmed words) ≡ card_length many seen = trimmed_long words ∙ ap (λ (m : ℕ). card_length m seen) (sym c.requires.1) in
+    let enough : card_length many seen ≤ length room = subst (λ (n : ℕ). n ≤ length room) long c.requires.2 in
     let front_fits : front ≤ length room = omega (arith, front_length_is, front_within many seen (length room) enough) in
     sym (length-take-le _ _ front_fits)
 
 pub write_row-requires : goal.write_row-requires
 write_row-requires c =
-    let words : List ℕ = c.args.card.now in
+    let words : List ℕ = c.args.card.words.now in
     let room : List ℕ = c.args.out.now in
     let seen : ℕ = card_observations words in
     let many : ℕ = c.args.kept in
     let o : ℕ = c.observations-o.result in
     let front : ℕ = c.front_length-front.result in
-    let fine : checked words ≡ Ok tt = c.requires.0 in
+    let fine : checked words ≡ Ok tt = c.args.card.checked in
     let fits : Fitting (automaton words) (card_actions words) seen = fitting words fine in
     let o_is : o ≡ seen = c.observations-o.ensures in
     let front_length_is : front ≡ front_length seen = c.front_length-front.ensures ∙ ap front_length o_is in
-    let long : length (trimmed words) ≡ card_length many seen = trimmed_long words ∙ ap (λ (m : ℕ). card_length m seen) (sym c.requires.2) in
-    let enough : card_length many seen ≤ length room = subst (λ (n : ℕ). n ≤ length room) long c.requires.3 in
+    let long : length (trimmed words) ≡ card_length many seen = trimmed_long words ∙ ap (λ (m : ℕ). card_length m seen) (sym c.requires.1) in
+    let enough : card_length many seen ≤ length room = subst (λ (n : ℕ). n ≤ length room) long c.requires.2 in
     let front_fits : front ≤ length room = omega (arith, front_length_is, front_within many seen (length room) enough) in
-    let work_long : length c.args.work.now ≡ card_cells words = c.requires.1.size ∙ size_of words in
-    let some_work : 0 < length c.args.work.now = omega (arith, c.requires.1.size, fits.some_cell) in (
+    let work_long : length c.args.work.now ≡ card_cells words = c.requires.0.size ∙ size_of words in
+    let some_work : 0 < length c.args.work.now = omega (arith, c.requires.0.size, fits.some_cell) in (
       firsts_naming words fine _ _ o_is work_long,
       omega (arith, o_is, fits.observations),
       omega arith,
@@ -90,7 +84,7 @@ write_row-requires c =
 
 pub loop-i-init : goal.loop-i-init
 loop-i-init c =
-    let words : List ℕ = c.args.card.now in
+    let words : List ℕ = c.args.card.words.now in
     let room : List ℕ = c.args.out.now in
     let seen : ℕ = card_observations words in
     let many : ℕ = c.args.kept in
@@ -98,99 +92,98 @@ loop-i-init c =
     let parts : ℕ → List ℕ = cell_words left seen in
     let o : ℕ = c.observations-o.result in
     let front : ℕ = c.front_length-front.result in
-    let fine : checked words ≡ Ok tt = c.requires.0 in
+    let fine : checked words ≡ Ok tt = c.args.card.checked in
     let o_is : o ≡ seen = c.observations-o.ensures in
     let front_length_is : front ≡ front_length seen = c.front_length-front.ensures ∙ ap front_length o_is in
-    let long : length (trimmed words) ≡ card_length many seen = trimmed_long words ∙ ap (λ (m : ℕ). card_length m seen) (sym c.requires.2) in
-    let enough : card_length many seen ≤ length room = subst (λ (n : ℕ). n ≤ length room) long c.requires.3 in
+    let long : length (trimmed words) ≡ card_length many seen = trimmed_long words ∙ ap (λ (m : ℕ). card_length m seen) (sym c.requires.1) in
+    let enough : card_length many seen ≤ length room = subst (λ (n : ℕ). n ≤ length room) long c.requires.2 in
     let row : List ℕ = c.write_row.new.out in
     let row_is : row ≡ front_of left (card_actions words) seen = c.write_row.ensures
-    ∙ front_is words fine c.args.work.now c.requires.1 o many o_is c.requires.2 _ _ c.actions.ensures c.heading-head.ensures in
+    ∙ front_is words fine c.args.work.now c.requires.0 o many o_is c.requires.1 _ _ c.actions.ensures c.heading-head.ensures in
     let row_long : length (front_of left (card_actions words) seen) ≡ front_length seen = front_long left (card_actions words) seen in
     carded_none seen many parts _
     (fronted_room seen many parts _ front front_length_is row_long room row row_is enough)
 
 pub upper-requires : goal.upper-requires
 upper-requires c =
-    let words : List ℕ = c.args.card.now in
+    let words : List ℕ = c.args.card.words.now in
     let seen : ℕ = card_observations words in
-    let work_long : length c.args.work.now ≡ card_cells words = c.requires.1.size ∙ size_of words in
-    omega (arith, c.loop-i-test.true, work_long, c.requires.2, kept_few (automaton words) seen, size_of words)
+    let work_long : length c.args.work.now ≡ card_cells words = c.requires.0.size ∙ size_of words in
+    omega (arith, c.loop-i-test.true, work_long, c.requires.1, kept_few (automaton words) seen, size_of words)
 
 pub cell_place-from-requires : goal.cell_place-from-requires
 cell_place-from-requires c =
-    let words : List ℕ = c.args.card.now in
+    let words : List ℕ = c.args.card.words.now in
     let seen : ℕ = card_observations words in
     let many : ℕ = c.args.kept in
     let o : ℕ = c.observations-o.result in
-    let fine : checked words ≡ Ok tt = c.requires.0 in
-    let fits : Fitting (automaton words) (card_actions words) seen = fitting words fine in
+    let fine : checked words ≡ Ok tt = c.args.card.checked in
     let o_is : o ≡ seen = c.observations-o.ensures in
-    let inside : c.upper.result < card_cells words = kept_inside words fine c.args.work.now c.requires.1 o many o_is c.requires.2 c.loop-i.i c.upper.result c.loop-i-test.true c.upper.ensures in
-    (omega (arith, o_is, fits.observations), omega (arith, inside, size_of words, fits.cells))
+    let inside : c.upper.result < card_cells words = kept_inside words fine c.args.work.now c.requires.0 o many o_is c.requires.1 c.loop-i.i c.upper.result c.loop-i-test.true c.upper.ensures in
+    inside
 
-pub offset_bounds-card-from : goal.offset_bounds-card-from
-offset_bounds-card-from c =
-    let words : List ℕ = c.args.card.now in
+pub offset_bounds-words-from : goal.offset_bounds-words-from
+offset_bounds-words-from c =
+    let words : List ℕ = c.args.card.words.now in
     let seen : ℕ = card_observations words in
     let many : ℕ = c.args.kept in
     let o : ℕ = c.observations-o.result in
-    let fine : checked words ≡ Ok tt = c.requires.0 in
+    let fine : checked words ≡ Ok tt = c.args.card.checked in
     let o_is : o ≡ seen = c.observations-o.ensures in
-    let inside : c.upper.result < card_cells words = kept_inside words fine c.args.work.now c.requires.1 o many o_is c.requires.2 c.loop-i.i c.upper.result c.loop-i-test.true c.upper.ensures in
-    let from_is : c.cell_place-from.result ≡ cell_place seen c.upper.result = c.cell_place-from.ensures ∙ ap (λ (n : ℕ). cell_place n c.upper.result) o_is in
+    let inside : c.upper.result < card_cells words = kept_inside words fine c.args.work.now c.requires.0 o many o_is c.requires.1 c.loop-i.i c.upper.result c.loop-i-test.true c.upper.ensures in
+    let from_is : c.cell_place-from.result ≡ cell_place seen c.upper.result = c.cell_place-from.ensures in
     let from_in : c.cell_place-from.result < length words = subst (λ (p : ℕ). p < length words) (sym from_is) (cell_in words fine c.upper.result inside) in
     omega (arith, from_in)
 
-pub bounds-card-from : goal.bounds-card-from
-bounds-card-from c =
-    let words : List ℕ = c.args.card.now in
+pub bounds-words-from : goal.bounds-words-from
+bounds-words-from c =
+    let words : List ℕ = c.args.card.words.now in
     let seen : ℕ = card_observations words in
     let many : ℕ = c.args.kept in
     let o : ℕ = c.observations-o.result in
-    let fine : checked words ≡ Ok tt = c.requires.0 in
+    let fine : checked words ≡ Ok tt = c.args.card.checked in
     let o_is : o ≡ seen = c.observations-o.ensures in
-    let inside : c.upper.result < card_cells words = kept_inside words fine c.args.work.now c.requires.1 o many o_is c.requires.2 c.loop-i.i c.upper.result c.loop-i-test.true c.upper.ensures in
-    let from_is : c.cell_place-from.result ≡ cell_place seen c.upper.result = c.cell_place-from.ensures ∙ ap (λ (n : ℕ). cell_place n c.upper.result) o_is in
+    let inside : c.upper.result < card_cells words = kept_inside words fine c.args.work.now c.requires.0 o many o_is c.requires.1 c.loop-i.i c.upper.result c.loop-i-test.true c.upper.ensures in
+    let from_is : c.cell_place-from.result ≡ cell_place seen c.upper.result = c.cell_place-from.ensures in
     let from_in : c.cell_place-from.result < length words = subst (λ (p : ℕ). p < length words) (sym from_is) (cell_in words fine c.upper.result inside) in
     from_in
 
 pub cell_place-at-requires : goal.cell_place-at-requires
 cell_place-at-requires c =
-    let words : List ℕ = c.args.card.now in
+    let words : List ℕ = c.args.card.words.now in
     let seen : ℕ = card_observations words in
     let many : ℕ = c.args.kept in
     let o : ℕ = c.observations-o.result in
-    let fine : checked words ≡ Ok tt = c.requires.0 in
+    let fine : checked words ≡ Ok tt = c.args.card.checked in
     let fits : Fitting (automaton words) (card_actions words) seen = fitting words fine in
     let o_is : o ≡ seen = c.observations-o.ensures in
-    let few : many ≤ max_cells = omega (arith, c.requires.2, kept_few (automaton words) seen, fits.cells) in
+    let few : many ≤ max_cells = omega (arith, c.requires.1, kept_few (automaton words) seen, fits.cells) in
     (omega (arith, o_is, fits.observations), omega (arith, c.loop-i-test.true, few))
 
 pub overflow_add-from : goal.overflow_add-from
 overflow_add-from c =
-    let words : List ℕ = c.args.card.now in
+    let words : List ℕ = c.args.card.words.now in
     let seen : ℕ = card_observations words in
     let many : ℕ = c.args.kept in
     let o : ℕ = c.observations-o.result in
-    let fine : checked words ≡ Ok tt = c.requires.0 in
+    let fine : checked words ≡ Ok tt = c.args.card.checked in
     let o_is : o ≡ seen = c.observations-o.ensures in
-    let inside : c.upper.result < card_cells words = kept_inside words fine c.args.work.now c.requires.1 o many o_is c.requires.2 c.loop-i.i c.upper.result c.loop-i-test.true c.upper.ensures in
-    let from_is : c.cell_place-from.result ≡ cell_place seen c.upper.result = c.cell_place-from.ensures ∙ ap (λ (n : ℕ). cell_place n c.upper.result) o_is in
+    let inside : c.upper.result < card_cells words = kept_inside words fine c.args.work.now c.requires.0 o many o_is c.requires.1 c.loop-i.i c.upper.result c.loop-i-test.true c.upper.ensures in
+    let from_is : c.cell_place-from.result ≡ cell_place seen c.upper.result = c.cell_place-from.ensures in
     let from_in : c.cell_place-from.result < length words = subst (λ (p : ℕ). p < length words) (sym from_is) (cell_in words fine c.upper.result inside) in
     omega (arith, from_in)
 
 pub overflow_add-at : goal.overflow_add-at
 overflow_add-at c =
-    let words : List ℕ = c.args.card.now in
+    let words : List ℕ = c.args.card.words.now in
     let seen : ℕ = card_observations words in
     let many : ℕ = c.args.kept in
     let o : ℕ = c.observations-o.result in
-    let fine : checked words ≡ Ok tt = c.requires.0 in
+    let fine : checked words ≡ Ok tt = c.args.card.checked in
     let fits : Fitting (automaton words) (card_actions words) seen = fitting words fine in
     let o_is : o ≡ seen = c.observations-o.ensures in
     let part_length_is : c.part_length-part.result ≡ part_length seen = c.part_length-part.ensures ∙ ap part_length o_is in
-    let few : many ≤ max_cells = omega (arith, c.requires.2, kept_few (automaton words) seen, fits.cells) in
+    let few : many ≤ max_cells = omega (arith, c.requires.1, kept_few (automaton words) seen, fits.cells) in
     let more : c.loop-i.i < many = c.loop-i-test.true in
     let at_is : c.cell_place-at.result ≡ cell_place seen c.loop-i.i = c.cell_place-at.ensures ∙ ap (λ (n : ℕ). cell_place n c.loop-i.i) o_is in
     let small : c.cell_place-at.result + c.part_length-part.result < 2 ^ 21 = omega (arith, at_is, part_length_is, fits.observations, parts_below c.loop-i.i (part_length seen) (omega (arith, more, few)) (omega (arith, fits.observations))) in
@@ -198,15 +191,15 @@ overflow_add-at c =
 
 pub offset_bounds-out-at : goal.offset_bounds-out-at
 offset_bounds-out-at c =
-    let words : List ℕ = c.args.card.now in
+    let words : List ℕ = c.args.card.words.now in
     let seen : ℕ = card_observations words in
     let many : ℕ = c.args.kept in
     let o : ℕ = c.observations-o.result in
-    let fine : checked words ≡ Ok tt = c.requires.0 in
+    let fine : checked words ≡ Ok tt = c.args.card.checked in
     let fits : Fitting (automaton words) (card_actions words) seen = fitting words fine in
     let o_is : o ≡ seen = c.observations-o.ensures in
     let part_length_is : c.part_length-part.result ≡ part_length seen = c.part_length-part.ensures ∙ ap part_length o_is in
-    let few : many ≤ max_cells = omega (arith, c.requires.2, kept_few (automaton words) seen, fits.cells) in
+    let few : many ≤ max_cells = omega (arith, c.requires.1, kept_few (automaton words) seen, fits.cells) in
     let more : c.loop-i.i < many = c.loop-i-test.true in
     let at_is : c.cell_place-at.result ≡ cell_place seen c.loop-i.i = c.cell_place-at.ensures ∙ ap (λ (n : ℕ). cell_place n c.loop-i.i) o_is in
     let small : c.cell_place-at.result + c.part_length-part.result < 2 ^ 21 = omega (arith, at_is, part_length_is, fits.observations, parts_below c.loop-i.i (part_length seen) (omega (arith, more, few)) (omega (arith, fits.observations))) in
@@ -220,7 +213,7 @@ slice_bounds-write_row-start c = omega arith
 
 pub slice_bounds-write_row-end-in-loop-i : goal.slice_bounds-write_row-end-in-loop-i
 slice_bounds-write_row-end-in-loop-i c =
-    let words : List ℕ = c.args.card.now in
+    let words : List ℕ = c.args.card.words.now in
     let seen : ℕ = card_observations words in
     let many : ℕ = c.args.kept in
     let left : Automaton = trim (automaton words) seen in
@@ -235,66 +228,49 @@ slice_bounds-write_row-end-in-loop-i c =
 
 pub write_row-requires-in-loop-i : goal.write_row-requires-in-loop-i
 write_row-requires-in-loop-i c =
-    let words : List ℕ = c.args.card.now in
+    let words : List ℕ = c.args.card.words.now in
     let seen : ℕ = card_observations words in
     let many : ℕ = c.args.kept in
     let left : Automaton = trim (automaton words) seen in
     let parts : ℕ → List ℕ = cell_words left seen in
     let o : ℕ = c.observations-o.result in
-    let fine : checked words ≡ Ok tt = c.requires.0 in
+    let fine : checked words ≡ Ok tt = c.args.card.checked in
     let fits : Fitting (automaton words) (card_actions words) seen = fitting words fine in
     let o_is : o ≡ seen = c.observations-o.ensures in
     let part_length_is : c.part_length-part.result ≡ part_length seen = c.part_length-part.ensures ∙ ap part_length o_is in
-    let work_long : length c.args.work.now ≡ card_cells words = c.requires.1.size ∙ size_of words in
-    let some_work : 0 < length c.args.work.now = omega (arith, c.requires.1.size, fits.some_cell) in
-    let inside : c.upper.result < card_cells words = kept_inside words fine c.args.work.now c.requires.1 o many o_is c.requires.2 c.loop-i.i c.upper.result c.loop-i-test.true c.upper.ensures in
+    let work_long : length c.args.work.now ≡ card_cells words = c.requires.0.size ∙ size_of words in
+    let some_work : 0 < length c.args.work.now = omega (arith, c.requires.0.size, fits.some_cell) in
+    let inside : c.upper.result < card_cells words = kept_inside words fine c.args.work.now c.requires.0 o many o_is c.requires.1 c.loop-i.i c.upper.result c.loop-i-test.true c.upper.ensures in
     let more : c.loop-i.i < many = c.loop-i-test.true in
     let at_is : c.cell_place-at.result ≡ cell_place seen c.loop-i.i = c.cell_place-at.ensures ∙ ap (λ (n : ℕ). cell_place n c.loop-i.i) o_is in (
-      nexts_naming words fine _ _ o_is work_long c.upper.result _ inside c.cell_place-from.ensures,
+      nexts_naming words fine _ _ o_is work_long c.upper.result _ inside (c.cell_place-from.ensures ∙ ap (λ (n : ℕ). cell_place n c.upper.result) (sym o_is)),
       omega (arith, o_is, fits.observations),
       omega arith,
       carded_part seen many parts _ c.loop-i.i c.loop-i.out c.loop-i.invariant more _ _ at_is part_length_is ∙ ap part_length (sym o_is),
       some_work,
     )
 
-pub overflow_add-i : goal.overflow_add-i
-overflow_add-i c =
-    let words : List ℕ = c.args.card.now in
-    let seen : ℕ = card_observations words in
-    let many : ℕ = c.args.kept in
-    let fine : checked words ≡ Ok tt = c.requires.0 in
-    let fits : Fitting (automaton words) (card_actions words) seen = fitting words fine in
-    let few : many ≤ max_cells = omega (arith, c.requires.2, kept_few (automaton words) seen, fits.cells) in
-    let more : c.loop-i.i < many = c.loop-i-test.true in
-    omega (arith, more, few)
-
-pub loop-i-smaller : goal.loop-i-smaller
-loop-i-smaller c =
-    let many : ℕ = c.args.kept in
-    let more : c.loop-i.i < many = c.loop-i-test.true in
-    omega (arith, more)
-
 pub loop-i-preserved : goal.loop-i-preserved
 loop-i-preserved c =
-    let words : List ℕ = c.args.card.now in
+    let words : List ℕ = c.args.card.words.now in
     let seen : ℕ = card_observations words in
     let many : ℕ = c.args.kept in
     let left : Automaton = trim (automaton words) seen in
     let parts : ℕ → List ℕ = cell_words left seen in
     let o : ℕ = c.observations-o.result in
-    let fine : checked words ≡ Ok tt = c.requires.0 in
+    let fine : checked words ≡ Ok tt = c.args.card.checked in
     let o_is : o ≡ seen = c.observations-o.ensures in
     let part_length_is : c.part_length-part.result ≡ part_length seen = c.part_length-part.ensures ∙ ap part_length o_is in
     let more : c.loop-i.i < many = c.loop-i-test.true in
     let at_is : c.cell_place-at.result ≡ cell_place seen c.loop-i.i = c.cell_place-at.ensures ∙ ap (λ (n : ℕ). cell_place n c.loop-i.i) o_is in
     carded_more seen many parts _ c.loop-i.i c.loop-i.out c.loop-i.invariant more _ _ at_is part_length_is c.write_row-in-loop-i.new.out
     (c.write_row-in-loop-i.ensures
-    ∙ part_is words fine c.args.work.now c.requires.1 o many o_is c.requires.2 c.loop-i.i c.upper.result more c.upper.ensures c.cell_place-from.result _ c.cell_place-from.ensures refl)
+    ∙ part_is words fine c.args.work.now c.requires.0 o many o_is c.requires.1 c.loop-i.i c.upper.result more c.upper.ensures c.cell_place-from.result _ (c.cell_place-from.ensures ∙ ap (λ (n : ℕ). cell_place n c.upper.result) (sym o_is)) refl)
     (cell_length left (card_actions words) seen c.loop-i.i)
 
 pub shape_of-out : goal.shape_of-out
 shape_of-out c =
-    let words : List ℕ = c.args.card.now in
+    let words : List ℕ = c.args.card.words.now in
     let room : List ℕ = c.args.out.now in
     let seen : ℕ = card_observations words in
     let many : ℕ = c.args.kept in
@@ -302,21 +278,21 @@ shape_of-out c =
     let parts : ℕ → List ℕ = cell_words left seen in
     let o : ℕ = c.observations-o.result in
     let front : ℕ = c.front_length-front.result in
-    let fine : checked words ≡ Ok tt = c.requires.0 in
+    let fine : checked words ≡ Ok tt = c.args.card.checked in
     let o_is : o ≡ seen = c.observations-o.ensures in
     let front_length_is : front ≡ front_length seen = c.front_length-front.ensures ∙ ap front_length o_is in
-    let long : length (trimmed words) ≡ card_length many seen = trimmed_long words ∙ ap (λ (m : ℕ). card_length m seen) (sym c.requires.2) in
-    let enough : card_length many seen ≤ length room = subst (λ (n : ℕ). n ≤ length room) long c.requires.3 in
+    let long : length (trimmed words) ≡ card_length many seen = trimmed_long words ∙ ap (λ (m : ℕ). card_length m seen) (sym c.requires.1) in
+    let enough : card_length many seen ≤ length room = subst (λ (n : ℕ). n ≤ length room) long c.requires.2 in
     let row : List ℕ = c.write_row.new.out in
     let row_is : row ≡ front_of left (card_actions words) seen = c.write_row.ensures
-    ∙ front_is words fine c.args.work.now c.requires.1 o many o_is c.requires.2 _ _ c.actions.ensures c.heading-head.ensures in
+    ∙ front_is words fine c.args.work.now c.requires.0 o many o_is c.requires.1 _ _ c.actions.ensures c.heading-head.ensures in
     let row_long : length (front_of left (card_actions words) seen) ≡ front_length seen = front_long left (card_actions words) seen in
     c.loop-i.invariant.same
     ∙ fronted_same seen many parts _ front front_length_is row_long room row row_is enough
 
 pub returns : goal.returns
 returns c =
-    let words : List ℕ = c.args.card.now in
+    let words : List ℕ = c.args.card.words.now in
     let room : List ℕ = c.args.out.now in
     let seen : ℕ = card_observations words in
     let many : ℕ = c.args.kept in
@@ -324,15 +300,15 @@ returns c =
     let parts : ℕ → List ℕ = cell_words left seen in
     let o : ℕ = c.observations-o.result in
     let front : ℕ = c.front_length-front.result in
-    let fine : checked words ≡ Ok tt = c.requires.0 in
+    let fine : checked words ≡ Ok tt = c.args.card.checked in
     let o_is : o ≡ seen = c.observations-o.ensures in
     let front_length_is : front ≡ front_length seen = c.front_length-front.ensures ∙ ap front_length o_is in
-    let long : length (trimmed words) ≡ card_length many seen = trimmed_long words ∙ ap (λ (m : ℕ). card_length m seen) (sym c.requires.2) in
-    let enough : card_length many seen ≤ length room = subst (λ (n : ℕ). n ≤ length room) long c.requires.3 in
+    let long : length (trimmed words) ≡ card_length many seen = trimmed_long words ∙ ap (λ (m : ℕ). card_length m seen) (sym c.requires.1) in
+    let enough : card_length many seen ≤ length room = subst (λ (n : ℕ). n ≤ length room) long c.requires.2 in
     let row : List ℕ = c.write_row.new.out in
     let row_is : row ≡ front_of left (card_actions words) seen = c.write_row.ensures
-    ∙ front_is words fine c.args.work.now c.requires.1 o many o_is c.requires.2 _ _ c.actions.ensures c.heading-head.ensures in
+    ∙ front_is words fine c.args.work.now c.requires.0 o many o_is c.requires.1 _ _ c.actions.ensures c.heading-head.ensures in
     let row_long : length (front_of left (card_actions words) seen) ≡ front_length seen = front_long left (card_actions words) seen in
     carded_whole seen many parts _ front front_length_is row_long room row row_is enough c.loop-i.i c.loop-i.out c.loop-i.invariant c.loop-i-test.false
-    ∙ ap (λ (d : List ℕ). d ++ drop (card_length many seen) room) (trimmed_is words many c.requires.2)
+    ∙ ap (λ (d : List ℕ). d ++ drop (card_length many seen) room) (trimmed_is words many c.requires.1)
     ∙ ap (λ (n : ℕ). trimmed words ++ drop n room) (sym long)
