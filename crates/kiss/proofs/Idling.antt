@@ -21,10 +21,16 @@ use Rattle.trimming.specs.Trim.{no_first, reached}
 use Rattle.trimming.proofs.Reaching.{all_found, just_found}
 use Rattle.trimmer.specs.Halves.{lower_half, marked}
 use Rattle.trimmer.specs.Marking.{Marked}
-use Rattle.kiss.specs.Idle.{Led, at_first, later, led, idle}
-use Rattle.std.specs.Prelude.{Ok}
+use Rattle.kiss.specs.Idle.{Led, at_first, later, led, idle, cell_found}
+use Rattle.games.specs.declared.Cell.{Cell}
+use Rattle.cards.specs.Run.{as_cell, led as cell_led}
+use Rattle.std.specs.Prelude.{Ok, Option, None, Some, is_some}
 
 -- ---- whether a first word names a cell
+
+-- a word that names a cell, as the code asks for it
+pub led_some : (c : ℕ) (b : Bool) → b ≡ is_some (cell_led c) → b ≡ true → c ≡ no_cell → ⊥
+led_some c b e t z = grind arith
 
 module _ (A : Automaton) (o : ℕ) where
   pub some_first : (j : ℕ) → j < o → A.begins j < A.size → no_first A o ≡ false
@@ -42,9 +48,9 @@ module _ (A : Automaton) (o : ℕ) where
   unfolding led
   led_reached n c = rw (n)
 
-  led_none : no_first A o ≡ true → (c : ℕ) → led A o c ≡ false
+  none_led : no_first A o ≡ true → (c : ℕ) → led A o c ≡ false
   unfolding led
-  led_none n c = rw (n)
+  none_led n c = rw (n)
 
 -- ---- as the code has it
 
@@ -58,15 +64,15 @@ module _ (w : List ℕ) (e : checked w ≡ Ok tt) where
   pub few_cells : card_cells w ≤ max_cells
   few_cells = omega (arith, (fitting w e).cells, size_of w)
 
-  pub idle_none_first : no_first A o ≡ true → 0 ≡ or_else (idle w) (card_cells w)
+  pub idle_none_first : no_first A o ≡ true → Some (as_cell 0) ≡ cell_found (idle w)
   unfolding idle
   idle_none_first n =
       let f : idle w ≡ found 0 =
-      first_is (card_cells w) (λ c. not (led A o c)) 0 (omega (arith, (fitting w e).some_cell, size_of w)) (ap not (led_none A o n 0)) (λ j l. absurd (omega arith)) in
+      first_is (card_cells w) (λ c. not (led A o c)) 0 (omega (arith, (fitting w e).some_cell, size_of w)) (ap not (none_led A o n 0)) (λ j l. absurd (omega arith)) in
       rw (f)
 
-  pub idle_unmarked : (marks : List ℕ) (n x : ℕ) → no_first A o ≡ false → Marked A o marks n
-      → x ≡ or_else (first (length marks) (λ c. not (marked marks c))) (length marks) → x ≡ or_else (idle w) (card_cells w)
+  pub idle_unmarked : (marks : List ℕ) (n : ℕ) (x : Option Cell) → no_first A o ≡ false → Marked A o marks n
+      → x ≡ cell_found (first (length marks) (λ c. not (marked marks c))) → x ≡ cell_found (idle w)
   unfolding idle
   idle_unmarked marks n x s m h =
       let long : length marks ≡ card_cells w = m.size ∙ size_of w in
@@ -93,6 +99,23 @@ module _ (w : List ℕ) (i m : ℕ) (is : i ≡ or_else (idle w) (card_cells w))
   idle_nothing l =
       told_nothing (idle w) (card_cells w) i (λ k h. (first_found (card_cells w) (λ c. not (led (automaton w) (card_observations w) c)) k h).0) is (omega arith)
 
+-- ---- the same of the cell that is told, if one is
+
+-- what was found, by the cell
+abbrev found_of : Option Cell → Found
+found_of None = nothing
+found_of (Some d) = found d.0
+
+found_back : (f : Found) → found_of (cell_found f) ≡ f
+found_back nothing = refl
+found_back (found c) = refl
+
+pub cell_some : (f : Found) (d : Cell) → Some d ≡ cell_found f → f ≡ found d.0
+cell_some f d e = sym (found_back f) ∙ ap found_of (sym e)
+
+pub cell_none : (f : Found) → None ≡ cell_found f → f ≡ nothing
+cell_none f e = sym (found_back f) ∙ ap found_of (sym e)
+
 -- ---- the loop over the marks
 
 module _ (w : List ℕ) where
@@ -107,10 +130,10 @@ module _ (w : List ℕ) where
   unfolding marked
   taken_at c x e n = true_not (lt-ltb 0 (lower_half w c) (not-le (lower_half w c) 0 (λ l. n (omega arith))))
 
-  pub lowest_stop : (c : ℕ) → c < length w → first c free ≡ nothing → free c ≡ true → c ≡ or_else (first (length w) free) (length w)
+  pub lowest_stop : (c : ℕ) → c < length w → first c free ≡ nothing → free c ≡ true → Some (as_cell c) ≡ cell_found (first (length w) free)
   lowest_stop c l h f = rw (first_stop (length w) free c l h f)
 
-  pub lowest_end : (c : ℕ) → c ≤ length w → length w ≤ c → first c free ≡ nothing → c ≡ or_else (first (length w) free) (length w)
+  pub lowest_end : (c : ℕ) → c ≤ length w → length w ≤ c → first c free ≡ nothing → None ≡ cell_found (first (length w) free)
   lowest_end c l k h = let e : c ≡ length w = omega arith in rw (← e, h)
 
 -- ---- what it means

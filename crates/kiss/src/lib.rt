@@ -9,9 +9,10 @@ ghost use Rattle.cards.specs.Card.{automaton, card_cells, card_observations, che
 ghost use Rattle.trimming.specs.Trim.{no_first};
 ghost use Rattle.trimmer.specs.Halves.{marked};
 ghost use Rattle.kiss.specs.Text.{bits as fewest_bits};
-ghost use Rattle.kiss.specs.Idle.{idle};
+ghost use Rattle.kiss.specs.Idle.{idle, cell_found};
 
-use games::Observation;
+use cards::Card;
+use games::{Cell, Observation};
 
 // The fewest bits that hold n - 1, at least one.
 pub fn bits(n: u32) -> u32
@@ -28,63 +29,68 @@ pub fn bits(n: u32) -> u32
 }
 
 // Whether no first word names a cell.
-fn no_first(card: &[u32]) -> bool
-    requires { checked card.now ≡ Ok tt }
-    ensures { result ≡ no_first (automaton card.now) (card_observations card.now) }
+fn no_first(card: Card) -> bool
+    ensures { result ≡ no_first (automaton card.entry.words.now) (card_observations card.entry.words.now) }
 {
-    let o = cards::observations(card);
-    let mut j: u32 = 0;
-    while j < o {
-        if cards::first_cell(card, Observation(j)).0 != games::NO_CELL {
+    for j in 0..card.observations() {
+        if card.first_cell(Observation(j)).is_some() {
             return false;
         }
-        j += 1;
     }
     true
 }
 
-// The lowest cell that is not marked; the number of cells where all are.
-fn lowest_unmarked(marks: &[u32]) -> u32
+// The lowest cell that is not marked.
+fn lowest_unmarked(marks: &[u32]) -> Option<Cell>
     requires { length marks.now ≤ max_cells }
-    ensures { result ≡ or_else (first (length marks.now) (λ c. not (marked marks.now c))) (length marks.now) }
+    ensures { result ≡ cell_found (first (length marks.now) (λ c. not (marked marks.now c))) }
 {
-    let mut c: usize = 0;
-    while c < marks.len() {
+    for c in 0..marks.len() {
         if trimmer::lower(marks, c) == 0 {
-            return c as u32;
+            return Some(Cell(c as u32));
         }
-        c += 1;
     }
-    c as u32
+    None
 }
 
 // The lowest cell that is not reached, where a first word names a cell; a mark for each cell is lent.
-fn lowest_unreached(card: &[u32], marks: &mut [u32]) -> u32
-    requires { (checked card.now ≡ Ok tt) × (length marks.old ≡ card_cells card.now)
-        × (no_first (automaton card.now) (card_observations card.now) ≡ false) }
-    ensures { result ≡ or_else (idle card.now) (card_cells card.now) }
+fn lowest_unreached(card: Card, marks: &mut [u32]) -> Option<Cell>
+    requires { (length marks.old ≡ card_cells card.words.now)
+        × (no_first (automaton card.words.now) (card_observations card.words.now) ≡ false) }
+    ensures { result ≡ cell_found (idle card.entry.words.now) }
 {
     trimmer::mark_reached(card, marks);
     lowest_unmarked(marks)
 }
 
-// The lowest cell that no sequence of observations leads to; the number of cells where there is none.
-fn idle_by(card: &[u32], marks: &mut [u32]) -> u32
-    requires { (checked card.now ≡ Ok tt) × (max_cells ≤ length marks.old) }
-    ensures { result ≡ or_else (idle card.now) (card_cells card.now) }
+// The lowest cell that no sequence of observations leads to, with marks lent for as many cells as a card can have.
+fn idle_by(card: Card, marks: &mut [u32]) -> Option<Cell>
+    requires { max_cells ≤ length marks.old }
+    ensures { result ≡ cell_found (idle card.entry.words.now) }
 {
     if no_first(card) {
-        return 0;
+        return Some(Cell(0));
     }
-    let cells = cards::cells(card) as usize;
+    let cells = card.cells() as usize;
     lowest_unreached(card, &mut marks[..cells])
 }
 
-// The same with the marks on the stack.
+// The lowest cell that no sequence of observations leads to, if there is one. The marks are on the stack.
+pub fn idle_cell(card: Card) -> Option<Cell>
+    ensures { result ≡ cell_found (idle card.entry.words.now) }
+{
+    let mut marks = [0u32; games::MAX_CELLS as usize];
+    idle_by(card, &mut marks)
+}
+
+// The same, with the number of cells where there is none.
 pub fn lowest_idle(card: &[u32]) -> u32
     requires { checked card.now ≡ Ok tt }
     ensures { result ≡ or_else (idle card.now) (card_cells card.now) }
 {
-    let mut marks = [0u32; games::MAX_CELLS as usize];
-    idle_by(card, &mut marks)
+    let card = Card { words: card };
+    match idle_cell(card) {
+        Some(cell) => cell.0,
+        None => card.cells(),
+    }
 }

@@ -38,8 +38,8 @@ loop-j-init c = added_none _ _ _ _ c.requires.1
 
 pub loop-j-preserved : goal.loop-j-preserved
 loop-j-preserved c =
-  added_more (named_from c.args.card.now c.args.at) c.args.work.now c.args.waiting.cells c.args.waiting.next.0 c.loop-j.j c.loop-j.work c.loop-j.listed.cells c.loop-j.listed.next.0 c.mark-listed.new.work c.mark-listed.result.cells c.mark-listed.result.next.0 c.loop-j.invariant
-      (subst (λ (y : ℕ). Added (λ _. y) 1 c.loop-j.work c.loop-j.listed.cells c.loop-j.listed.next.0 c.mark-listed.new.work c.mark-listed.result.cells c.mark-listed.result.next.0) c.low_field-cell.ensures c.mark-listed.ensures)
+    added_more (named_from c.args.card.now c.args.at) c.args.work.now c.args.waiting.cells c.args.waiting.next.0 c.loop-j.j c.loop-j.work c.loop-j.listed.cells c.loop-j.listed.next.0 c.mark-listed.new.work c.mark-listed.result.cells c.mark-listed.result.next.0 c.loop-j.invariant
+    (subst (λ (y : ℕ). Added (λ _. y) 1 c.loop-j.work c.loop-j.listed.cells c.loop-j.listed.next.0 c.mark-listed.new.work c.mark-listed.result.cells c.mark-listed.result.next.0) c.low_field-cell.ensures c.mark-listed.ensures)
 
 pub returns : goal.returns
 returns c =

@@ -21,10 +21,11 @@ put_lower-requires c = (omega (arith, c.loop-c-test.true, c.loop-c.invariant.sam
 
 pub put_upper-requires : goal.put_upper-requires
 put_upper-requires c =
-    let behind : c.loop-c.kept ≤ c.loop-c.c = counting_few _ c.loop-c.c c.loop-c.kept c.loop-c.work c.loop-c.invariant in
-    (subst (λ (l : List ℕ). c.loop-c.kept < length l) (sym c.put_lower.ensures)
-    (omega (arith, put_lower_length c.loop-c.work c.loop-c.c c.loop-c.kept, c.loop-c-test.true, c.loop-c.invariant.same, behind)),
-    omega (arith, c.loop-c-test.true, c.requires))
+    let behind : c.loop-c.kept ≤ c.loop-c.c = counting_few _ c.loop-c.c c.loop-c.kept c.loop-c.work c.loop-c.invariant in (
+      subst (λ (l : List ℕ). c.loop-c.kept < length l) (sym c.put_lower.ensures)
+          (omega (arith, put_lower_length c.loop-c.work c.loop-c.c c.loop-c.kept, c.loop-c-test.true, c.loop-c.invariant.same, behind)),
+      omega (arith, c.loop-c-test.true, c.requires),
+    )
 
 pub overflow_add-kept : goal.overflow_add-kept
 overflow_add-kept c = omega (arith, c.loop-c-test.true, counting_few _ _ _ _ c.loop-c.invariant, c.requires)
@@ -36,13 +37,13 @@ loop-c-preserved c =
     let inside : c.loop-c.c < length c.loop-c.work = omega (arith, c.loop-c-test.true, c.loop-c.invariant.same) in
     let is_marked : 0 < c.lower.result → marked entry c.loop-c.c ≡ true = λ l. marks _ _ (omega (arith, l, c.lower.ensures, c.loop-c.invariant.ahead c.loop-c.c (omega arith))) in
     let no_marked : c.lower.result ≤ 0 → marked entry c.loop-c.c ≡ false = λ l. no_mark _ _ (omega (arith, l, c.lower.ensures, c.loop-c.invariant.ahead c.loop-c.c (omega arith))) in
-      elim c.if-lower-gt0.branch [
-        | then-lower-gt0 w ↦ subst₂ (λ (u : List ℕ) (k : ℕ). Counting entry (c.loop-c.c + 1) k u)
-            (sym (w.work-is ∙ w.put_upper.ensures ∙ ap (λ (u : List ℕ). put_upper u c.loop-c.kept c.loop-c.c) w.put_lower.ensures)) (sym w.kept-is)
-            (counting_more entry c.loop-c.c c.loop-c.kept c.loop-c.work c.loop-c.invariant (is_marked w.if-lower-gt0.true) inside few)
-        | else-lower-gt0 w ↦ subst₂ (λ (u : List ℕ) (k : ℕ). Counting entry (c.loop-c.c + 1) k u) (sym w.work-is) (sym w.kept-is)
-            (counting_skip entry c.loop-c.c c.loop-c.kept c.loop-c.work c.loop-c.invariant (no_marked w.if-lower-gt0.false))
-      ]
+    elim c.if-lower-gt0.branch [
+      | then-lower-gt0 w ↦ subst₂ (λ (u : List ℕ) (k : ℕ). Counting entry (c.loop-c.c + 1) k u)
+          (sym (w.work-is ∙ w.put_upper.ensures ∙ ap (λ (u : List ℕ). put_upper u c.loop-c.kept c.loop-c.c) w.put_lower.ensures)) (sym w.kept-is)
+          (counting_more entry c.loop-c.c c.loop-c.kept c.loop-c.work c.loop-c.invariant (is_marked w.if-lower-gt0.true) inside few)
+      | else-lower-gt0 w ↦ subst₂ (λ (u : List ℕ) (k : ℕ). Counting entry (c.loop-c.c + 1) k u) (sym w.work-is) (sym w.kept-is)
+          (counting_skip entry c.loop-c.c c.loop-c.kept c.loop-c.work c.loop-c.invariant (no_marked w.if-lower-gt0.false))
+    ]
 
 pub shape_of-work : goal.shape_of-work
 shape_of-work c = c.loop-c.invariant.same

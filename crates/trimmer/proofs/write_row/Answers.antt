@@ -60,8 +60,8 @@ loop-j-preserved c =
     let names : ℕ → ℕ = named_from c.args.card.now c.args.at in
     let written : ℕ → ℕ = λ i. word c.args.kind (new_name c.args.work.now (names i)) i 0 in
     let new : c.new_name-new.result.0 ≡ new_name c.args.work.now (names c.loop-j.j) = c.new_name-new.ensures ∙ ap (new_name c.args.work.now) c.low_field-cell.ensures in
-      filled_more c.args.count written c.loop-j.j c.loop-j.out c.naming.result c.loop-j-test.true
-          (c.naming.ensures ∙ ap (λ (y : ℕ). word c.args.kind y c.loop-j.j 0) new) c.loop-j.invariant
+    filled_more c.args.count written c.loop-j.j c.loop-j.out c.naming.result c.loop-j-test.true
+    (c.naming.ensures ∙ ap (λ (y : ℕ). word c.args.kind y c.loop-j.j 0) new) c.loop-j.invariant
 
 pub bounds-out-0 : goal.bounds-out-0
 bounds-out-0 c = omega (arith, c.loop-j.invariant.size)
