@@ -1,7 +1,7 @@
 // A table as fields (document 01, "Entries"): reading a table into fields, and writing fields as a table's words.
 #![tactic(auto)]
 
-ghost use Rattle.std.specs.Prelude.{◌≡◌, ◌<◌, ◌≤◌};
+ghost use Rattle.std.specs.Prelude.{◌≡◌, ◌<◌, ◌≤◌, Ok, IfOk, IfErr};
 ghost use Rattle.games.specs.Answers.{leaves};
 ghost use Rattle.games.specs.Places.{Limited};
 ghost use Rattle.tables.specs.Check.{parked_checked};
@@ -36,40 +36,6 @@ fn unused_zero(slots: &[u32], used: usize) -> bool
     true
 }
 
-// The mask of the word at a place from 1 up.
-fn mask_at(f: Fields, p: usize) -> u32
-    requires { Limited (fields_shape f) × (1 ≤ p) × (p < words_length f) }
-    ensures { result ≡ mask_of f p }
-{
-    match games::place_at(tables::fields_shape(f), p) {
-        Place::Start => f.start,
-        Place::Bad => f.bad,
-        Place::Parked => f.parked,
-        Place::Shown(seen) => {
-            let shown = f.shown;
-            shown[seen.0 as usize]
-        }
-        Place::Move(a, i) => {
-            let moves = f.moves;
-            moves[(a.0 * f.states + i.0) as usize]
-        }
-    }
-}
-
-// Every used mask names states below n only, or the lowest place of a word whose mask doesn't.
-fn check_masks(f: Fields) -> Result<(), Refusal>
-    requires { Limited (fields_shape f) }
-    ensures { result ≡ masks_checked f }
-{
-    let full = sets::single(f.states);
-    for p in 1..games::table_length(tables::fields_shape(f)) {
-        if full <= mask_at(f, p) {
-            return Err(Reason::StateBeyond.at(p));
-        }
-    }
-    Ok(())
-}
-
 // Refusals 2 and 11.
 fn check_slots(f: Fields) -> Result<(), Refusal>
     ensures { result ≡ slots_checked f }
@@ -88,58 +54,129 @@ fn check_slots(f: Fields) -> Result<(), Refusal>
     Ok(())
 }
 
-// Refusal 19, by the moves, which are masks without a kind.
-fn check_departures(f: Fields) -> Result<(), Refusal>
-    requires { Limited (fields_shape f) × (masks_checked f ≡ Ok tt) }
-    ensures { result ≡ parked_checked (game_of f) }
-{
-    let moves = f.moves;
-    tables::check_parked(&moves, 0, tables::fields_shape(f), f.parked)
+// Fields whose numbers are within the limits.
+#[derive(Clone, Copy)]
+struct Bounded {
+    fields: Fields,
+    ghost limited: { Limited (fields_shape fields) },
 }
 
-// Refusals 2, 11, 5, 6, 7 and 19.
-#[tactic(auto, unfolding(crate::specs::Write::fields_checked))]
-fn check_fields(f: Fields) -> Result<(), Refusal>
-    ensures { result ≡ fields_checked f }
-{
-    check_slots(f)?;
-    check_masks(f)?;
-    tables::check_sets(f)?;
-    check_departures(f)
+// Bounded fields of which every used mask names states below n only.
+#[derive(Clone, Copy)]
+struct Narrow {
+    bounded: Bounded,
+    ghost masks: { masks_checked bounded.fields ≡ Ok tt },
 }
 
-// The word at a place, for fields whose masks are in order.
-fn word_at(f: Fields, p: usize) -> u32
-    requires { Limited (fields_shape f) × (masks_checked f ≡ Ok tt) × (p < words_length f) }
-    ensures { result ≡ word_at f p }
-{
-    let s = tables::fields_shape(f);
-    if p == 0 {
-        return tables::head_word(s);
+impl Bounded {
+    // Refusals 2 and 11, else the fields.
+    fn of(fields: Fields) -> Result<Bounded, Refusal>
+        ensures bounded { IfOk result (λ b. (b.fields ≡ fields) × (slots_checked fields ≡ Ok tt)) }
+        ensures refused { IfErr result (λ e. slots_checked fields ≡ Err e) }
+    {
+        check_slots(fields)?;
+        Ok(Bounded { fields })
     }
-    tables::bare_word(s, p) + mask_at(f, p)
+
+    // The words of their table.
+    fn words(self) -> usize
+        ensures { result ≡ words_length self.fields }
+    {
+        games::table_length(tables::fields_shape(self.fields))
+    }
+
+    // The mask of the word at a place from 1 up.
+    fn mask_at(self, p: usize) -> u32
+        requires { (1 ≤ p) × (p < words_length self.fields) }
+        ensures { result ≡ mask_of self.fields p }
+    {
+        let f = self.fields;
+        match games::place_at(tables::fields_shape(f), p) {
+            Place::Start => f.start,
+            Place::Bad => f.bad,
+            Place::Parked => f.parked,
+            Place::Shown(seen) => {
+                let shown = f.shown;
+                shown[seen.0 as usize]
+            }
+            Place::Move(a, i) => {
+                let moves = f.moves;
+                moves[(a.0 * f.states + i.0) as usize]
+            }
+        }
+    }
+
+    // Refusal 5: the lowest place of a word whose mask names a state from n up.
+    fn check_masks(self) -> Result<(), Refusal>
+        ensures { result ≡ masks_checked self.fields }
+    {
+        let full = sets::single(self.fields.states);
+        for p in 1..self.words() {
+            if full <= self.mask_at(p) {
+                return Err(Reason::StateBeyond.at(p));
+            }
+        }
+        Ok(())
+    }
 }
 
-// Refusal 10, or the words in front of `out`.
-fn write_words(f: Fields, out: &mut [u32]) -> Result<usize, Refusal>
-    requires { Limited (fields_shape f) × (masks_checked f ≡ Ok tt) }
-    ensures { leaves result out.new ≡ written_to f out.old }
-{
-    let words = games::table_length(tables::fields_shape(f));
-    if out.len() < words {
-        return Err(Reason::ShortTable.at(words));
+impl Narrow {
+    // Refusals 2, 11, 5, 6, 7 and 19, else the fields.
+    #[tactic(auto, unfolding(crate::specs::Write::fields_checked))]
+    fn of(f: Fields) -> Result<Narrow, Refusal>
+        ensures narrow { IfOk result (λ n. (n.bounded.fields ≡ f) × (fields_checked f ≡ Ok tt)) }
+        ensures refused { IfErr result (λ e. fields_checked f ≡ Err e) }
+    {
+        let bounded = Bounded::of(f)?;
+        bounded.check_masks()?;
+        let narrow = Narrow { bounded };
+        tables::check_sets(f)?;
+        narrow.check_departures()?;
+        Ok(narrow)
     }
-    for p in 0..words {
-        out[p] = word_at(f, p);
+
+    // Refusal 19, by the moves, which are masks without a kind.
+    fn check_departures(self) -> Result<(), Refusal>
+        ensures { result ≡ parked_checked (game_of self.bounded.fields) }
+    {
+        let f = self.bounded.fields;
+        let moves = f.moves;
+        tables::check_parked(&moves, 0, tables::fields_shape(f), f.parked)
     }
-    Ok(words)
+
+    // The word at a place.
+    fn word_at(self, p: usize) -> u32
+        requires { p < words_length self.bounded.fields }
+        ensures { result ≡ word_at self.bounded.fields p }
+    {
+        let s = tables::fields_shape(self.bounded.fields);
+        if p == 0 {
+            return tables::head_word(s);
+        }
+        tables::bare_word(s, p) + self.bounded.mask_at(p)
+    }
+
+    // Refusal 10, or the words in front of `out`.
+    fn write(self, out: &mut [u32]) -> Result<usize, Refusal>
+        ensures { leaves result out.new ≡ written_to self.bounded.fields out.old }
+    {
+        let words = self.bounded.words();
+        if out.len() < words {
+            return Err(Reason::ShortTable.at(words));
+        }
+        for p in 0..words {
+            out[p] = self.word_at(p);
+        }
+        Ok(words)
+    }
 }
 
 // Writes the fields as a table's words into the front of `out`; a refusal leaves `out` as it was.
+#[tactic(auto, unfolding(crate::specs::Write::write_of))]
 pub fn write(f: Fields, out: &mut [u32]) -> Result<usize, Refusal>
     ensures answers { leaves result out.new ≡ write_of f out.old }
     ensures read_back { ReadsBack f result out.new }
 {
-    check_fields(f)?;
-    write_words(f, out)
+    let narrow = Narrow::of(f)?;
+    narrow.write(out)
 }
