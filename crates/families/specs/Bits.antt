@@ -52,11 +52,6 @@ pub record Holding (n : ℕ) (list bits : List ℕ) : Type 0 where
   pub masks : (s : ℕ) → Memᴰ s list → s < 2 ^ n
   pub size : length bits ≡ lanes n
 
--- the lane is there, and there are no more lanes than the states from 6 up tell apart
-pub record Lane (bits : List ℕ) (lane : ℕ) : Type 0 where
-  pub here : lane < length bits
-  pub few : length bits ≤ max_lanes
-
 -- each word that may be given for a number i below n has t where the test of i passes
 abbrev pub Tells : (ℕ → ℕ → Type 0) → ℕ → ℕ → (ℕ → Bool) → Type 0
 Tells gives n t test = (i word : ℕ) → i < n → gives i word → member word t ≡ test i

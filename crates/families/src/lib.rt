@@ -6,7 +6,7 @@ ghost use Rattle.sets.specs.Mask.{member, union, subset};
 ghost use Rattle.sets.specs.Bounded.{any, count as count_of, select};
 ghost use Rattle.sets.specs.Family.{listed, holds, maximal};
 ghost use Rattle.games.specs.Format.{max_states};
-ghost use Rattle.families.specs.Bits.{lane_states, lane_sets, high_states, max_lanes, lanes, has as is_in, sets, Bits, Closed, Holding, Lane};
+ghost use Rattle.families.specs.Bits.{lane_states, lane_sets, high_states, max_lanes, lanes, has as is_in, sets, Bits, Closed, Holding};
 ghost use Rattle.families.specs.Bits.{Tells, has_with, larger_has, own_or_larger, word_with, covered_by, Topped, low_has, up_has, above_has, ByLane, raised};
 
 // The states below 6 tell the sets of a lane apart.
@@ -139,7 +139,6 @@ fn other_with(bits: &[u64], lane: usize, i: u32) -> u64
 
 // What the lanes with one state more have, united.
 pub fn larger(bits: &[u64], lane: usize) -> u64
-    requires { Lane bits.now lane }
     ensures { (t : ℕ) → member result t ≡ larger_has bits.now lane t }
 {
     united(HIGH_STATES, |i| other_with(bits, lane, i))
@@ -147,7 +146,7 @@ pub fn larger(bits: &[u64], lane: usize) -> u64
 
 // What this lane and the lanes with one state more have, united: no lane is tested for a state.
 pub fn own_or_larger(bits: &[u64], lane: usize) -> u64
-    requires { Lane bits.now lane }
+    requires { lane < length bits.now }
     ensures { (t : ℕ) → member result t ≡ own_or_larger bits.now lane t }
 {
     bits[lane] | united(HIGH_STATES, |i| lane_with(bits, lane, i))
@@ -171,7 +170,7 @@ fn shifted(word: u64, i: u32) -> u64
 
 // The lane's maximal sets in place of its sets, as far as the lanes above it tell.
 fn keep_tops(bits: &mut [u64], lane: usize)
-    requires { Lane bits.old lane }
+    requires { lane < length bits.old }
     ensures { Topped bits.old lane bits.new }
 {
     let word = bits[lane];

@@ -1,12 +1,8 @@
 use mathlib.Core.Path.{sym, ◌∙◌}
 use native.Mathlib.Omega.{arith}
-use Rattle.families.proofs.Lanes.{few_lanes}
 use Rattle.families.proofs.Mapping.{mapping_by}
 use Rattle.families.proofs.Maximal.{Tops, tops_of, found_maximal}
 use Rattle.families.proofs.maximal_bits.Goals as goal
-
-pub keep_tops-requires : goal.keep_tops-requires
-keep_tops-requires c = record { here = omega arith; few = omega (arith, few_lanes c.args.n c.args.bits.now c.requires.0.states c.requires.0.size) }
 
 pub loop-lane-preserved : goal.loop-lane-preserved
 loop-lane-preserved c =

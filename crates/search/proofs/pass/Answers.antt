@@ -10,9 +10,6 @@ use Rattle.search.proofs.pass.Goals as goal
 pub loop-lane-init : goal.loop-lane-init
 loop-lane-init c = passing_none (game c.args.moves.table.now) c.args.family.now c.requires.0 c.args.next.now c.requires.1
 
-pub larger-covered-requires : goal.larger-covered-requires
-larger-covered-requires c = record { here = omega (arith, c.loop-lane.invariant.size); few = omega (arith, c.loop-lane.invariant.size, c.requires.0.size, table_lanes c.args.moves.table.now (sized c.args.moves.table.now c.args.moves.ready.fine)) }
-
 pub overflow_cast-lane : goal.overflow_cast-lane
 overflow_cast-lane c = omega (arith, c.requires.0.size, table_lanes c.args.moves.table.now (sized c.args.moves.table.now c.args.moves.ready.fine))
 
