@@ -1,6 +1,6 @@
 -- What the code does with the lists' families as bits (no part of what the entries say).
 -- Assumes nothing.
-use Rattle.std.specs.Prelude.{◌≡◌, Bool, true, false, ◌&&◌, ◌||◌, ℕ, ◌^◌, ◌≤◌, ◌<◌, length, get_or}
+use Rattle.std.specs.Prelude.{◌≡◌, Bool, true, false, ◌&&◌, ◌||◌, ℕ, ◌^◌, ◌≤◌, ◌<◌, length, get_or, Err}
 use mathlib.Core.Path.{refl, sym}
 use mathlib.Core.Logic.{⊎_elim}
 use mathlib.Core.List.{List, Memᴰ}
@@ -9,12 +9,23 @@ use Rattle.sets.specs.Family.{Family, holds, maximal, join, meet}
 use Rattle.sets.proofs.Logic.{and_left, and_right, and_intro, or_cases, or_left, or_right}
 use Rattle.sets.proofs.Family.{join_maximal, meet_maximal}
 use Rattle.games.specs.Format.{max_states}
+use Rattle.games.specs.Answers.{leaves}
+use Rattle.games.specs.declared.Refusal.{Refusal}
+use Rattle.lists.specs.Lists.{fitted, outcome}
 
 -- the lists have only masks of n states
 pub record Masks (n : ℕ) (k l : List ℕ) : Type 0 where
   pub width : n ≤ max_states
   pub first : (s : ℕ) → Memᴰ s k → s < 2 ^ n
   pub second : (s : ℕ) → Memᴰ s l → s < 2 ^ n
+
+-- whatever is made of the two lists, it is what the entry leaves, where it fits
+abbrev pub Allows : ℕ → List ℕ → List ℕ → Type 0
+Allows n k l = (op : List ℕ → List ℕ → List ℕ) (d : List ℕ) → outcome op n k l d ≡ fitted (op k l) d
+
+-- whatever is made of them, the entry refuses for this
+abbrev pub Refuses : ℕ → List ℕ → List ℕ → Refusal → Type 0
+Refuses n k l refusal = (op : List ℕ → List ℕ → List ℕ) (d : List ℕ) → outcome op n k l d ≡ leaves (Err refusal) d
 
 -- the sets kept of what the two lists hold
 abbrev pub held : (Bool → Bool → Bool) → List ℕ → List ℕ → Family

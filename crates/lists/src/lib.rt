@@ -1,7 +1,7 @@
 // Join and meet of two lists of sets (document 01, "Lists").
 #![tactic(auto)]
 
-ghost use Rattle.std.specs.Prelude.{◌≡◌, Bool, List, ℕ, ◌≤◌, ◌<◌, length, take, MatchOption, MatchResult, Ok, Err};
+ghost use Rattle.std.specs.Prelude.{◌≡◌, Bool, List, ℕ, ◌≤◌, ◌<◌, length, take, MatchOption, MatchResult, Ok};
 ghost use Rattle.sets.specs.Mask.{member};
 ghost use Rattle.sets.specs.Bounded.{nothing, found};
 ghost use Rattle.sets.specs.Family.{join as join_of, meet as meet_of};
@@ -10,7 +10,7 @@ ghost use Rattle.games.specs.Format.{max_states};
 ghost use Rattle.games.specs.Answers.{leaves};
 ghost use Rattle.lists.specs.Lists.{foreign as foreign_in, fitted, outcome, joined, met};
 ghost use Rattle.lists.specs.Plain.{OfEither, OfBoth, MaximalOf};
-ghost use Rattle.lists.specs.Merging.{Merged, held, Masks, Combines, both, either, join_laws, meet_laws};
+ghost use Rattle.lists.specs.Merging.{Masks, Allows, Refuses, Merged, held, Combines, both, either, join_laws, meet_laws};
 
 use games::{MAX_STATES, Reason, Refusal};
 
@@ -82,8 +82,8 @@ fn foreign(n: u32, list: &[u32]) -> Option<usize>
 fn checked<'t>(n: u32, first: &'t [u32], second: &'t [u32]) -> Result<Lists<'t>, Refusal>
     ensures { MatchResult result
         (λ lists. (lists.n ≡ n) × (lists.first.now ≡ first.now) × (lists.second.now ≡ second.now)
-        × ((op : List ℕ → List ℕ → List ℕ) (d : List ℕ) → outcome op n first.now second.now d ≡ fitted (op first.now second.now) d))
-        (λ refusal. (op : List ℕ → List ℕ → List ℕ) (d : List ℕ) → outcome op n first.now second.now d ≡ leaves (Err refusal) d) }
+        × Allows n first.now second.now)
+        (λ refusal. Refuses n first.now second.now refusal) }
 {
     if !games::within(n, MAX_STATES) {
         return Err(Reason::BadHead.at(0));
