@@ -1,18 +1,19 @@
 // The words of a card (document 01, "Words"): its checks, and the run over words and a cell number.
 #![tactic(auto)]
 
-ghost use Rattle.std.specs.Prelude.{◌≡◌, ◌+◌, ◌<◌, ◌≤◌, ◌&&◌, length, slice_index};
-ghost use Rattle.games.specs.Format.{low_values, number_values, action_values, kind_values, kind_cell, kind_next};
+ghost use Rattle.std.specs.Prelude.{◌≡◌, ◌<◌};
+ghost use Rattle.games.specs.Format.{low_values, number_values, action_values, kind_values, kind_cell};
 ghost use Rattle.games.specs.Fields.{word};
-ghost use Rattle.games.specs.Words.{front_length, card_head};
-ghost use Rattle.cards.specs.Card.{head_fits, cell_named, cell_fits, words_checked, checked};
-ghost use Rattle.cards.specs.Checking.{Shaped, Pass, FitsBelow, names, RightNames};
-ghost use Rattle.cards.specs.Card.{automaton, card_cells, card_observations, card_actions, cell_place, Named};
-ghost use Rattle.cards.specs.Run.{enters, begun, followed, opened, stepped, stands_after, starts, advances};
+ghost use Rattle.games.specs.Words.{card_head};
+ghost use Rattle.cards.specs.Card.{head_fits, cell_named, cell_fits, checked};
+ghost use Rattle.cards.specs.Card.{card_cells, card_observations, cell_place};
+ghost use Rattle.cards.specs.Run.{opened, stepped, stands_after, starts, advances};
 
+mod shape;
 mod words;
 
 use games::{Action, Cell, Observation, Reason, Refusal};
+use shape::Draft;
 pub use words::Card;
 
 // A cell that was entered, and its action.
@@ -87,93 +88,6 @@ fn cell_fits(a: u32, x: u32) -> bool
     (picked % games::ACTION_AT < games::MAX_SETS) & (picked < a * games::ACTION_AT)
 }
 
-// Four first or next words (the kind says which) in a row are right, from number j on. Without a branch between them they are compared
-// at once.
-fn four_named(card: &[u32], kind: u32, at: usize, j: u32) -> bool
-    requires { Shaped card.now × (kind < kind_values) × (j + 4 ≤ number_values) × (at + j + 4 ≤ length card.now) }
-    ensures { result ≡ (names card.now kind at j && names card.now kind at (j + 1)
-        && names card.now kind at (j + 2) && names card.now kind at (j + 3)) }
-{
-    let m = games::low_field(card[0]);
-    let p = at + j as usize;
-    cell_named(kind, m, j, card[p])
-        & cell_named(kind, m, j + 1, card[p + 1])
-        & cell_named(kind, m, j + 2, card[p + 2])
-        & cell_named(kind, m, j + 3, card[p + 3])
-}
-
-// Of so many first or next words from a place on, some that are right: as many as go by fours.
-fn right_fours(card: &[u32], kind: u32, at: usize, count: u32) -> u32
-    requires { Shaped card.now × (kind < kind_values) × (count ≤ number_values) × (at + count ≤ length card.now) }
-    ensures { Pass (names card.now kind at) count result }
-{
-    for k in 0..count / 4 {
-        if !four_named(card, kind, at, 4 * k) {
-            return 4 * k;
-        }
-    }
-    count - count % 4
-}
-
-// How many of so many first or next words (the kind says which) from a place on are right, before one that is wrong, where those below
-// a number are.
-fn right_from(card: &[u32], kind: u32, at: usize, count: u32, from: u32) -> u32
-    requires { Shaped card.now × (kind < kind_values) × (count ≤ number_values) × (at + count ≤ length card.now)
-        × Pass (names card.now kind at) count from }
-    ensures { RightNames card.now kind at count result }
-{
-    let m = games::low_field(card[0]);
-    for j in from..count {
-        if !cell_named(kind, m, j, card[at + j as usize]) {
-            return j;
-        }
-    }
-    count
-}
-
-// The same for the next words of a part, by fours first.
-fn right_nexts(card: &[u32], at: usize, count: u32) -> u32
-    requires { Shaped card.now × (count ≤ number_values) × (at + count ≤ length card.now) }
-    ensures { RightNames card.now kind_next at count result }
-{
-    let fours = right_fours(card, games::KIND_NEXT, at, count);
-    right_from(card, games::KIND_NEXT, at, count, fours)
-}
-
-// The cells' parts, each its own word and its next words: the lowest wrong word stops the check.
-fn check_parts(card: &[u32]) -> Result<(), Refusal>
-    requires { Shaped card.now × FitsBelow card.now (front_length (card_observations card.now)) }
-    ensures { result ≡ words_checked card.now }
-{
-    let m = games::low_field(card[0]);
-    let o = games::number_field(card[0]);
-    let a = games::action_field(card[0]);
-    for c in 0..m {
-        let at = cell_place(o, Cell(c));
-        if !cell_fits(a, card[at]) {
-            return Err(Reason::NoCard.at(at));
-        }
-        let named = right_nexts(card, at + 1, o);
-        if named < o {
-            return Err(Reason::NoCard.at(at + 1 + named as usize));
-        }
-    }
-    Ok(())
-}
-
-// The words behind the head: the first words, then the cells' parts.
-fn check_words(card: &[u32]) -> Result<(), Refusal>
-    requires { Shaped card.now }
-    ensures { result ≡ words_checked card.now }
-{
-    let o = games::number_field(card[0]);
-    let named = right_from(card, games::KIND_FIRST, 1, o, 0);
-    if named < o {
-        return Err(Reason::NoCard.at(1 + named as usize));
-    }
-    check_parts(card)
-}
-
 // Refusal 13: the head, the length, the words in order.
 pub fn check(card: &[u32]) -> Result<(), Refusal>
     ensures { result ≡ checked card.now }
@@ -189,7 +103,7 @@ pub fn check(card: &[u32]) -> Result<(), Refusal>
     if card.len() != words {
         return Err(Reason::NoCard.at(card.len()));
     }
-    check_words(card)
+    Draft { words: card }.check()
 }
 
 // Where a cell's part begins: behind the front and the parts of the cells before it.
@@ -213,61 +127,6 @@ pub fn observations(card: &[u32]) -> u32
     ensures { result ≡ card_observations card.now }
 {
     games::number_field(card[0])
-}
-
-pub fn actions(card: &[u32]) -> u32
-    requires { checked card.now ≡ Ok tt }
-    ensures { result ≡ card_actions card.now }
-{
-    games::action_field(card[0])
-}
-
-// the cell that a first observation leads to,
-pub fn first_cell(card: &[u32], seen: Observation) -> Cell
-    requires { (checked card.now ≡ Ok tt) × (seen.0 < card_observations card.now) }
-    ensures { result.0 ≡ (automaton card.now).begins seen.0 }
-{
-    let place = 1 + seen.0 as usize;
-    Cell(games::low_field(card[place]))
-}
-
-// where a cell's own word stands, and the word, with its set and its action,
-fn own_place(card: &[u32], cell: Cell) -> usize
-    requires { (checked card.now ≡ Ok tt) × (cell.0 < card_cells card.now) }
-    ensures { result ≡ cell_place (card_observations card.now) cell.0 }
-{
-    cell_place(observations(card), cell)
-}
-
-fn own_word(card: &[u32], cell: Cell) -> u32
-    requires { (checked card.now ≡ Ok tt) × (cell.0 < card_cells card.now) }
-    ensures { result ≡ slice_index card.now (cell_place (card_observations card.now) cell.0) }
-{
-    let place = own_place(card, cell);
-    card[place]
-}
-
-pub fn cell_set(card: &[u32], cell: Cell) -> u32
-    requires { (checked card.now ≡ Ok tt) × (cell.0 < card_cells card.now) }
-    ensures { result ≡ (automaton card.now).set cell.0 }
-{
-    games::low_field(own_word(card, cell))
-}
-
-pub fn cell_action(card: &[u32], cell: Cell) -> Action
-    requires { (checked card.now ≡ Ok tt) × (cell.0 < card_cells card.now) }
-    ensures { result.0 ≡ (automaton card.now).action cell.0 }
-{
-    Action(games::action_field(own_word(card, cell)))
-}
-
-// and the cell that a later observation leads to.
-pub fn next_cell(card: &[u32], cell: Cell, seen: Observation) -> Cell
-    requires { (checked card.now ≡ Ok tt) × (cell.0 < card_cells card.now) × (seen.0 < card_observations card.now) }
-    ensures { result.0 ≡ (automaton card.now).next cell.0 seen.0 }
-{
-    let place = own_place(card, cell) + 1 + seen.0 as usize;
-    Cell(games::low_field(card[place]))
 }
 
 // Document 01's opening of a card with the first observation.

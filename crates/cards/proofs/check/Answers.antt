@@ -22,14 +22,14 @@ returns-then-card-words c =
     let right : head_fits (get_or c.args.card.now 0 0) ≡ true = sym c.head_fits.ensures ∙ c.if-not-head_fits.false in
     sym (wrong_length _ c.if-card-eq0.false right (λ e. c.if-card-words.true (e ∙ sym asked))))
 
-pub check_words-requires : goal.check_words-requires
-check_words-requires c =
+pub invariant_of-check : goal.invariant_of-check
+invariant_of-check c =
     let asked : c.card_length-words.result ≡ card_length (card_cells c.args.card.now) (card_observations c.args.card.now) = c.card_length-words.ensures ∙ ap₂ (λ (m o : ℕ). card_length m o) c.low_field.ensures c.number_field.ensures in
     let right : head_fits (get_or c.args.card.now 0 0) ≡ true = sym c.head_fits.ensures ∙ c.if-not-head_fits.false in
-    record { head = right; long = c.if-card-words.false ∙ asked }
+    record { shaped = record { head = right; long = c.if-card-words.false ∙ asked } }
 
 pub returns : goal.returns
 returns c =
     let asked : c.card_length-words.result ≡ card_length (card_cells c.args.card.now) (card_observations c.args.card.now) = c.card_length-words.ensures ∙ ap₂ (λ (m o : ℕ). card_length m o) c.low_field.ensures c.number_field.ensures in
     let right : head_fits (get_or c.args.card.now 0 0) ≡ true = sym c.head_fits.ensures ∙ c.if-not-head_fits.false in
-    c.check_words.ensures ∙ sym (only_words _ c.if-card-eq0.false right (c.if-card-words.false ∙ asked))
+    c.check.ensures ∙ sym (only_words _ c.if-card-eq0.false right (c.if-card-words.false ∙ asked))
