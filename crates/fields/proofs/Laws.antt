@@ -1,6 +1,6 @@
 -- What read and write answer, as the code has it.
 -- Assumes nothing.
-use mathlib.Core.Path.{◌≡◌, refl, sym, ap, ◌∙◌}
+use mathlib.Core.Path.{◌≡◌, refl, sym, ap, subst, ◌∙◌}
 use mathlib.Core.Bool.{true, false, cond, not, ◌&&◌}
 use mathlib.Core.List.{List}
 use Prim.Native.Nat.{ℕ, ◌+◌, ◌*◌, ◌^◌, ◌≤◌, ◌<◌}
@@ -25,7 +25,7 @@ use Rattle.games.specs.declared.Place.{Place}
 use Rattle.games.specs.declared.Place.TheVariants.{Shown, Move}
 use Rattle.games.specs.Answers.{refused}
 use Rattle.games.proofs.Answers.{never, cond_passed, found_none, then_fine}
-use Rattle.games.proofs.Places.{place_from, place_below, place_there}
+use Rattle.games.proofs.Places.{place_within, place_from, place_below, place_there}
 use Rattle.tables.specs.Layout.{head_word, bare_word}
 use Rattle.tables.specs.Check.{limits_hold, too_wide, sets_checked, parked_checked, parked_from, checked}
 use Rattle.tables.specs.Fields.{fields_shape, fields_of, field_at, game_of}
@@ -53,14 +53,16 @@ read_fine w f e g = rw (e, g)
 
 -- ---- the slots of the sets that the table has
 
-module _ (f : Fields) (l : Limited (fields_shape f)) (x : Place) (h : Within (fields_shape f) x) where
-  pub shown_slot : (j : Observation) → x ≡ Shown j → j.0 < max_observations
-  shown_slot j e = let k : Within (fields_shape f) (Shown j) = rw e at h in omega arith
+-- s is what the code has of the fields' numbers
+module _ (f : Fields) (l : Limited (fields_shape f)) (p : ℕ) (first : 1 ≤ p) (last : p < words_length f) (s : Shape) (same : s ≡ fields_shape f) where
+  there : (x : Place) → place_at s p ≡ x → Within (fields_shape f) x
+  there x e = subst (Within (fields_shape f)) (ap (λ (t : Shape). place_at t p) (sym same) ∙ e) (place_within (fields_shape f) p l.some_state last first)
 
-  pub move_slot : (a : Action) (i : State) → x ≡ Move a i → a.0 * f.states + i.0 < max_moves
-  move_slot a i e =
-      let k : Within (fields_shape f) (Move a i) = rw e at h in
-      slot_inside f a.0 i.0 l k.0 k.1
+  pub shown_slot : (j : Observation) → place_at s p ≡ Shown j → j.0 < max_observations
+  shown_slot j e = let k = there (Shown j) e in omega arith
+
+  pub move_slot : (a : Action) (i : State) → place_at s p ≡ Move a i → a.0 * f.states + i.0 < max_moves
+  move_slot a i e = let k = there (Move a i) e in slot_inside f a.0 i.0 l k.0 k.1
 
 -- ---- 11
 

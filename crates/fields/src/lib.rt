@@ -11,7 +11,7 @@ ghost use Rattle.fields.specs.RoundTrip.{WritesBack, ReadsBack};
 ghost use Rattle.fields.specs.Write.{mask_of, word_at, unused_zero, slots_checked, masks_checked, fields_checked, words_length, written_to, write_of};
 
 use games::{Place, Reason, Refusal};
-use tables::{Accepted, Fields};
+use tables::{Accepted, Fields, MoveWords, Sizes};
 
 // Checks a table and reads it into fields.
 #[tactic(auto, unfolding(crate::specs::Read::read_of))]
@@ -40,7 +40,7 @@ fn unused_zero(slots: &[u32], used: usize) -> bool
 fn check_slots(f: Fields) -> Result<(), Refusal>
     ensures { result ≡ slots_checked f }
 {
-    if !tables::limits_hold(tables::fields_shape(f)) {
+    if !tables::limits_hold(f.shape()) {
         return Err(Reason::BadHead.at(0));
     }
     let shown = f.shown;
@@ -78,11 +78,20 @@ impl Bounded {
         Ok(Bounded { fields })
     }
 
+    // Their numbers.
+    fn sizes(self) -> Sizes
+        ensures { result.shape ≡ fields_shape self.fields }
+    {
+        Sizes {
+            shape: self.fields.shape(),
+        }
+    }
+
     // The words of their table.
     fn words(self) -> usize
         ensures { result ≡ words_length self.fields }
     {
-        games::table_length(tables::fields_shape(self.fields))
+        games::table_length(self.fields.shape())
     }
 
     // The mask of the word at a place from 1 up.
@@ -91,7 +100,7 @@ impl Bounded {
         ensures { result ≡ mask_of self.fields p }
     {
         let f = self.fields;
-        match games::place_at(tables::fields_shape(f), p) {
+        match games::place_at(f.shape(), p) {
             Place::Start => f.start,
             Place::Bad => f.bad,
             Place::Parked => f.parked,
@@ -140,8 +149,14 @@ impl Narrow {
         ensures { result ≡ parked_checked (game_of self.bounded.fields) }
     {
         let f = self.bounded.fields;
-        let moves = f.moves;
-        tables::check_parked(&moves, 0, tables::fields_shape(f), f.parked)
+        let masks = f.moves;
+        let moves = MoveWords {
+            words: &masks,
+            base: 0,
+            sizes: self.bounded.sizes(),
+            parked: f.parked,
+        };
+        moves.check()
     }
 
     // The word at a place.
@@ -149,11 +164,11 @@ impl Narrow {
         requires { p < words_length self.bounded.fields }
         ensures { result ≡ word_at self.bounded.fields p }
     {
-        let s = tables::fields_shape(self.bounded.fields);
+        let sizes = self.bounded.sizes();
         if p == 0 {
-            return tables::head_word(s);
+            return sizes.head_word();
         }
-        tables::bare_word(s, p) + self.bounded.mask_at(p)
+        sizes.bare_word(p) + self.bounded.mask_at(p)
     }
 
     // Refusal 10, or the words in front of `out`.

@@ -41,17 +41,6 @@ fn head_right(w: u32) -> bool
     (w / games::HEAD_SPARE_AT == HEAD_TOP) & limits_hold(games::shape_of(w))
 }
 
-// The head for these numbers, and the bit where the table marks parked states.
-pub fn head_word(s: Shape) -> u32
-    requires { Limited s }
-    ensures { result ≡ head_word s }
-{
-    HEAD + games::parked_words(s) * games::HEAD_MARKED_AT
-        + s.observations * games::HEAD_OBSERVATIONS_AT
-        + s.actions * games::HEAD_ACTIONS_AT
-        + s.states
-}
-
 // Refusals 1, 2 and 3.
 fn check_size(table: &[u32]) -> Result<(), Refusal>
     ensures { result ≡ size_checked table.now }
@@ -147,17 +136,37 @@ pub fn start_set(table: &[u32], seen: Observation) -> u32
     Table { words: table }.start_set(seen)
 }
 
-// The word at a place from 1 up, with no state in its mask.
-pub fn bare_word(s: Shape, p: usize) -> u32
-    requires { Limited s × (1 ≤ p) × (p < table_length s) }
-    ensures { result ≡ bare_word (place_at s p) }
-{
-    match games::place_at(s, p) {
-        Place::Start => games::word(games::KIND_START, 0, 0, 0),
-        Place::Bad => games::word(games::KIND_BAD, 0, 0, 0),
-        Place::Parked => games::word(games::KIND_PARKED, 0, 0, 0),
-        Place::Shown(seen) => games::word(games::KIND_SHOWN, 0, seen.0, 0),
-        Place::Move(a, i) => games::word(games::KIND_MOVE, 0, i.0, a.0),
+// Numbers within the limits.
+#[derive(Clone, Copy)]
+pub struct Sizes {
+    pub shape: Shape,
+    pub ghost limited: { Limited shape },
+}
+
+impl Sizes {
+    // The head for these numbers, and the bit where the table marks parked states.
+    pub fn head_word(self) -> u32
+        ensures { result ≡ head_word self.shape }
+    {
+        let s = self.shape;
+        HEAD + games::parked_words(s) * games::HEAD_MARKED_AT
+            + s.observations * games::HEAD_OBSERVATIONS_AT
+            + s.actions * games::HEAD_ACTIONS_AT
+            + s.states
+    }
+
+    // The word at a place from 1 up, with no state in its mask.
+    pub fn bare_word(self, p: usize) -> u32
+        requires { (1 ≤ p) × (p < table_length self.shape) }
+        ensures { result ≡ bare_word (place_at self.shape p) }
+    {
+        match games::place_at(self.shape, p) {
+            Place::Start => games::word(games::KIND_START, 0, 0, 0),
+            Place::Bad => games::word(games::KIND_BAD, 0, 0, 0),
+            Place::Parked => games::word(games::KIND_PARKED, 0, 0, 0),
+            Place::Shown(seen) => games::word(games::KIND_SHOWN, 0, seen.0, 0),
+            Place::Move(a, i) => games::word(games::KIND_MOVE, 0, i.0, a.0),
+        }
     }
 }
 
@@ -167,7 +176,7 @@ fn is_placed(table: Table, p: usize) -> bool
     ensures { result ≡ placed table.entry.words.now p }
 {
     let w = table.words[p];
-    w == bare_word(table.shape(), p) + games::low_field(w)
+    w == table.sizes().bare_word(p) + games::low_field(w)
 }
 
 // The word is refused, by 4 or 5.
@@ -199,8 +208,13 @@ fn check_words(table: Table) -> Result<(), Refusal>
 fn check_departures(table: Table) -> Result<(), Refusal>
     ensures { result ≡ parked_checked (game table.entry.words.now) }
 {
-    let first_move = table.place_in(Place::Move(Action(0), State(0)));
-    check_parked(table.words, first_move, table.shape(), table.parked())
+    let moves = MoveWords {
+        words: table.words,
+        base: table.place_in(Place::Move(Action(0), State(0))),
+        sizes: table.sizes(),
+        parked: table.parked(),
+    };
+    moves.check()
 }
 
 // The table checks, 1 to 7 and 19.
@@ -230,15 +244,17 @@ pub struct Fields {
     pub moves: [u32; MOVE_SLOTS],
 }
 
-// The numbers of the fields.
-pub fn fields_shape(f: Fields) -> Shape
-    ensures { result ≡ fields_shape f }
-{
-    Shape {
-        states: f.states,
-        actions: f.actions,
-        observations: f.observations,
-        marked: f.marked,
+impl Fields {
+    // Their numbers.
+    pub fn shape(self) -> Shape
+        ensures { result ≡ fields_shape self }
+    {
+        Shape {
+            states: self.states,
+            actions: self.actions,
+            observations: self.observations,
+            marked: self.marked,
+        }
     }
 }
 
@@ -270,7 +286,7 @@ pub fn check_sets(f: Fields) -> Result<(), Refusal>
     ensures { result ≡ sets_checked (game_of f) }
 {
     if f.start == 0 {
-        return Err(Reason::NoStart.at(games::place_of(fields_shape(f), Place::Start)));
+        return Err(Reason::NoStart.at(games::place_of(f.shape(), Place::Start)));
     }
     for i in 0..f.states {
         if is_unseen(f, State(i)) {
@@ -280,31 +296,43 @@ pub fn check_sets(f: Fields) -> Result<(), Refusal>
     Ok(())
 }
 
-// State i is parked, and has a successor under some action: `words` has the moves from `base` on.
-fn is_departing(words: &[u32], base: usize, s: Shape, parked: u32, i: State) -> bool
-    requires { Limited s × (base + s.actions * s.states ≤ length words.now) × (i.0 < s.states) }
-    ensures { result ≡ departs_from words.now base s parked i.0 }
-{
-    if !sets::member(parked, i.0) {
-        return false;
-    }
-    for a in 0..s.actions {
-        if games::low_field(words[base + (a * s.states + i.0) as usize]) != 0 {
-            return true;
-        }
-    }
-    false
+// The moves of a table, as they stand in its words from a place on, and its parked states. The words may be masks without a kind.
+#[derive(Clone, Copy)]
+pub struct MoveWords<'w> {
+    pub words: &'w [u32],
+    pub base: usize,
+    pub sizes: Sizes,
+    pub parked: u32,
+    pub ghost inside: { base + sizes.shape.actions * sizes.shape.states ≤ length words.now },
 }
 
-// Refusal 19.
-pub fn check_parked(words: &[u32], base: usize, s: Shape, parked: u32) -> Result<(), Refusal>
-    requires { Limited s × (base + s.actions * s.states ≤ length words.now) }
-    ensures { result ≡ parked_from words.now base s parked }
-{
-    for i in 0..s.states {
-        if is_departing(words, base, s, parked, State(i)) {
-            return Err(Reason::ParkedMoves.at(i as usize));
+impl MoveWords<'_> {
+    // State i is parked, and has a successor under some action.
+    fn departs(self, i: State) -> bool
+        requires { i.0 < self.sizes.shape.states }
+        ensures { let m = self.entry in result ≡ departs_from m.words.now m.base m.sizes.shape m.parked i.0 }
+    {
+        if !sets::member(self.parked, i.0) {
+            return false;
         }
+        let s = self.sizes.shape;
+        for a in 0..s.actions {
+            if games::low_field(self.words[self.base + (a * s.states + i.0) as usize]) != 0 {
+                return true;
+            }
+        }
+        false
     }
-    Ok(())
+
+    // Refusal 19: no parked state has a successor.
+    pub fn check(self) -> Result<(), Refusal>
+        ensures { let m = self.entry in result ≡ parked_from m.words.now m.base m.sizes.shape m.parked }
+    {
+        for i in 0..self.sizes.shape.states {
+            if self.departs(State(i)) {
+                return Err(Reason::ParkedMoves.at(i as usize));
+            }
+        }
+        Ok(())
+    }
 }

@@ -9,7 +9,7 @@ ghost use Rattle.tables.specs.Layout.{shape_in, Sized};
 ghost use Rattle.tables.specs.Fields.{masks_from, fields_of};
 ghost use Rattle.tables.specs.Check.{size_checked, checked};
 
-use crate::Fields;
+use crate::{Fields, Sizes};
 use games::{Action, Observation, Place, Refusal, Shape, State};
 
 // Words whose head is in order, and as many as it asks: each place of the head's numbers can be read.
@@ -41,6 +41,14 @@ impl<'t> Table<'t> {
         ensures { result ≡ shape_in self.entry.words.now }
     {
         games::shape_of(self.words[0])
+    }
+
+    pub fn sizes(self) -> Sizes
+        ensures { result.shape ≡ shape_in self.entry.words.now }
+    {
+        Sizes {
+            shape: self.shape(),
+        }
     }
 
     #[tactic(auto, unfolding(games::specs::Words::game))]

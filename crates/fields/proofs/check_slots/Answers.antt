@@ -14,12 +14,12 @@ use Rattle.fields.proofs.check_slots.Goals as goal
 pub returns-then-not-limits_hold : goal.returns-then-not-limits_hold
 returns-then-not-limits_hold c =
     rw c.at.ensures
-    (let limits : c.limits_hold.result ≡ limits_hold (fields_shape c.args.f) = c.limits_hold.ensures ∙ ap limits_hold c.fields_shape.ensures in
+    (let limits : c.limits_hold.result ≡ limits_hold (fields_shape c.args.f) = c.limits_hold.ensures ∙ ap limits_hold c.shape.ensures in
     sym (slots_limits c.args.f (sym limits ∙ c.if-not-limits_hold.true)))
 
 pub overflow_mul-f : goal.overflow_mul-f
 overflow_mul-f c =
-    let limits : c.limits_hold.result ≡ limits_hold (fields_shape c.args.f) = c.limits_hold.ensures ∙ ap limits_hold c.fields_shape.ensures in
+    let limits : c.limits_hold.result ≡ limits_hold (fields_shape c.args.f) = c.limits_hold.ensures ∙ ap limits_hold c.shape.ensures in
     let within : limits_hold (fields_shape c.args.f) ≡ true = sym limits ∙ c.if-not-limits_hold.false in
     let moves : c.args.f.actions * c.args.f.states ≤ max_moves = let l = limits_hold_lem (fields_shape c.args.f) within in
     moves_below _ _ l.most_actions l.most_states in
@@ -27,7 +27,7 @@ overflow_mul-f c =
 
 pub overflow_cast-f-2 : goal.overflow_cast-f-2
 overflow_cast-f-2 c =
-    let limits : c.limits_hold.result ≡ limits_hold (fields_shape c.args.f) = c.limits_hold.ensures ∙ ap limits_hold c.fields_shape.ensures in
+    let limits : c.limits_hold.result ≡ limits_hold (fields_shape c.args.f) = c.limits_hold.ensures ∙ ap limits_hold c.shape.ensures in
     let within : limits_hold (fields_shape c.args.f) ≡ true = sym limits ∙ c.if-not-limits_hold.false in
     let moves : c.args.f.actions * c.args.f.states ≤ max_moves = let l = limits_hold_lem (fields_shape c.args.f) within in
     moves_below _ _ l.most_actions l.most_states in
@@ -36,12 +36,12 @@ overflow_cast-f-2 c =
 pub returns-then-not-clean : goal.returns-then-not-clean
 returns-then-not-clean c =
     rw c.at-then-not-clean.ensures
-    (let limits : c.limits_hold.result ≡ limits_hold (fields_shape c.args.f) = c.limits_hold.ensures ∙ ap limits_hold c.fields_shape.ensures in
+    (let limits : c.limits_hold.result ≡ limits_hold (fields_shape c.args.f) = c.limits_hold.ensures ∙ ap limits_hold c.shape.ensures in
     let within : limits_hold (fields_shape c.args.f) ≡ true = sym limits ∙ c.if-not-limits_hold.false in
     sym (slots_dirty c.args.f within (rw (← c.unused_zero.ensures, ← c.unused_zero-2.ensures) c.if-not-clean.true)))
 
 pub returns : goal.returns
 returns c =
-    let limits : c.limits_hold.result ≡ limits_hold (fields_shape c.args.f) = c.limits_hold.ensures ∙ ap limits_hold c.fields_shape.ensures in
+    let limits : c.limits_hold.result ≡ limits_hold (fields_shape c.args.f) = c.limits_hold.ensures ∙ ap limits_hold c.shape.ensures in
     let within : limits_hold (fields_shape c.args.f) ≡ true = sym limits ∙ c.if-not-limits_hold.false in
     sym (slots_fine c.args.f within (rw (← c.unused_zero.ensures, ← c.unused_zero-2.ensures) c.if-not-clean.false))

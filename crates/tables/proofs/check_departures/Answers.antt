@@ -6,8 +6,10 @@ use Rattle.tables.specs.Layout.{shape_in}
 use Rattle.tables.proofs.Same.{table_parked}
 use Rattle.tables.proofs.check_departures.Goals as goal
 
-pub check_parked-requires : goal.check_parked-requires
-check_parked-requires c = rw (c.place_in-first_move.ensures, c.shape.ensures) (c.args.table.sized.limits, omega (arith, moves_row (shape_in c.args.table.words.now), c.args.table.sized.long))
+pub invariant_of-moves : goal.invariant_of-moves
+invariant_of-moves c = record {
+  inside = rw (c.place_in.ensures, c.sizes.ensures) (omega (arith, moves_row (shape_in c.args.table.words.now), c.args.table.sized.long));
+}
 
 pub returns : goal.returns
-returns c = c.check_parked.ensures ∙ table_parked c.args.table.words.now _ _ _ c.place_in-first_move.ensures c.shape.ensures c.parked.ensures
+returns c = c.check.ensures ∙ table_parked c.args.table.words.now _ _ _ c.place_in.ensures c.sizes.ensures c.parked.ensures

@@ -11,7 +11,7 @@ use Rattle.tables.proofs.check_sets.Goals as goal
 use Rattle.games.specs.declared.Reason.TheVariants as reason
 
 pub place_of-requires : goal.place_of-requires
-place_of-requires c = rw c.fields_shape.ensures (omega (arith, c.requires))
+place_of-requires c = rw c.shape.ensures (omega (arith, c.requires))
 
 pub returns-then-f-eq0 : goal.returns-then-f-eq0
 unfolding game_of

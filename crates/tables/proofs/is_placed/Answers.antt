@@ -10,16 +10,16 @@ use Rattle.tables.proofs.Layouts.{bare_small}
 use Rattle.tables.proofs.is_placed.Goals as goal
 
 pub bare_word-requires : goal.bare_word-requires
-bare_word-requires c = rw c.shape.ensures (c.args.table.sized.limits, c.requires.0, omega (arith, c.args.table.sized.long))
+bare_word-requires c = rw c.sizes.ensures (c.requires.0, omega (arith, c.args.table.sized.long))
 
 pub overflow_add-result : goal.overflow_add-result
 overflow_add-result c =
-    let bare : c.bare_word.result ≡ bare_word (place_at (shape_in c.args.table.words.now) c.args.p) = c.bare_word.ensures ∙ ap (λ (s : Shape). bare_word (place_at s c.args.p)) c.shape.ensures in
+    let bare : c.bare_word.result ≡ bare_word (place_at (shape_in c.args.table.words.now) c.args.p) = c.bare_word.ensures ∙ ap (λ (s : Shape). bare_word (place_at s c.args.p)) c.sizes.ensures in
     let s = shape_in c.args.table.words.now in
     omega (arith, c.low_field.ensures, bare, bare_small s c.args.table.sized.limits (place_at s c.args.p) (place_within s c.args.p c.args.table.sized.limits.some_state (omega (arith, c.args.table.sized.long)) c.requires.0))
 
 pub returns : goal.returns
 unfolding placed
 returns c =
-    let bare : c.bare_word.result ≡ bare_word (place_at (shape_in c.args.table.words.now) c.args.p) = c.bare_word.ensures ∙ ap (λ (s : Shape). bare_word (place_at s c.args.p)) c.shape.ensures in
+    let bare : c.bare_word.result ≡ bare_word (place_at (shape_in c.args.table.words.now) c.args.p) = c.bare_word.ensures ∙ ap (λ (s : Shape). bare_word (place_at s c.args.p)) c.sizes.ensures in
     rw (bare, c.low_field.ensures)

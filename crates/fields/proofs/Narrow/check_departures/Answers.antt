@@ -8,10 +8,12 @@ use Rattle.games.proofs.Limits.{moves_below}
 use Rattle.fields.proofs.Laws.{moves_parked}
 use Rattle.fields.proofs.Narrow.check_departures.Goals as goal
 
-pub check_parked-requires : goal.check_parked-requires
-check_parked-requires c =
+pub invariant_of-moves : goal.invariant_of-moves
+invariant_of-moves c =
+    let f = c.args.self.bounded.fields in
+    let l = c.args.self.bounded.limited in
     let slots : length c.args.self.bounded.fields.moves ≡ max_moves = search rules in
-    rw c.fields_shape.ensures (c.args.self.bounded.limited, omega (arith, slots, moves_below c.args.self.bounded.fields.actions c.args.self.bounded.fields.states c.args.self.bounded.limited.most_actions c.args.self.bounded.limited.most_states))
+    record { inside = rw c.sizes.ensures (omega (arith, slots, moves_below f.actions f.states l.most_actions l.most_states)) }
 
 pub returns : goal.returns
-returns c = c.check_parked.ensures ∙ moves_parked c.args.self.bounded.fields c.args.self.bounded.limited c.args.self.masks _ c.fields_shape.ensures
+returns c = c.check.ensures ∙ moves_parked c.args.self.bounded.fields c.args.self.bounded.limited c.args.self.masks _ c.sizes.ensures

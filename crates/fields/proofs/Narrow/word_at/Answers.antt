@@ -13,16 +13,13 @@ use Rattle.tables.proofs.Layouts.{bare_small}
 use Rattle.fields.proofs.Laws.{word_head, word_place, mask_low}
 use Rattle.fields.proofs.Narrow.word_at.Goals as goal
 
-pub head_word-requires : goal.head_word-requires
-head_word-requires c = rw c.fields_shape-s.ensures c.args.self.bounded.limited
-
 pub returns-then-p-eq0 : goal.returns-then-p-eq0
-returns-then-p-eq0 c = c.head_word.ensures ∙ ap head_word c.fields_shape-s.ensures ∙ sym (word_head c.args.self.bounded.fields c.args.p c.if-p-eq0.true)
+returns-then-p-eq0 c = c.head_word.ensures ∙ ap head_word c.sizes-sizes.ensures ∙ sym (word_head c.args.self.bounded.fields c.args.p c.if-p-eq0.true)
 
 pub bare_word-requires : goal.bare_word-requires
 bare_word-requires c =
     let from_one : 1 ≤ c.args.p = omega arith in
-    rw c.fields_shape-s.ensures (c.args.self.bounded.limited, from_one, c.requires)
+    rw c.sizes-sizes.ensures (from_one, c.requires)
 
 pub mask_at-requires : goal.mask_at-requires
 mask_at-requires c =
@@ -32,12 +29,12 @@ mask_at-requires c =
 pub overflow_add-result : goal.overflow_add-result
 overflow_add-result c =
     let from_one : 1 ≤ c.args.p = omega arith in
-    let bare : c.bare_word.result ≡ bare_word (place_at (fields_shape c.args.self.bounded.fields) c.args.p) = c.bare_word.ensures ∙ ap (λ (s : Shape). bare_word (place_at s c.args.p)) c.fields_shape-s.ensures in
+    let bare : c.bare_word.result ≡ bare_word (place_at (fields_shape c.args.self.bounded.fields) c.args.p) = c.bare_word.ensures ∙ ap (λ (s : Shape). bare_word (place_at s c.args.p)) c.sizes-sizes.ensures in
     let there = place_within (fields_shape c.args.self.bounded.fields) c.args.p c.args.self.bounded.limited.some_state c.requires from_one in
     let low = mask_low c.args.self.bounded.fields c.args.self.masks c.args.p from_one c.requires in
     omega (arith, c.mask_at.ensures, bare, bare_small (fields_shape c.args.self.bounded.fields) c.args.self.bounded.limited (place_at (fields_shape c.args.self.bounded.fields) c.args.p) there, low, pow_mono {j = max_states} c.args.self.bounded.limited.most_states)
 
 pub returns : goal.returns
 returns c =
-    let bare : c.bare_word.result ≡ bare_word (place_at (fields_shape c.args.self.bounded.fields) c.args.p) = c.bare_word.ensures ∙ ap (λ (s : Shape). bare_word (place_at s c.args.p)) c.fields_shape-s.ensures in
+    let bare : c.bare_word.result ≡ bare_word (place_at (fields_shape c.args.self.bounded.fields) c.args.p) = c.bare_word.ensures ∙ ap (λ (s : Shape). bare_word (place_at s c.args.p)) c.sizes-sizes.ensures in
     rw (bare, c.mask_at.ensures) (sym (word_place c.args.self.bounded.fields c.args.p c.if-p-eq0.false))

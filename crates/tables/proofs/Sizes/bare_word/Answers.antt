@@ -1,4 +1,4 @@
--- `tables::bare_word` meets its contract: the word of what stands there; its numbers fit, because the table has it.
+-- `Sizes::bare_word` meets its contract: the word of what stands there; its numbers fit, because the table has it.
 use mathlib.Core.Path.{sym, ap, ◌∙◌}
 use native.Mathlib.Omega.{arith}
 use Rattle.games.specs.Places.{Within}
@@ -6,20 +6,20 @@ use Rattle.games.proofs.Places.{place_within}
 use Rattle.tables.specs.Layout.{bare_word}
 use Rattle.tables.proofs.Bounds.{length_short}
 use Rattle.tables.proofs.Layouts.{shown_fits, move_fits}
-use Rattle.tables.proofs.bare_word.Goals as goal
+use Rattle.tables.proofs.Sizes.bare_word.Goals as goal
 
 pub place_at-requires : goal.place_at-requires
-place_at-requires c = omega (arith, length_short c.args.s c.requires.0)
+place_at-requires c = omega (arith, length_short c.args.self.shape c.args.self.limited)
 
 pub word-requires-in-Shown : goal.word-requires-in-Shown
 word-requires-in-Shown c =
-    let within : Within c.args.s c.place_at.result = rw c.place_at.ensures (place_within c.args.s c.args.p c.requires.0.some_state c.requires.2 c.requires.1) in
-    omega (arith, shown_fits c.args.s c.requires.0 _ _ within c.in-Shown.is)
+    let within : Within c.args.self.shape c.place_at.result = rw c.place_at.ensures (place_within c.args.self.shape c.args.p c.args.self.limited.some_state c.requires.1 c.requires.0) in
+    omega (arith, shown_fits c.args.self.shape c.args.self.limited _ _ within c.in-Shown.is)
 
 pub word-requires-in-Move : goal.word-requires-in-Move
 word-requires-in-Move c =
-    let within : Within c.args.s c.place_at.result = rw c.place_at.ensures (place_within c.args.s c.args.p c.requires.0.some_state c.requires.2 c.requires.1) in
-    omega (arith, move_fits c.args.s c.requires.0 _ _ _ within c.in-Move.is)
+    let within : Within c.args.self.shape c.place_at.result = rw c.place_at.ensures (place_within c.args.self.shape c.args.p c.args.self.limited.some_state c.requires.1 c.requires.0) in
+    omega (arith, move_fits c.args.self.shape c.args.self.limited _ _ _ within c.in-Move.is)
 
 pub returns-in-Start : goal.returns-in-Start
 unfolding bare_word
