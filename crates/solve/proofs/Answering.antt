@@ -1,36 +1,37 @@
 -- Laws of what is printed: for each answer of solve, and for each input.
 -- Assumes nothing.
 use mathlib.Core.Path.{◌≡◌, refl, sym, ap, ◌∙◌, subst}
-use mathlib.Core.Bool.{true, false}
 use mathlib.Core.List.{List, ◌++◌}
 use Prim.Native.Nat.{ℕ, ◌*◌, ◌/◌, ◌%◌, ◌≤◌, ◌<◌}
-use native.Mathlib.Nat.{mul_comm, mul-le-mul_right, min-le_right, not-suc-le-zero}
+use native.Mathlib.Nat.{mul_comm, mul-le-mul_right}
 use native.Mathlib.Omega.{arith}
-use borrow.Author.Tests.{eq-eqb, ne_eqb, lt-ltb, le-ltb, ltb-true}
+use borrow.Author.Tests.{eq-eqb, ne_eqb, lt-ltb, le-ltb}
 use lib.ListN.{length, take}
-use lib.IntN.{ℤ, pos, negsuc}
-use lib.Signed.{lt_z}
-use Rattle.sets.proofs.Logic.{clash}
+use lib.Seq.{length-take-le}
+use Rattle.solver.proofs.Promises.{Given, yes_given}
 use Rattle.games.specs.Answers.{Leaves, leaves}
 use Rattle.games.specs.Format.{max_observations, low_values, number_values}
-use Rattle.games.specs.Words.{part_length, card_length}
+use Rattle.games.specs.Words.{game, part_length, card_length}
 use Rattle.solver.specs.Solve.{Buffers, buffers, solved, written}
-use Rattle.solver.specs.Solve.{Answer}
-use Rattle.solver.specs.declared.Verdict.TheVariants.{Yes as SaysYes, No as SaysNo}
+use Rattle.solver.specs.Solve.{Answer, says_yes, says_no}
 use Rattle.text.specs.Text.{Wrote}
+use Rattle.text.specs.Puts.{Puts}
+use Rattle.text.specs.declared.Writer.{Writer}
 use Rattle.printout.specs.Lines.{yes_line, card_text, no_line, refused_line, answer_text, unread_line}
-use Rattle.solve.specs.Bytes.{words_of}
-use Rattle.solve.specs.Program.{input_bytes, buffer_words, blank, card_in, table_text, program_text, Counts, taken_of, reply_to, reply_text}
-use Rattle.solve.specs.declared.Input.{Input}
-use Rattle.solve.specs.declared.Input.TheVariants.{Bytes, Failed}
-use Rattle.io.specs.Counts.{clamp_len}
-use Rattle.games.specs.declared.Reason.{Reason}
-use Rattle.games.specs.Answers.{refused}
-use Rattle.std.specs.Prelude.{Err}
+use Rattle.words.specs.Bytes.{words_of}
+use Rattle.solve.specs.Program.{input_bytes, buffer_words, blank, card_in, table_text, program_text, Counts, reply_to, reply_text}
+use Rattle.solve.specs.declared.Stream.TheVariants.{Output, Errors}
+use Rattle.games.specs.declared.Refusal.{Refusal}
+use Rattle.games.specs.Answers.{number_of}
+use Rattle.std.specs.Prelude.{Result, Ok, Err}
 
 -- another name for the text that was written
-pub wrote_same : {s t d e : List ℕ} {r : ℕ} → s ≡ t → Wrote s 0 d r e → Wrote t 0 d r e
-wrote_same {s} {t} {d} {e} {r} h w = subst (λ (x : List ℕ). Wrote x 0 d r e) h w
+pub puts_same : {s t : List ℕ} {w v : Writer} → s ≡ t → Puts s w v → Puts t w v
+puts_same {s} {t} {w} {v} h p = subst (λ (x : List ℕ). Puts x w v) h p
+
+-- what a writer that began with d leaves: k is the place behind the text, and e the buffer
+pub left_by : {s d : List ℕ} {w v : Writer} (k : ℕ) (e : List ℕ) → w.at ≡ 0 → w.out.now ≡ d → Puts s w v → k ≡ v.at → e ≡ v.out.now → Wrote s 0 d k e
+left_by k e z f p g h = record { next = omega (arith, g, p.wrote.next, z); stored = h ∙ rw (z, f) at p.wrote.stored }
 
 -- ---- a table, by solve's answer r, which left d in the card room
 
@@ -41,26 +42,35 @@ module _ (w work card : List ℕ) (r : Answer) (left d : List ℕ) (e : leaves r
       ap (λ (y : Answer). answer_text y (card_in w y d)) (sym f)
       ∙ ap (λ (o : Leaves Answer Buffers). answer_text o.answer (card_in w o.answer o.left.card)) e
 
-  pub refused_text : (number : Reason) (place : ℕ) → r ≡ refused number place → refused_line number place ≡ table_text w work card
+  pub refused_text : (stop : Refusal) → r ≡ Err stop → refused_line (number_of stop.reason) stop.place ≡ table_text w work card
   unfolding answer_text
-  refused_text number place f = said (refused number place) f
+  refused_text stop f = said (Err stop) f
 
-  pub no_text : (k : ℕ) → r ≡ No k → no_line k ≡ table_text w work card
+  pub no_text : (k : ℕ) → r ≡ says_no k → no_line k ≡ table_text w work card
   unfolding answer_text
-  no_text k f = said (No k) f
+  no_text k f = said (says_no k) f
 
-  pub yes_text : (t m : ℕ) → r ≡ Yes t m → yes_line t m ++ card_text (written w m d) ≡ table_text w work card
+  pub yes_text : (t m : ℕ) → r ≡ says_yes t m → yes_line t m ++ card_text (written w m d) ≡ table_text w work card
   unfolding answer_text
-  yes_text t m f = said (Yes t m) f
+  yes_text t m f = said (says_yes t m) f
+
+  -- after a yes: its card lies in front of its room; n is the card's length, as the code has it
+  module _ (t m : ℕ) (f : r ≡ says_yes t m) where
+    pub given : Given w work card r d m
+    given = yes_given _ _ _ r d t m left e f
+
+    module _ (n : ℕ) (g : n ≡ card_length m (game w).observations) where
+      pub in_room : length d ≡ length card → n ≤ length d
+      in_room h = omega (arith, g, h, given.fits)
+
+      pub front_long : length d ≡ length card → n ≡ length (take n d)
+      front_long h = sym (length-take-le n d (in_room h))
+
+      pub front_is : take n d ≡ written w m d
+      front_is = ap (λ (k : ℕ). take k d) g
 
 pub same_text : {v w work card : List ℕ} → v ≡ w → work ≡ blank → card ≡ blank → table_text v work card ≡ table_text w blank blank
 same_text e f g = rw (e, f, g)
-
--- the answer is a yes, a no or a refusal
-pub no_fourth : (r : Answer) → ((t m : ℕ) → r ≡ Yes t m → ⊥) → ((k : ℕ) → r ≡ No k → ⊥) → ((n : Reason) (p : ℕ) → r ≡ refused n p → ⊥) → ⊥
-no_fourth (Yes t m) a b c = a t m refl
-no_fourth (No k) a b c = b k refl
-no_fourth (Err stop) a b c = c stop.reason stop.place refl
 
 -- a card in a room of so many words has numbers that its head can hold
 pub card_fits : (m o p n : ℕ) → p ≡ o → o ≤ max_observations → n ≡ buffer_words → card_length m o ≤ n → (m ≤ low_values) × (p < number_values)
@@ -85,32 +95,14 @@ module _ (b : List ℕ) where
 
 -- ---- what reading gave
 
-pub counted : (r : Input) (n k : ℕ) → r ≡ Bytes n → Counts k r → n ≤ k
+pub counted : {E : Type 0} (r : Result ℕ E) (n k : ℕ) → r ≡ Ok n → Counts k r → n ≤ k
 counted r n k e c = subst (Counts k) e c
-
-pub failed_taken : (got : ℤ) (n : ℕ) → lt_z got (pos 0) ≡ true → Failed ≡ taken_of got n
-unfolding taken_of
-failed_taken (pos k) n e = absurd (not-suc-le-zero (ltb-true k 0 e))
-failed_taken (negsuc k) n e = refl
-
-pub bytes_taken : (got : ℤ) (n k : ℕ) → lt_z got (pos 0) ≡ false → k ≡ clamp_len got n → Bytes k ≡ taken_of got n
-unfolding taken_of
-bytes_taken (pos j) n k e f = ap Bytes f
-bytes_taken (negsuc j) n k e f = clash {b = true} refl e
-
-few_taken : (got : ℤ) (n : ℕ) → Counts n (taken_of got n)
-unfolding taken_of
-few_taken (pos k) n = min-le_right k n
-few_taken (negsuc k) n = tt
-
-pub taken_counts : (r : Input) (got : ℤ) (n : ℕ) → r ≡ taken_of got n → Counts n r
-taken_counts r got n e = subst (Counts n) (sym e) (few_taken got n)
 
 -- ---- the reply
 
-module _ (input : Input) (b : List ℕ) where
-  pub failed_reply : input ≡ Failed → (pos 2 ≡ reply_to input) × (unread_line ≡ reply_text input b)
-  failed_reply e = (sym (ap reply_to e), sym (ap (λ (x : Input). reply_text x b) e))
+module _ {E : Type 0} (input : Result ℕ E) (b : List ℕ) where
+  pub failed_reply : (e : E) → input ≡ Err e → (Errors ≡ reply_to input) × (unread_line ≡ reply_text input b)
+  failed_reply e f = rw f (refl, refl)
 
-  pub bytes_reply : (n : ℕ) → input ≡ Bytes n → (pos 1 ≡ reply_to input) × (program_text (take n b) ≡ reply_text input b)
-  bytes_reply n e = (sym (ap reply_to e), sym (ap (λ (x : Input). reply_text x b) e))
+  pub bytes_reply : (n : ℕ) → input ≡ Ok n → (Output ≡ reply_to input) × (program_text (take n b) ≡ reply_text input b)
+  bytes_reply n f = rw f (refl, refl)

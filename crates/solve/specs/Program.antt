@@ -1,17 +1,15 @@
 -- What the solving program prints for the bytes on its standard input (document 01, "Stations to try").
 -- Assumes nothing.
-use Rattle.std.specs.Prelude.{cond, not, List, [], ℕ, ◌+◌, ◌*◌, ◌/◌, ◌%◌, ◌≤◌, min, eqb, ltb, length, take, replicate, ℤ, pos, negsuc}
+use Rattle.std.specs.Prelude.{cond, not, List, [], ℕ, ◌+◌, ◌*◌, ◌/◌, ◌%◌, ◌≤◌, eqb, ltb, length, take, replicate, Result, Ok, Err, IfOk}
 use Rattle.games.specs.Format.{max_sets}
-use Rattle.std.specs.Prelude.{Ok, Err}
 use Rattle.solver.specs.Solve.{Answer, solved, written}
 use Rattle.solver.specs.declared.Verdict.TheVariants.{Yes, No}
 use Rattle.printout.specs.Lines.{answer_text, unread_line, line_bytes}
-use Rattle.solve.specs.Bytes.{words_of}
-use Rattle.solve.specs.declared.Input.{Input}
-use Rattle.solve.specs.declared.Input.TheVariants.{Bytes, Failed}
+use Rattle.words.specs.Bytes.{words_of}
+use Rattle.solve.specs.declared.Stream.{Stream}
+use Rattle.solve.specs.declared.Stream.TheVariants.{Output, Errors}
 use Rattle.games.specs.declared.Reason.TheVariants as reason
 use Rattle.games.specs.Answers.{refused}
-use Rattle.std.specs.Prelude.{Err}
 
 -- the most bytes that are taken for a table
 abbrev pub input_bytes : ℕ
@@ -45,23 +43,17 @@ program_text b =
     (cond (not (eqb (length b % 4) 0)) (answer_text (refused reason.BadLength (length b / 4)) [])
     (table_text (words_of (length b / 4) b) blank blank))
 
--- ---- what reading gave, and the reply to it
-
--- what C's read answers: so many of the buffer's bytes, or a failure, which is no end of the input
-unfoldable pub taken_of : ℤ → (room : ℕ) → Input
-taken_of (pos k) n = Bytes (min k n)
-taken_of (negsuc k) n = Failed
+-- ---- what reading gave, so many bytes or a failure, which is no end of the input; and the reply to it
 
 -- no more bytes than there was room for
-abbrev pub Counts : (room : ℕ) → Input → Type 0
-Counts k (Bytes n) = n ≤ k
-Counts k Failed = Unit {0}
+abbrev pub Counts : {E : Type 0} → (room : ℕ) → Result ℕ E → Type 0
+Counts k r = IfOk r (λ n. n ≤ k)
 
 -- the text for the bytes that were read goes to standard output; that reading failed is told on standard error
-abbrev pub reply_to : Input → ℤ
-reply_to (Bytes n) = pos 1
-reply_to Failed = pos 2
+abbrev pub reply_to : {E : Type 0} → Result ℕ E → Stream
+reply_to (Ok n) = Output
+reply_to (Err e) = Errors
 
-abbrev pub reply_text : Input → (buffer : List ℕ) → List ℕ
-reply_text (Bytes n) b = program_text (take n b)
-reply_text Failed b = unread_line
+abbrev pub reply_text : {E : Type 0} → Result ℕ E → (buffer : List ℕ) → List ℕ
+reply_text (Ok n) b = program_text (take n b)
+reply_text (Err e) b = unread_line

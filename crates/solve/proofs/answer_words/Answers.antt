@@ -5,8 +5,8 @@ use Prim.Native.Nat.{ℕ, ◌/◌, ◌≤◌}
 use native.Mathlib.Omega.{arith}
 use lib.ListN.{length, take, drop, length-append}
 use lib.Seq.{length-take-le, take_at}
-use Rattle.solve.specs.Bytes.{words_of}
-use Rattle.solve.proofs.Answering.{wrote_same, same_text}
+use Rattle.words.specs.Bytes.{words_of}
+use Rattle.solve.proofs.Answering.{puts_same, same_text}
 use Rattle.solve.proofs.answer_words.Goals as goal
 
 pub slice_bounds-decode-end : goal.slice_bounds-decode-end
@@ -58,4 +58,4 @@ returns c =
     let are_words : take count (decoded ++ drop count input) ≡ words_of count bytes = take_at decoded (drop count input) count is_long
     ∙ c.decode.ensures
     ∙ ap (λ (n : ℕ). words_of n bytes) front in
-    (wrote_same (same_text are_words c.buffer-work.ensures.value c.buffer-card.ensures.value) c.report.ensures.0, c.report.ensures.1)
+    (puts_same (same_text are_words c.buffer-work.ensures.value c.buffer-card.ensures.value) c.report.ensures.0, c.report.ensures.1)

@@ -1,8 +1,7 @@
--- Words as little-endian bytes (document 01, "The solving program").
+-- Words as little-endian bytes.
 -- Assumes nothing.
 use Rattle.std.specs.Prelude.{List, [], ◌∷◌, ℕ, ◌+◌, ◌*◌, get_or}
 use Rattle.sets.specs.Bounded.{gather}
-use Rattle.std.specs.Prelude.{Ok}
 
 -- the word whose bytes begin at a place, the lowest first
 abbrev pub word : List ℕ → ℕ → ℕ

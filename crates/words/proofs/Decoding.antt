@@ -6,7 +6,7 @@ use Prim.Native.Nat.{ℕ, ◌+◌, ◌*◌, ◌<◌}
 use lib.ListN.{length, take, set}
 use Rattle.sets.specs.Bounded.{gather}
 use Rattle.sets.proofs.Fills.{values_more}
-use Rattle.solve.specs.Bytes.{word, words_of}
+use Rattle.words.specs.Bytes.{word, words_of}
 
 pub words_none : (b : List ℕ) → take 0 b ≡ words_of 0 b
 unfolding words_of gather
