@@ -107,16 +107,6 @@ fn merge<C: Combination>(a: &mut [u64], b: &[u64])
     }
 }
 
-// The kept sets of what the lists hold, as bits in `a`; `b` is work room.
-fn hold<C: Combination>(lists: Lists, a: &mut [u64], b: &mut [u64])
-    requires { (length a.old ≡ lanes lists.n) × (length b.old ≡ lanes lists.n) }
-    ensures { Bits lists.entry.n (held C.keeps lists.entry.first.now lists.entry.second.now) a.new }
-{
-    families::below(lists.first, lists.n, a);
-    families::below(lists.second, lists.n, b);
-    merge::<C>(a, b);
-}
-
 // The sets in front of `out`, ascending; refused where there are more than places.
 fn fit(bits: &[u64], out: &mut [u32]) -> Result<usize, Refusal>
     requires { length bits.now ≤ max_lanes }
@@ -129,29 +119,41 @@ fn fit(bits: &[u64], out: &mut [u32]) -> Result<usize, Refusal>
     Ok(families::write(bits, out))
 }
 
-// The result in front of `out`, where it fits. `a` and `b` are work room.
-fn find<C: Combination>(
-    lists: Lists,
-    a: &mut [u64],
-    b: &mut [u64],
-    out: &mut [u32],
-) -> Result<usize, Refusal>
-    requires { (length a.old ≡ lanes lists.n) × (length b.old ≡ lanes lists.n) }
-    ensures { leaves result out.new ≡ fitted (C.made lists.entry.n lists.entry.first.now lists.entry.second.now) out.old }
-{
-    hold::<C>(lists, a, b);
-    families::maximal_bits(a, lists.n, b);
-    fit(b, out)
-}
+impl Lists<'_> {
+    // The kept sets of what the lists hold, as bits in `a`; `b` is work room.
+    fn hold<C: Combination>(self, a: &mut [u64], b: &mut [u64])
+        requires { (length a.old ≡ lanes self.n) × (length b.old ≡ lanes self.n) }
+        ensures { Bits self.entry.n (held C.keeps self.entry.first.now self.entry.second.now) a.new }
+    {
+        families::below(self.first, self.n, a);
+        families::below(self.second, self.n, b);
+        merge::<C>(a, b);
+    }
 
-// The same, with its work room.
-fn deliver<C: Combination>(lists: Lists, out: &mut [u32]) -> Result<usize, Refusal>
-    ensures { leaves result out.new ≡ fitted (C.made lists.entry.n lists.entry.first.now lists.entry.second.now) out.old }
-{
-    let end = families::lane_count(lists.n);
-    let mut a = [0u64; families::MAX_LANES];
-    let mut b = [0u64; families::MAX_LANES];
-    find::<C>(lists, &mut a[..end], &mut b[..end], out)
+    // The result in front of `out`, where it fits. `a` and `b` are work room.
+    fn find<C: Combination>(
+        self,
+        a: &mut [u64],
+        b: &mut [u64],
+        out: &mut [u32],
+    ) -> Result<usize, Refusal>
+        requires { (length a.old ≡ lanes self.n) × (length b.old ≡ lanes self.n) }
+        ensures { leaves result out.new ≡ fitted (C.made self.entry.n self.entry.first.now self.entry.second.now) out.old }
+    {
+        self.hold::<C>(a, b);
+        families::maximal_bits(a, self.n, b);
+        fit(b, out)
+    }
+
+    // The same, with its work room.
+    fn deliver<C: Combination>(self, out: &mut [u32]) -> Result<usize, Refusal>
+        ensures { leaves result out.new ≡ fitted (C.made self.entry.n self.entry.first.now self.entry.second.now) out.old }
+    {
+        let end = families::lane_count(self.n);
+        let mut a = [0u64; families::MAX_LANES];
+        let mut b = [0u64; families::MAX_LANES];
+        self.find::<C>(&mut a[..end], &mut b[..end], out)
+    }
 }
 
 // Join or meet: checks, then the result.
@@ -164,7 +166,7 @@ fn combine<C: Combination>(
     ensures { leaves result out.new ≡ outcome (C.made n) n first.now second.now out.old }
 {
     let lists = checked(n, first, second)?;
-    deliver::<C>(lists, out)
+    lists.deliver::<C>(out)
 }
 
 // The maximal sets of both lists.
