@@ -187,6 +187,7 @@ fn unpack(word: u64, base: u32, out: &mut [u32]) -> usize
         × (out.new ≡ raised base (select lane_sets (member word)) ++ drop result out.old) }
 {
     let mut rest = word;
+    // `at` is also the answer: a `for` over the room would have to count the word's sets first, and is no plainer
     let mut at = 0;
     while rest != 0 {
         let t = rest.trailing_zeros();
