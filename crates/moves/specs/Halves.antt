@@ -49,11 +49,10 @@ blocked_mark = low_values
 unfoldable pub mark : Game → (a i : ℕ) → ℕ
 mark g a i = unwrap_or (moved g a i) blocked_mark
 
--- an accepted table, an action of it, and the states from `first` on, no more than a half has
-pub record InHalf (table : List ℕ) (a first count : ℕ) : Type 0 where
-  pub fine : checked table ≡ Ok tt
-  pub action : a < (game table).actions
-  pub states : first + count ≤ (game table).states
+-- an action of the game, and its states from `first` on, no more than a half has
+pub record InHalf (g : Game) (a first count : ℕ) : Type 0 where
+  pub action : a < g.actions
+  pub states : first + count ≤ g.states
   pub few : count ≤ half_states
 
 -- the list e is d with its first `size` entries again behind them, united with w
@@ -78,8 +77,3 @@ pub record Tabled (g : Game) (low high : List ℕ) : Type 0 where
   pub high_size : length high ≡ side_words
   pub at : (a s : ℕ) → a < g.actions → s < 2 ^ g.states →
       union (get_or low (a * half_sets + s % half_sets) 0) (get_or high (a * half_sets + s / half_sets) 0) ≡ union_over g.states s (mark g a)
-
--- an accepted table and the two tables of its moves
-pub record Ready (table low high : List ℕ) : Type 0 where
-  pub fine : checked table ≡ Ok tt
-  pub tabled : Tabled (game table) low high

@@ -4,11 +4,10 @@
 
 ghost use Rattle.std.specs.Prelude.{◌≡◌, ◌+◌, ◌*◌, ◌^◌, ◌<◌, ◌≤◌, min, length};
 ghost use Rattle.games.specs.Words.{game};
-ghost use Rattle.tables.specs.Check.{checked};
-ghost use Rattle.tables.specs.Layout.{Sized};
-ghost use Rattle.moves.specs.Halves.{posted, half_states, half_sets, side_words, mark as marked, InHalf, Doubled, Halved, Sided, Tabled, Ready};
+ghost use Rattle.moves.specs.Halves.{posted, half_states, half_sets, side_words, mark as marked, InHalf, Doubled, Halved, Sided, Tabled};
 
 use games::{Action, State};
+use tables::{Accepted, Table};
 
 // The states of a half, their sets, and the words for these.
 const HALF_STATES: u32 = (games::MAX_STATES + 1) / 2;
@@ -34,17 +33,17 @@ fn double(half: &mut [u32], size: usize, w: u32)
 }
 
 // The state's successors under the action, or the mark where it is not enabled.
-fn mark(table: &[u32], a: Action, i: State) -> u32
-    requires { Sized table.now × (a.0 < (game table.now).actions) × (i.0 < (game table.now).states) }
-    ensures { result ≡ marked (game table.now) a.0 i.0 }
+fn mark(table: Table, a: Action, i: State) -> u32
+    requires { (a.0 < (game table.words.now).actions) × (i.0 < (game table.words.now).states) }
+    ensures { result ≡ marked (game table.entry.words.now) a.0 i.0 }
 {
     walk::move_from(table, a, i).unwrap_or(BLOCKED)
 }
 
 // What every set of `count` states, from `first` on, leads to under the action.
-fn fill_half(table: &[u32], a: Action, first: u32, count: u32, half: &mut [u32])
-    requires { InHalf table.now a.0 first count × (length half.old ≡ half_sets) }
-    ensures { Halved (game table.now) a.0 first count half.new }
+fn fill_half(table: Table, a: Action, first: u32, count: u32, half: &mut [u32])
+    requires { InHalf (game table.words.now) a.0 first count × (length half.old ≡ half_sets) }
+    ensures { Halved (game table.entry.words.now) a.0 first count half.new }
 {
     half[0] = 0;
     let mut size: usize = 1;
@@ -55,12 +54,13 @@ fn fill_half(table: &[u32], a: Action, first: u32, count: u32, half: &mut [u32])
 }
 
 // The same for each action; `HALF_WORDS` for each.
-fn fill_side(table: &[u32], first: u32, count: u32, side: &mut [u32])
-    requires { (checked table.now ≡ Ok tt) × (length side.old ≡ side_words)
-        × (first + count ≤ (game table.now).states) × (count ≤ half_states) }
-    ensures { Sided (game table.now) first count (game table.now).actions side.new }
+fn fill_side(table: Table, first: u32, count: u32, side: &mut [u32])
+    requires { (length side.old ≡ side_words) × (first + count ≤ (game table.words.now).states)
+        × (count ≤ half_states) }
+    ensures { Sided (game table.entry.words.now) first count (game table.entry.words.now).actions
+        side.new }
 {
-    for a in 0..tables::actions(table) {
+    for a in 0..table.actions() {
         let at = a as usize * HALF_WORDS;
         let end = at + HALF_WORDS;
         fill_half(table, Action(a), first, count, &mut side[at..end]);
@@ -81,11 +81,11 @@ pub fn side() -> [u32; SIDE_WORDS]
 }
 
 // Fills both tables.
-pub fn fill(table: &[u32], low: &mut [u32], high: &mut [u32])
-    requires { (checked table.now ≡ Ok tt) × (length low.old ≡ side_words) × (length high.old ≡ side_words) }
-    ensures { Tabled (game table.now) low.new high.new }
+pub fn fill(table: Table, low: &mut [u32], high: &mut [u32])
+    requires { (length low.old ≡ side_words) × (length high.old ≡ side_words) }
+    ensures { Tabled (game table.entry.words.now) low.new high.new }
 {
-    let n = tables::states(table);
+    let n = table.states();
     let split = low_states(n);
     fill_side(table, 0, split, low);
     fill_side(table, split, n - split, high);
@@ -94,17 +94,18 @@ pub fn fill(table: &[u32], low: &mut [u32], high: &mut [u32])
 // An accepted table and the two tables of its moves.
 #[derive(Clone, Copy)]
 pub struct Moves<'a> {
-    pub table: &'a [u32],
+    pub accepted: Accepted<'a>,
     pub low: &'a [u32],
     pub high: &'a [u32],
-    pub ghost ready: { Ready table.now low.now high.now },
+    pub ghost tabled: { Tabled (game accepted.table.words.now) low.now high.now },
 }
 
 impl Moves<'_> {
     // The set's successors under the action, in two reads; none where the action is not enabled at a member.
     pub fn post(self, s: u32, a: Action) -> Option<u32>
-        requires { (s < 2 ^ (game self.table.now).states) × (a.0 < (game self.table.now).actions) }
-        ensures { result ≡ posted (game self.entry.table.now) s a.0 }
+        requires { (s < 2 ^ (game self.accepted.table.words.now).states)
+            × (a.0 < (game self.accepted.table.words.now).actions) }
+        ensures { result ≡ posted (game self.entry.accepted.table.words.now) s a.0 }
     {
         let at = (a.0 * HALF_SETS) as usize;
         let u = self.low[at + (s % HALF_SETS) as usize] | self.high[at + (s / HALF_SETS) as usize];

@@ -6,7 +6,6 @@ ghost use Rattle.sets.specs.Mask.{member};
 ghost use Rattle.families.specs.Bits.{lanes, has as is_in, Bits};
 ghost use Rattle.games.specs.Words.{game};
 ghost use Rattle.games.specs.Step.{meets, step, good};
-ghost use Rattle.tables.specs.Check.{checked};
 ghost use Rattle.games.specs.Verdict.{starts_in};
 ghost use Rattle.moves.specs.Halves.{shown_in};
 ghost use Rattle.search.specs.Stages.{Stage, Sound, Passed, safely_enabled, EnabledStates};
@@ -15,20 +14,23 @@ ghost use Rattle.search.specs.Found.{Reached, Searched};
 use families::LANE_SETS;
 use games::{Action, MAX_ACTIONS, Observation, State};
 use moves::Moves;
+use tables::{Accepted, Table};
 
 // The place of the last set of a lane.
 const LAST: u32 = LANE_SETS - 1;
 
 // For every observation, the states of u that show it form a set of the family. Where u itself is one, they do: they are its subsets.
-fn shown_in(table: &[u32], family: &[u64], u: u32) -> bool
-    requires { (checked table.now ≡ Ok tt) × Stage (game table.now) family.now × (u < 2 ^ (game table.now).states) }
-    ensures { result ≡ shown_in (game table.now) (is_in family.now) u }
+fn shown_in(accepted: Accepted, family: &[u64], u: u32) -> bool
+    requires { Stage (game accepted.table.words.now) family.now
+        × (u < 2 ^ (game accepted.table.words.now).states) }
+    ensures { result ≡ shown_in (game accepted.entry.table.words.now) (is_in family.now) u }
 {
+    let table = accepted.table;
     if families::has(family, u) {
         return true;
     }
-    for j in 0..tables::observations(table) {
-        let t = u & tables::shown(table, Observation(j));
+    for j in 0..table.observations() {
+        let t = u & table.shown(Observation(j));
         if !families::has(family, t) {
             return false;
         }
@@ -37,12 +39,13 @@ fn shown_in(table: &[u32], family: &[u64], u: u32) -> bool
 }
 
 // Every start set is in the family.
-fn starts_in(table: &[u32], family: &[u64]) -> bool
-    requires { (checked table.now ≡ Ok tt) × (length family.now ≡ lanes (game table.now).states) }
-    ensures { result ≡ starts_in (game table.now) (is_in family.now) }
+fn starts_in(accepted: Accepted, family: &[u64]) -> bool
+    requires { length family.now ≡ lanes (game accepted.table.words.now).states }
+    ensures { result ≡ starts_in (game accepted.entry.table.words.now) (is_in family.now) }
 {
-    for j in 0..tables::start_sets(table) {
-        if !families::has(family, tables::start_set(table, Observation(j))) {
+    let table = accepted.table;
+    for j in 0..table.start_sets() {
+        if !families::has(family, table.start_set(Observation(j))) {
             return false;
         }
     }
@@ -51,25 +54,25 @@ fn starts_in(table: &[u32], family: &[u64]) -> bool
 
 // The action is enabled at all members of s, and leads to sets of the family.
 fn action_meets(moves: Moves, family: &[u64], s: u32, a: Action) -> bool
-    requires { Stage (game moves.table.now) family.now × (s < 2 ^ (game moves.table.now).states)
-        × (a.0 < (game moves.table.now).actions) }
-    ensures { result ≡ meets (game moves.entry.table.now) (is_in family.now) s a.0 }
+    requires { Stage (game moves.accepted.table.words.now) family.now × (s < 2 ^ (game moves.accepted.table.words.now).states)
+        × (a.0 < (game moves.accepted.table.words.now).actions) }
+    ensures { result ≡ meets (game moves.entry.accepted.table.words.now) (is_in family.now) s a.0 }
 {
     let Some(u) = moves.post(s, a) else {
         return false;
     };
-    shown_in(moves.table, family, u)
+    shown_in(moves.accepted, family, u)
 }
 
 // The step: a set with no bad state for which one action meets it.
 fn meets_step(moves: Moves, family: &[u64], s: u32) -> bool
-    requires { Stage (game moves.table.now) family.now × (s < 2 ^ (game moves.table.now).states) }
-    ensures { result ≡ step (game moves.entry.table.now) (is_in family.now) s }
+    requires { Stage (game moves.accepted.table.words.now) family.now × (s < 2 ^ (game moves.accepted.table.words.now).states) }
+    ensures { result ≡ step (game moves.entry.accepted.table.words.now) (is_in family.now) s }
 {
-    if s & tables::bad(moves.table) != 0 {
+    if s & moves.accepted.table.bad() != 0 {
         return false;
     }
-    for a in 0..tables::actions(moves.table) {
+    for a in 0..moves.accepted.table.actions() {
         if action_meets(moves, family, s, Action(a)) {
             return true;
         }
@@ -79,9 +82,9 @@ fn meets_step(moves: Moves, family: &[u64], s: u32) -> bool
 
 // The step on the sets of one lane, from the largest down: a set that meets it settles its subsets. `covered` are subsets of sets found in other lanes.
 fn pass_lane(moves: Moves, family: &[u64], lane: u32, covered: u64) -> u64
-    requires { Stage (game moves.table.now) family.now × (lane < length family.now)
-        × Sound (game moves.table.now) (is_in family.now) lane covered }
-    ensures { Passed (game moves.entry.table.now) (is_in family.now) lane result }
+    requires { Stage (game moves.accepted.table.words.now) family.now × (lane < length family.now)
+        × Sound (game moves.accepted.table.words.now) (is_in family.now) lane covered }
+    ensures { Passed (game moves.entry.accepted.table.words.now) (is_in family.now) lane result }
 {
     let mut found = covered;
     let mut left = family[lane as usize] & !covered;
@@ -100,9 +103,9 @@ fn pass_lane(moves: Moves, family: &[u64], lane: u32, covered: u64) -> u64
 
 // One application of the step: the sets that meet it, into `next`.
 fn pass(moves: Moves, family: &[u64], next: &mut [u64])
-    requires { Stage (game moves.table.now) family.now × (length next.old ≡ length family.now) }
-    ensures { Bits (game moves.entry.table.now).states
-        (step (game moves.entry.table.now) (is_in family.now)) next.new }
+    requires { Stage (game moves.accepted.table.words.now) family.now × (length next.old ≡ length family.now) }
+    ensures { Bits (game moves.entry.accepted.table.words.now).states
+        (step (game moves.entry.accepted.table.words.now) (is_in family.now)) next.new }
 {
     for lane in (0..family.len()).rev() {
         let covered = families::larger(next, lane);
@@ -111,21 +114,22 @@ fn pass(moves: Moves, family: &[u64], next: &mut [u64])
 }
 
 // The state is not bad, and the action is enabled in it.
-fn safely_enabled(table: &[u32], a: Action, i: State) -> bool
-    requires { (checked table.now ≡ Ok tt) × (a.0 < (game table.now).actions) × (i.0 < (game table.now).states) }
-    ensures { result ≡ safely_enabled (game table.now) a.0 i.0 }
+fn safely_enabled(table: Table, a: Action, i: State) -> bool
+    requires { (a.0 < (game table.words.now).actions) × (i.0 < (game table.words.now).states) }
+    ensures { result ≡ safely_enabled (game table.entry.words.now) a.0 i.0 }
 {
-    let bad = sets::member(tables::bad(table), i.0);
+    let bad = sets::member(table.bad(), i.0);
     walk::enabled(table, a, i) & !bad
 }
 
 // The states that are not bad and in which the action is enabled.
-fn enabled_states(table: &[u32], a: Action) -> u32
-    requires { (checked table.now ≡ Ok tt) × (a.0 < (game table.now).actions) }
-    ensures { EnabledStates (game table.now) a.0 (game table.now).states result }
+fn enabled_states(table: Table, a: Action) -> u32
+    requires { a.0 < (game table.words.now).actions }
+    ensures { EnabledStates (game table.entry.words.now) a.0 (game table.entry.words.now).states
+        result }
 {
     let mut mask: u32 = 0;
-    for i in 0..tables::states(table) {
+    for i in 0..table.states() {
         if safely_enabled(table, a, State(i)) {
             mask = mask | sets::single(i);
         }
@@ -134,16 +138,17 @@ fn enabled_states(table: &[u32], a: Action) -> u32
 }
 
 // The sets that are good for one round: the subsets of the states, not bad, in which an action is enabled.
-fn first_family(table: &[u32], family: &mut [u64])
-    requires { (checked table.now ≡ Ok tt) × (length family.old ≡ lanes (game table.now).states) }
-    ensures { Bits (game table.now).states (good (game table.now) 1) family.new }
+fn first_family(table: Table, family: &mut [u64])
+    requires { length family.old ≡ lanes (game table.words.now).states }
+    ensures { Bits (game table.entry.words.now).states (good (game table.entry.words.now) 1)
+        family.new }
 {
-    let actions = tables::actions(table);
+    let actions = table.actions();
     let mut masks = [0u32; MAX_ACTIONS as usize];
     for a in 0..actions {
         masks[a as usize] = enabled_states(table, Action(a));
     }
-    families::below(&masks[..actions as usize], tables::states(table), family);
+    families::below(&masks[..actions as usize], table.states(), family);
 }
 
 // How the search ends: the families settled at k with the start sets in them, or a start set is not good for k.
@@ -156,14 +161,14 @@ pub enum Ended {
 
 // Applies the step, from good for one round on, until a start set is lost or nothing changes.
 fn settle(moves: Moves, family: &mut [u64], next: &mut [u64]) -> Ended
-    requires { Reached (game moves.table.now) 1 family.old × (length next.old ≡ length family.old) }
-    ensures { Searched (game moves.entry.table.now) result family.new }
+    requires { Reached (game moves.accepted.table.words.now) 1 family.old × (length next.old ≡ length family.old) }
+    ensures { Searched (game moves.entry.accepted.table.words.now) result family.new }
 {
     let mut k: u32 = 1;
     loop {
         pass(moves, family, next);
         let round = k + 1;
-        if !starts_in(moves.table, next) {
+        if !starts_in(moves.accepted, next) {
             return Ended::Lost(round);
         }
         if *family == *next {
@@ -176,13 +181,14 @@ fn settle(moves: Moves, family: &mut [u64], next: &mut [u64]) -> Ended
 
 // The search: good for one round at once, then the step. `next` is scratch.
 pub fn search(moves: Moves, family: &mut [u64], next: &mut [u64]) -> Ended
-    requires { (length family.old ≡ lanes (game moves.table.now).states)
+    requires { (length family.old ≡ lanes (game moves.accepted.table.words.now).states)
         × (length next.old ≡ length family.old) }
-    ensures { Searched (game moves.entry.table.now) result family.new }
+    ensures { Searched (game moves.entry.accepted.table.words.now) result family.new }
 {
-    let all = sets::single(tables::states(moves.table)) - 1;
-    first_family(moves.table, family);
-    if !starts_in(moves.table, family) {
+    let table = moves.accepted.table;
+    let all = sets::single(table.states()) - 1;
+    first_family(table, family);
+    if !starts_in(moves.accepted, family) {
         return Ended::Lost(1);
     }
     if families::has(family, all) {

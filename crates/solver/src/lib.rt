@@ -5,7 +5,6 @@ ghost use Rattle.std.specs.Prelude.{◌≡◌, ◌≤◌, ◌^◌, length};
 ghost use Rattle.games.specs.Format.{max_states};
 ghost use Rattle.games.specs.Answers.{leaves};
 ghost use Rattle.games.specs.Words.{game};
-ghost use Rattle.tables.specs.Check.{checked};
 ghost use Rattle.families.specs.Bits.{max_lanes, lanes as lanes_of, sets, Bits};
 ghost use Rattle.games.specs.Verdict.{settled as settled_family, cells as cells_of, verdict, Yes};
 ghost use Rattle.solver.specs.Solve.{work_words, by_verdict, buffers, solved, Promise};
@@ -16,6 +15,7 @@ use games::{Reason, Refusal};
 use index::Cells;
 use moves::Moves;
 use search::Ended;
+use tables::Accepted;
 use writing::Settled;
 
 // The number of sets of n states.
@@ -44,9 +44,9 @@ fn grant(
     requires { Noted settled.cells.tops.now settled.cells.base work.old
         × (count ≡ length (sets settled.cells.tops.now)) }
     ensures { leaves result card.new
-        ≡ by_verdict (game settled.entry.moves.table.now) card.old (Yes rounds count) }
+        ≡ by_verdict (game settled.entry.moves.accepted.table.words.now) card.old (Yes rounds count) }
 {
-    let need = games::card_length(count, tables::observations(settled.moves.table));
+    let need = games::card_length(count, settled.moves.accepted.table.observations());
     if card.len() < need {
         return Err(Reason::ShortRoom.at(need));
     }
@@ -63,13 +63,13 @@ fn accept<'a>(
     card: &mut [u32],
     rounds: u32,
 ) -> Result<Verdict, Refusal>
-    requires { Bits (game moves.table.now).states (settled_family (game moves.table.now)) family.now
+    requires { Bits (game moves.accepted.table.words.now).states (settled_family (game moves.accepted.table.words.now)) family.now
         × (length tops.old ≡ length family.now)
-        × (length work.old ≡ work_words (game moves.table.now).states) }
+        × (length work.old ≡ work_words (game moves.accepted.table.words.now).states) }
     ensures { leaves result card.new
-        ≡ by_verdict (game moves.entry.table.now) card.old (Yes rounds (length (cells_of (game moves.entry.table.now)))) }
+        ≡ by_verdict (game moves.entry.accepted.table.words.now) card.old (Yes rounds (length (cells_of (game moves.entry.accepted.table.words.now)))) }
 {
-    let n = tables::states(moves.table);
+    let n = moves.accepted.table.states();
     families::maximal_bits(family, n, tops);
     let base = set_count(n);
     let count = index::note_cells(tops, base, work);
@@ -95,10 +95,10 @@ fn answer_with(
     work: &mut [u32],
     card: &mut [u32],
 ) -> Result<Verdict, Refusal>
-    requires { (length family.old ≡ lanes_of (game moves.table.now).states) × (length next.old ≡ length family.old)
-        × (length work.old ≡ work_words (game moves.table.now).states) }
+    requires { (length family.old ≡ lanes_of (game moves.accepted.table.words.now).states) × (length next.old ≡ length family.old)
+        × (length work.old ≡ work_words (game moves.accepted.table.words.now).states) }
     ensures { leaves result card.new
-        ≡ by_verdict (game moves.entry.table.now) card.old (verdict (game moves.entry.table.now)) }
+        ≡ by_verdict (game moves.entry.accepted.table.words.now) card.old (verdict (game moves.entry.accepted.table.words.now)) }
 {
     match search::search(moves, family, next) {
         Ended::Lost(k) => Ok(Verdict::No(k)),
@@ -114,19 +114,20 @@ fn empty_family() -> [u64; MAX_LANES]
 }
 
 // The successors of every set at hand, then the search.
-fn decide(table: &[u32], work: &mut [u32], card: &mut [u32]) -> Result<Verdict, Refusal>
-    requires { (checked table.now ≡ Ok tt) × (length work.old ≡ work_words (game table.now).states) }
+fn decide(accepted: Accepted, work: &mut [u32], card: &mut [u32]) -> Result<Verdict, Refusal>
+    requires { length work.old ≡ work_words (game accepted.table.words.now).states }
     ensures { leaves result card.new
-        ≡ by_verdict (game table.now) card.old (verdict (game table.now)) }
+        ≡ by_verdict (game accepted.entry.table.words.now) card.old (verdict (game accepted.entry.table.words.now)) }
 {
-    let lanes = families::lane_count(tables::states(table));
+    let table = accepted.table;
+    let lanes = families::lane_count(table.states());
     let mut low = moves::side();
     let mut high = moves::side();
     moves::fill(table, &mut low, &mut high);
     let mut family = empty_family();
     let mut next = empty_family();
     let moves = Moves {
-        table,
+        accepted,
         low: &low,
         high: &high,
     };
@@ -139,12 +140,12 @@ pub fn solve(table: &[u32], work: &mut [u32], card: &mut [u32]) -> Result<Verdic
         ≡ solved table.now work.old card.old }
     ensures promised { Promise table.now work.old card.old result card.new }
 {
-    tables::check(table)?;
-    let need = 4 * set_count(tables::states(table));
+    let accepted = Accepted::of(table)?;
+    let need = 4 * set_count(accepted.table.states());
     if work.len() < need {
         return Err(Reason::ShortWork.at(need));
     }
-    let answer = decide(table, &mut work[..need], card);
+    let answer = decide(accepted, &mut work[..need], card);
     sets::fill(work, need, 0);
     answer
 }

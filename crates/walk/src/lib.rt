@@ -5,30 +5,30 @@
 ghost use Rattle.std.specs.Prelude.{◌≡◌, ◌<◌};
 ghost use Rattle.games.specs.Game.{enabled as is_enabled};
 ghost use Rattle.games.specs.Words.{game};
-ghost use Rattle.tables.specs.Layout.{Sized};
 ghost use Rattle.walk.specs.Walk.{moved, walked};
 
 use games::{Action, State};
+use tables::Table;
 
 // The state's successors, none where the action is blocked there. A parked state leads to no state.
-pub fn move_from(table: &[u32], a: Action, i: State) -> Option<u32>
-    requires { Sized table.now × (a.0 < (game table.now).actions) × (i.0 < (game table.now).states) }
-    ensures { result ≡ moved (game table.now) a.0 i.0 }
+pub fn move_from(table: Table, a: Action, i: State) -> Option<u32>
+    requires { (a.0 < (game table.words.now).actions) × (i.0 < (game table.words.now).states) }
+    ensures { result ≡ moved (game table.entry.words.now) a.0 i.0 }
 {
-    let u = tables::successors(table, a, i);
+    let u = table.successors(a, i);
     if u != 0 {
         return Some(u);
     }
-    if sets::member(tables::parked(table), i.0) {
+    if sets::member(table.parked(), i.0) {
         return Some(0);
     }
     None
 }
 
 // The action is enabled in the state: it is not blocked there.
-pub fn enabled(table: &[u32], a: Action, i: State) -> bool
-    requires { Sized table.now × (a.0 < (game table.now).actions) × (i.0 < (game table.now).states) }
-    ensures { result ≡ is_enabled (game table.now) i.0 a.0 }
+pub fn enabled(table: Table, a: Action, i: State) -> bool
+    requires { (a.0 < (game table.words.now).actions) × (i.0 < (game table.words.now).states) }
+    ensures { result ≡ is_enabled (game table.entry.words.now) i.0 a.0 }
 {
     move_from(table, a, i).is_some()
 }
@@ -43,11 +43,11 @@ pub struct Walked {
 }
 
 // The lowest member is looked at and taken off, until one is blocked or none is left.
-pub fn walk(table: &[u32], s: u32, a: Action) -> Walked
-    requires { Sized table.now × (a.0 < (game table.now).actions) }
-    ensures { result ≡ walked (game table.now) s a.0 }
+pub fn walk(table: Table, s: u32, a: Action) -> Walked
+    requires { a.0 < (game table.words.now).actions }
+    ensures { result ≡ walked (game table.entry.words.now) s a.0 }
 {
-    let mut rest = s % sets::single(tables::states(table));
+    let mut rest = s % sets::single(table.states());
     let mut u: u32 = 0;
     let mut looked: u32 = 0;
     while rest != 0 {

@@ -16,7 +16,7 @@ use moves::Moves;
 pub struct Settled<'a> {
     pub moves: Moves<'a>,
     pub cells: Cells<'a>,
-    pub ghost listed: { Listed moves.table.now cells.tops.now cells.base },
+    pub ghost listed: { Listed moves.accepted.table.words.now cells.tops.now cells.base },
 }
 
 impl Settled<'_> {
@@ -24,36 +24,36 @@ impl Settled<'_> {
     fn write_front(self, work: &mut [u32], count: u32, out: &mut [u32])
         requires { Noted self.cells.tops.now self.cells.base work.old
             × (count ≡ length (sets_of self.cells.tops.now))
-            × (length out.old ≡ front_length (game self.moves.table.now).observations) }
-        ensures { (out.new ≡ front_words (game self.entry.moves.table.now))
+            × (length out.old ≡ front_length (game self.moves.accepted.table.words.now).observations) }
+        ensures { (out.new ≡ front_words (game self.entry.moves.accepted.table.words.now))
             × Noted self.entry.cells.tops.now self.entry.cells.base work.new }
     {
-        let table = self.moves.table;
-        for j in 0..tables::start_sets(table) {
+        let table = self.moves.accepted.table;
+        for j in 0..table.start_sets() {
             let j = Observation(j);
-            let held = self.cells.holding(work, tables::start_set(table, j));
+            let held = self.cells.holding(work, table.start_set(j));
             let first = held.unwrap_or(Cell(NO_CELL));
             out[1 + j.0 as usize] = cards::naming(games::KIND_FIRST, first, j);
         }
-        out[0] = cards::heading(count, tables::observations(table), tables::actions(table));
+        out[0] = cards::heading(count, table.observations(), table.actions());
     }
 
     // The words of the cell with the set s. Its action is the lowest that leads, for every observation, into a cell.
     fn write_cell(self, work: &mut [u32], s: u32, out: &mut [u32])
         requires { Noted self.cells.tops.now self.cells.base work.old
-            × SettledSet (game self.moves.table.now) s
-            × (length out.old ≡ part_length (game self.moves.table.now).observations) }
-        ensures { (out.new ≡ set_words (game self.entry.moves.table.now) s)
+            × SettledSet (game self.moves.accepted.table.words.now) s
+            × (length out.old ≡ part_length (game self.moves.accepted.table.words.now).observations) }
+        ensures { (out.new ≡ set_words (game self.entry.moves.accepted.table.words.now) s)
             × Noted self.entry.cells.tops.now self.entry.cells.base work.new }
     {
-        let table = self.moves.table;
-        let o = tables::observations(table);
-        'actions: for a in 0..tables::actions(table) {
+        let table = self.moves.accepted.table;
+        let o = table.observations();
+        'actions: for a in 0..table.actions() {
             let Some(u) = self.moves.post(s, Action(a)) else {
                 continue 'actions;
             };
             for j in 0..o {
-                let t = u & tables::shown(table, Observation(j));
+                let t = u & table.shown(Observation(j));
                 let Some(cell) = self.cells.holding(work, t) else {
                     continue 'actions;
                 };
@@ -68,11 +68,11 @@ impl Settled<'_> {
     pub fn write_card(self, work: &mut [u32], count: u32, card: &mut [u32])
         requires { Noted self.cells.tops.now self.cells.base work.old
             × (count ≡ length (sets_of self.cells.tops.now))
-            × (card_length count (game self.moves.table.now).observations ≤ length card.old) }
-        ensures { card.new ≡ card_of (game self.entry.moves.table.now)
-            ++ drop (card_length count (game self.entry.moves.table.now).observations) card.old }
+            × (card_length count (game self.moves.accepted.table.words.now).observations ≤ length card.old) }
+        ensures { card.new ≡ card_of (game self.entry.moves.accepted.table.words.now)
+            ++ drop (card_length count (game self.entry.moves.accepted.table.words.now).observations) card.old }
     {
-        let o = tables::observations(self.moves.table);
+        let o = self.moves.accepted.table.observations();
         let front = games::front_length(o);
         let part = games::part_length(o);
         self.write_front(work, count, &mut card[..front]);

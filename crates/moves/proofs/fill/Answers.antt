@@ -9,13 +9,10 @@ use Rattle.tables.proofs.Bounds.{few_states}
 use Rattle.moves.proofs.Halving.{sides_tabled}
 use Rattle.moves.proofs.fill.Goals as goal
 
-pub states-n-requires : goal.states-n-requires
-states-n-requires c = sized c.args.table.now c.requires.0
-
 pub fill_side-requires-2 : goal.fill_side-requires-2
-fill_side-requires-2 c = (c.requires.0, c.requires.2, omega arith, omega (arith, few_states c.args.table.now (sized c.args.table.now c.requires.0)))
+fill_side-requires-2 c = (c.requires.1, omega arith, omega (arith, few_states c.args.table.words.now c.args.table.sized))
 
 pub returns : goal.returns
 returns c =
-    sides_tabled (game c.args.table.now) c.low_states-split.result c.fill_side.new.side c.fill_side-2.new.side (few_states c.args.table.now (sized c.args.table.now c.requires.0)) (c.low_states-split.ensures ∙ ap (λ (x : ℕ). min x half_states) c.states-n.ensures) c.fill_side.ensures
-    (subst (λ (x : ℕ). Sided (game c.args.table.now) c.low_states-split.result (x - c.low_states-split.result) (game c.args.table.now).actions c.fill_side-2.new.side) c.states-n.ensures c.fill_side-2.ensures)
+    sides_tabled (game c.args.table.words.now) c.low_states-split.result c.fill_side.new.side c.fill_side-2.new.side (few_states c.args.table.words.now c.args.table.sized) (c.low_states-split.ensures ∙ ap (λ (x : ℕ). min x half_states) c.states-n.ensures) c.fill_side.ensures
+    (subst (λ (x : ℕ). Sided (game c.args.table.words.now) c.low_states-split.result (x - c.low_states-split.result) (game c.args.table.words.now).actions c.fill_side-2.new.side) c.states-n.ensures c.fill_side-2.ensures)

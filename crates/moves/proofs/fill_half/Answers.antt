@@ -12,10 +12,10 @@ pub loop-i-init : goal.loop-i-init
 loop-i-init c = halving_none _ c.args.count c.args.half.now c.requires.1
 
 pub overflow_add-first : goal.overflow_add-first
-overflow_add-first c = omega (arith, c.requires.0.states, few_states c.args.table.now (sized c.args.table.now c.requires.0.fine))
+overflow_add-first c = omega (arith, c.requires.0.states, few_states c.args.table.words.now c.args.table.sized)
 
 pub mark-requires : goal.mark-requires
-mark-requires c = (sized c.args.table.now c.requires.0.fine, c.requires.0.action, omega (arith, c.requires.0.states))
+mark-requires c = (c.requires.0.action, omega (arith, c.requires.0.states))
 
 pub double-requires : goal.double-requires
 double-requires c = halving_room _ c.args.count c.loop-i.i c.loop-i.size c.loop-i.half c.loop-i.invariant c.loop-i-test.true c.requires.0.few

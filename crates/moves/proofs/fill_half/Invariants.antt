@@ -6,4 +6,4 @@ use Rattle.moves.proofs.Halving.{Halving}
 use Rattle.moves.proofs.fill_half.Given as goal
 
 abbrev pub invariant-loop-i : goal.invariant-loop-i
-invariant-loop-i l = Halving (λ j. mark (game l.table) l.a.0 (l.first + j)) l.count l.i l.size l.half
+invariant-loop-i l = Halving (λ j. mark (game l.table.words.now) l.a.0 (l.first + j)) l.count l.i l.size l.half

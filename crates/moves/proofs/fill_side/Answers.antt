@@ -8,32 +8,28 @@ use Rattle.tables.proofs.Bounds.{few_actions}
 use Rattle.moves.proofs.Halving.{sided_none, sided_more, side_length}
 use Rattle.moves.proofs.fill_side.Goals as goal
 
-pub actions-a-end-requires : goal.actions-a-end-requires
-actions-a-end-requires c = sized c.args.table.now c.requires.0
-
 pub loop-a-init : goal.loop-a-init
-loop-a-init c = sided_none (game c.args.table.now) c.args.first c.args.count c.args.side.now c.requires.1
+loop-a-init c = sided_none (game c.args.table.words.now) c.args.first c.args.count c.args.side.now c.requires.0
 
 pub slice_bounds-fill_half-end : goal.slice_bounds-fill_half-end
-slice_bounds-fill_half-end c = omega (arith, few_actions c.args.table.now (sized c.args.table.now c.requires.0), c.actions-a-end.ensures, c.loop-a-test.true, c.loop-a.invariant.size)
+slice_bounds-fill_half-end c = omega (arith, few_actions c.args.table.words.now c.args.table.sized, c.actions-a-end.ensures, c.loop-a-test.true, c.loop-a.invariant.size)
 
 pub fill_half-requires : goal.fill_half-requires
 fill_half-requires c = (
   record {
-    fine = c.requires.0;
     action = omega (arith, c.actions-a-end.ensures, c.loop-a-test.true);
-    states = c.requires.2;
-    few = c.requires.3;
+    states = c.requires.1;
+    few = c.requires.2;
   },
-  side_length c.loop-a.side c.loop-a.a c.loop-a.invariant.size (omega (arith, few_actions c.args.table.now (sized c.args.table.now c.requires.0), c.actions-a-end.ensures, c.loop-a-test.true)),
+  side_length c.loop-a.side c.loop-a.a c.loop-a.invariant.size (omega (arith, few_actions c.args.table.words.now c.args.table.sized, c.actions-a-end.ensures, c.loop-a-test.true)),
 )
 
 pub loop-a-preserved : goal.loop-a-preserved
 loop-a-preserved c =
-    let few : c.loop-a.a < max_actions = omega (arith, few_actions c.args.table.now (sized c.args.table.now c.requires.0), c.actions-a-end.ensures, c.loop-a-test.true) in
-    sided_more (game c.args.table.now) c.args.first c.args.count c.loop-a.a c.loop-a.side c.fill_half.new.half few c.requires.3 c.loop-a.invariant c.fill_half.ensures
+    let few : c.loop-a.a < max_actions = omega (arith, few_actions c.args.table.words.now c.args.table.sized, c.actions-a-end.ensures, c.loop-a-test.true) in
+    sided_more (game c.args.table.words.now) c.args.first c.args.count c.loop-a.a c.loop-a.side c.fill_half.new.half few c.requires.2 c.loop-a.invariant c.fill_half.ensures
 
 pub returns : goal.returns
 returns c =
-    let e : c.loop-a.a ≡ (game c.args.table.now).actions = omega (arith, c.actions-a-end.ensures) in
+    let e : c.loop-a.a ≡ (game c.args.table.words.now).actions = omega (arith, c.actions-a-end.ensures) in
     rw e at c.loop-a.invariant

@@ -4,4 +4,4 @@ use Rattle.moves.specs.Halves.{Sided}
 use Rattle.moves.proofs.fill_side.Given as goal
 
 abbrev pub invariant-loop-a : goal.invariant-loop-a
-invariant-loop-a l = Sided (game l.table) l.first l.count l.a l.side
+invariant-loop-a l = Sided (game l.table.words.now) l.first l.count l.a l.side

@@ -7,21 +7,18 @@ use Rattle.search.proofs.First.{states_none, states_hit, states_skip}
 use Rattle.search.proofs.enabled_states.Goals as goal
 use Rattle.search.proofs.enabled_states.Goals.{then-safely_enabled, else-safely_enabled}
 
-pub states-i-end-requires : goal.states-i-end-requires
-states-i-end-requires c = sized c.args.table.now c.requires.0
-
 pub loop-i-init : goal.loop-i-init
-loop-i-init c = states_none (game c.args.table.now) c.args.a.0
+loop-i-init c = states_none (game c.args.table.words.now) c.args.a.0
 
 pub safely_enabled-requires : goal.safely_enabled-requires
-safely_enabled-requires c = (c.requires.0, c.requires.1, omega arith)
+safely_enabled-requires c = (c.requires, omega arith)
 
 pub single-mask-requires : goal.single-mask-requires
-single-mask-requires c = omega (arith, few_states c.args.table.now (sized c.args.table.now c.requires.0))
+single-mask-requires c = omega (arith, few_states c.args.table.words.now c.args.table.sized)
 
 pub loop-i-preserved : goal.loop-i-preserved
 loop-i-preserved c =
-    let g = game c.args.table.now in
+    let g = game c.args.table.words.now in
     elim c.if-safely_enabled.branch [
       | then-safely_enabled w ↦ rw (w.mask-is, w.single-mask.ensures) (states_hit g c.args.a.0 c.loop-i.i c.loop-i.mask c.loop-i.invariant (cc))
       | else-safely_enabled w ↦ rw w.mask-is (states_skip g c.args.a.0 c.loop-i.i c.loop-i.mask c.loop-i.invariant (cc))
@@ -29,6 +26,6 @@ loop-i-preserved c =
 
 pub returns : goal.returns
 returns c =
-    let g = game c.args.table.now in
+    let g = game c.args.table.words.now in
     let e : c.loop-i.i ≡ g.states = omega arith in
     rw e at c.loop-i.invariant

@@ -4,4 +4,4 @@ use Rattle.search.specs.Stages.{EnabledStates}
 use Rattle.search.proofs.enabled_states.Given as goal
 
 abbrev pub invariant-loop-i : goal.invariant-loop-i
-invariant-loop-i l = EnabledStates (game l.table) l.a.0 l.i l.mask
+invariant-loop-i l = EnabledStates (game l.table.words.now) l.a.0 l.i l.mask

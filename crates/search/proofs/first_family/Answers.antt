@@ -13,57 +13,51 @@ use Rattle.tables.proofs.Bounds.{few_states, few_actions}
 use Rattle.search.proofs.First.{ByAction, actions_none, actions_more, actions_front, actions_below, first_bits}
 use Rattle.search.proofs.first_family.Goals as goal
 
-pub actions-actions-requires : goal.actions-actions-requires
-actions-actions-requires c = sized c.args.table.now c.requires.0
-
 pub loop-a-init : goal.loop-a-init
-loop-a-init c = (search rules, actions_none (game c.args.table.now) (replicate max_actions 0))
+loop-a-init c = (search rules, actions_none (game c.args.table.words.now) (replicate max_actions 0))
 
 pub enabled_states-requires : goal.enabled_states-requires
-enabled_states-requires c = (c.requires.0, omega arith)
+enabled_states-requires c = omega arith
 
 pub bounds-masks-a : goal.bounds-masks-a
-bounds-masks-a c = omega (arith, c.actions-actions.ensures, few_actions c.args.table.now (sized c.args.table.now c.requires.0))
+bounds-masks-a c = omega (arith, c.actions-actions.ensures, few_actions c.args.table.words.now c.args.table.sized)
 
 pub loop-a-preserved : goal.loop-a-preserved
-loop-a-preserved c = (length-set c.loop-a.masks c.loop-a.a c.enabled_states.result ∙ c.loop-a.invariant.0, actions_more (game c.args.table.now) c.loop-a.masks c.loop-a.a c.enabled_states.result (omega (arith, c.loop-a.invariant.0, few_actions c.args.table.now (sized c.args.table.now c.requires.0), c.actions-actions.ensures)) c.enabled_states.ensures c.loop-a.invariant.1)
+loop-a-preserved c = (length-set c.loop-a.masks c.loop-a.a c.enabled_states.result ∙ c.loop-a.invariant.0, actions_more (game c.args.table.words.now) c.loop-a.masks c.loop-a.a c.enabled_states.result (omega (arith, c.loop-a.invariant.0, few_actions c.args.table.words.now c.args.table.sized, c.actions-actions.ensures)) c.enabled_states.ensures c.loop-a.invariant.1)
 
 pub slice_bounds-masks-end : goal.slice_bounds-masks-end
-slice_bounds-masks-end c = omega (arith, c.loop-a.invariant.0, few_actions c.args.table.now (sized c.args.table.now c.requires.0), c.actions-actions.ensures)
+slice_bounds-masks-end c = omega (arith, c.loop-a.invariant.0, few_actions c.args.table.words.now c.args.table.sized, c.actions-actions.ensures)
 
 pub slice_bounds-below-end : goal.slice_bounds-below-end
-slice_bounds-below-end c = sym (length-take-le _ _ (omega (arith, c.loop-a.invariant.0, few_actions c.args.table.now (sized c.args.table.now c.requires.0), c.actions-actions.ensures)))
-
-pub states-requires : goal.states-requires
-states-requires c = sized c.args.table.now c.requires.0
+slice_bounds-below-end c = sym (length-take-le _ _ (omega (arith, c.loop-a.invariant.0, few_actions c.args.table.words.now c.args.table.sized, c.actions-actions.ensures)))
 
 pub below-requires : goal.below-requires
 below-requires c =
-    let played : Game = game c.args.table.now in
+    let played : Game = game c.args.table.words.now in
     let masks_of : List ℕ = take c.actions-actions.result c.loop-a.masks in
     let front : (length masks_of ≡ played.actions) × ByAction played played.actions masks_of = let g = played in
     let e : c.loop-a.a ≡ g.actions = omega arith in (
-      length-take-le _ _ (omega (arith, c.loop-a.invariant.0, few_actions c.args.table.now (sized c.args.table.now c.requires.0), c.actions-actions.ensures)) ∙ c.actions-actions.ensures,
+      length-take-le _ _ (omega (arith, c.loop-a.invariant.0, few_actions c.args.table.words.now c.args.table.sized, c.actions-actions.ensures)) ∙ c.actions-actions.ensures,
       subst (λ (n : ℕ). ByAction g g.actions (take n c.loop-a.masks)) (sym c.actions-actions.ensures) (actions_front g c.loop-a.masks (rw e at c.loop-a.invariant.1)),
     ) in
     let f = front in
     record {
-      states = subst (λ (m : ℕ). m ≤ max_states) (sym c.states.ensures) (few_states c.args.table.now (sized c.args.table.now c.requires.0));
-      masks = λ s m. rw c.states.ensures (actions_below (game c.args.table.now) _ f.0 f.1 s m);
-      size = rw c.states.ensures c.requires.1;
+      states = subst (λ (m : ℕ). m ≤ max_states) (sym c.states.ensures) (few_states c.args.table.words.now c.args.table.sized);
+      masks = λ s m. rw c.states.ensures (actions_below (game c.args.table.words.now) _ f.0 f.1 s m);
+      size = rw c.states.ensures c.requires;
     }
 
 pub shape_of-family : goal.shape_of-family
-shape_of-family c = rw c.states.ensures at c.below.ensures.size ∙ sym c.requires.1
+shape_of-family c = rw c.states.ensures at c.below.ensures.size ∙ sym c.requires
 
 pub returns : goal.returns
 returns c =
-    let played : Game = game c.args.table.now in
+    let played : Game = game c.args.table.words.now in
     let masks_of : List ℕ = take c.actions-actions.result c.loop-a.masks in
     let front : (length masks_of ≡ played.actions) × ByAction played played.actions masks_of = let g = played in
     let e : c.loop-a.a ≡ g.actions = omega arith in (
-      length-take-le _ _ (omega (arith, c.loop-a.invariant.0, few_actions c.args.table.now (sized c.args.table.now c.requires.0), c.actions-actions.ensures)) ∙ c.actions-actions.ensures,
+      length-take-le _ _ (omega (arith, c.loop-a.invariant.0, few_actions c.args.table.words.now c.args.table.sized, c.actions-actions.ensures)) ∙ c.actions-actions.ensures,
       subst (λ (n : ℕ). ByAction g g.actions (take n c.loop-a.masks)) (sym c.actions-actions.ensures) (actions_front g c.loop-a.masks (rw e at c.loop-a.invariant.1)),
     ) in
     let f = front in
-    first_bits (game c.args.table.now) _ f.0 f.1 _ (rw c.states.ensures at c.below.ensures)
+    first_bits (game c.args.table.words.now) _ f.0 f.1 _ (rw c.states.ensures at c.below.ensures)

@@ -7,4 +7,4 @@ use Rattle.search.proofs.First.{ByAction}
 use Rattle.search.proofs.first_family.Given as goal
 
 abbrev pub invariant-loop-a : goal.invariant-loop-a
-invariant-loop-a l = (length l.masks ≡ max_actions) × ByAction (game l.table) l.a l.masks
+invariant-loop-a l = (length l.masks ≡ max_actions) × ByAction (game l.table.words.now) l.a l.masks

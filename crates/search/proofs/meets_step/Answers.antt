@@ -9,32 +9,26 @@ use Rattle.tables.proofs.Checks.{sized}
 use Rattle.search.proofs.Turns.{step_bad, step_none, step_hit}
 use Rattle.search.proofs.meets_step.Goals as goal
 
-pub bad-requires : goal.bad-requires
-bad-requires c = sized c.args.moves.table.now c.args.moves.ready.fine
-
 pub returns-then-s-bad-ne0 : goal.returns-then-s-bad-ne0
 returns-then-s-bad-ne0 c =
-    let g = game c.args.moves.table.now in
+    let g = game c.args.moves.accepted.table.words.now in
     step_bad g (has c.args.family.now) c.args.s (rw c.bad.ensures at c.if-s-bad-ne0.true)
-
-pub actions-a-end-requires : goal.actions-a-end-requires
-actions-a-end-requires c = sized c.args.moves.table.now c.args.moves.ready.fine
 
 pub loop-a-init : goal.loop-a-init
 loop-a-init c = any_zero _
 
 pub returns-then-action_meets : goal.returns-then-action_meets
 returns-then-action_meets c =
-    let g = game c.args.moves.table.now in
+    let g = game c.args.moves.accepted.table.words.now in
     step_hit g (has c.args.family.now) c.args.s (rw c.bad.ensures at c.if-s-bad-ne0.false) c.loop-a.a (omega arith) (cc)
 
 pub loop-a-preserved : goal.loop-a-preserved
 loop-a-preserved c =
-    let g = game c.args.moves.table.now in
+    let g = game c.args.moves.accepted.table.words.now in
     (any_more c.loop-a.a (meets g (has c.args.family.now) c.args.s) ∙ or_false_intro c.loop-a.invariant (cc))
 
 pub returns : goal.returns
 returns c =
-    let g = game c.args.moves.table.now in
+    let g = game c.args.moves.accepted.table.words.now in
     let e : c.loop-a.a ≡ g.actions = omega arith in
     step_none g (has c.args.family.now) c.args.s (rw e at c.loop-a.invariant)

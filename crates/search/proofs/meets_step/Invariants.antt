@@ -8,4 +8,4 @@ use Rattle.games.specs.Step.{meets}
 use Rattle.search.proofs.meets_step.Given as goal
 
 abbrev pub invariant-loop-a : goal.invariant-loop-a
-invariant-loop-a l = any l.a (meets (game l.moves.table.now) (has l.family) l.s) ≡ false
+invariant-loop-a l = any l.a (meets (game l.moves.accepted.table.words.now) (has l.family) l.s) ≡ false

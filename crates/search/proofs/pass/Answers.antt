@@ -8,18 +8,18 @@ use Rattle.search.proofs.Passes.{passing_none, covered_sound, passing_more, pass
 use Rattle.search.proofs.pass.Goals as goal
 
 pub loop-lane-init : goal.loop-lane-init
-loop-lane-init c = passing_none (game c.args.moves.table.now) c.args.family.now c.requires.0 c.args.next.now c.requires.1
+loop-lane-init c = passing_none (game c.args.moves.accepted.table.words.now) c.args.family.now c.requires.0 c.args.next.now c.requires.1
 
 pub overflow_cast-lane : goal.overflow_cast-lane
-overflow_cast-lane c = omega (arith, c.requires.0.size, table_lanes c.args.moves.table.now (sized c.args.moves.table.now c.args.moves.ready.fine))
+overflow_cast-lane c = omega (arith, c.requires.0.size, table_lanes c.args.moves.accepted.table.words.now c.args.moves.accepted.table.sized)
 
 pub pass_lane-requires : goal.pass_lane-requires
-pass_lane-requires c = (c.requires.0, omega arith, covered_sound (game c.args.moves.table.now) c.args.family.now c.requires.0 c.loop-lane.next c.loop-lane.lane (c.loop-lane.lane - 1) (omega arith) c.loop-lane.invariant c.larger-covered.result (omega arith) (λ t l. c.larger-covered.ensures t))
+pass_lane-requires c = (c.requires.0, omega arith, covered_sound (game c.args.moves.accepted.table.words.now) c.args.family.now c.requires.0 c.loop-lane.next c.loop-lane.lane (c.loop-lane.lane - 1) (omega arith) c.loop-lane.invariant c.larger-covered.result (omega arith) (λ t l. c.larger-covered.ensures t))
 
 pub loop-lane-preserved : goal.loop-lane-preserved
-loop-lane-preserved c = passing_more (game c.args.moves.table.now) c.args.family.now c.requires.0 c.loop-lane.next c.loop-lane.lane (c.loop-lane.lane - 1) (omega arith) c.loop-lane.invariant (omega arith) c.pass_lane.result c.pass_lane.ensures
+loop-lane-preserved c = passing_more (game c.args.moves.accepted.table.words.now) c.args.family.now c.requires.0 c.loop-lane.next c.loop-lane.lane (c.loop-lane.lane - 1) (omega arith) c.loop-lane.invariant (omega arith) c.pass_lane.result c.pass_lane.ensures
 
 pub returns : goal.returns
 returns c =
     let e : c.loop-lane.lane ≡ 0 = omega arith in
-    passing_end (game c.args.moves.table.now) c.args.family.now c.requires.0 c.loop-lane.next (rw e at c.loop-lane.invariant)
+    passing_end (game c.args.moves.accepted.table.words.now) c.args.family.now c.requires.0 c.loop-lane.next (rw e at c.loop-lane.invariant)

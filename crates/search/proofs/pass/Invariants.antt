@@ -4,4 +4,4 @@ use Rattle.search.proofs.Passes.{Passing}
 use Rattle.search.proofs.pass.Given as goal
 
 abbrev pub invariant-loop-lane : goal.invariant-loop-lane
-invariant-loop-lane l = Passing (game l.moves.table.now) l.family l.lane l.next
+invariant-loop-lane l = Passing (game l.moves.accepted.table.words.now) l.family l.lane l.next

@@ -4,7 +4,7 @@ use Rattle.search.proofs.Passes.{Trying}
 use Rattle.search.proofs.pass_lane.Given as goal
 
 abbrev pub invariant-loop-left : goal.invariant-loop-left
-invariant-loop-left l = Trying (game l.moves.table.now) l.family l.lane l.found l.left
+invariant-loop-left l = Trying (game l.moves.accepted.table.words.now) l.family l.lane l.found l.left
 
 abbrev pub decreases-loop-left : goal.decreases-loop-left
 decreases-loop-left l = l.left

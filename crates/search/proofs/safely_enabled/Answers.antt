@@ -7,14 +7,11 @@ use Rattle.search.specs.Stages.{safely_enabled}
 use Rattle.tables.proofs.Bounds.{few_states}
 use Rattle.search.proofs.safely_enabled.Goals as goal
 
-pub bad-requires : goal.bad-requires
-bad-requires c = sized c.args.table.now c.requires.0
-
 pub member-bad-requires : goal.member-bad-requires
-member-bad-requires c = omega (arith, c.requires.2, few_states c.args.table.now (sized c.args.table.now c.requires.0))
+member-bad-requires c = omega (arith, c.requires.1, few_states c.args.table.words.now c.args.table.sized)
 
 pub enabled-requires : goal.enabled-requires
-enabled-requires c = (sized c.args.table.now c.requires.0, c.requires.1, c.requires.2)
+enabled-requires c = (c.requires.0, c.requires.1)
 
 pub returns : goal.returns
 unfolding safely_enabled

@@ -12,35 +12,32 @@ use Rattle.tables.proofs.Bounds.{few_states}
 use Rattle.search.proofs.Searching.{first_lost, first_settled, first_on}
 use Rattle.search.proofs.search.Goals as goal
 
-pub states-requires : goal.states-requires
-states-requires c = sized c.args.moves.table.now c.args.moves.ready.fine
-
 pub single-all-requires : goal.single-all-requires
-single-all-requires c = omega (arith, c.states.ensures, few_states c.args.moves.table.now (sized c.args.moves.table.now c.args.moves.ready.fine))
+single-all-requires c = omega (arith, c.states.ensures, few_states c.args.moves.accepted.table.words.now c.args.moves.accepted.table.sized)
 
 pub overflow_sub-all : goal.overflow_sub-all
 overflow_sub-all c =
-    let played : Game = game c.args.moves.table.now in
+    let played : Game = game c.args.moves.accepted.table.words.now in
     let sets_are : c.single-all.result ≡ 2 ^ played.states = c.single-all.ensures ∙ ap (λ (n : ℕ). 2 ^ n) c.states.ensures in
     subst (λ (x : ℕ). 1 ≤ x) (sym sets_are) (pow_pos played.states)
 
 pub returns-then-not-starts_in : goal.returns-then-not-starts_in
 returns-then-not-starts_in c =
-    let played : Game = game c.args.moves.table.now in
-    let fine : Accepted played = accepted c.args.moves.table.now c.args.moves.ready.fine in
+    let played : Game = game c.args.moves.accepted.table.words.now in
+    let fine : Accepted played = accepted c.args.moves.accepted.table.words.now c.args.moves.accepted.checked in
     first_lost played fine _ c.first_family.ensures (sym c.starts_in.ensures ∙ c.if-not-starts_in.true)
 
 pub has-requires : goal.has-requires
 has-requires c =
-    let played : Game = game c.args.moves.table.now in
+    let played : Game = game c.args.moves.accepted.table.words.now in
     let sets_are : c.single-all.result ≡ 2 ^ played.states = c.single-all.ensures ∙ ap (λ (n : ℕ). 2 ^ n) c.states.ensures in
     let n = played.states in
     rw (sets_are, c.first_family.ensures.size) (lane_there n (2 ^ n - 1) (ones_lt n))
 
 pub returns-then-has : goal.returns-then-has
 returns-then-has c =
-    let played : Game = game c.args.moves.table.now in
-    let fine : Accepted played = accepted c.args.moves.table.now c.args.moves.ready.fine in
+    let played : Game = game c.args.moves.accepted.table.words.now in
+    let fine : Accepted played = accepted c.args.moves.accepted.table.words.now c.args.moves.accepted.checked in
     let sets_are : c.single-all.result ≡ 2 ^ played.states = c.single-all.ensures ∙ ap (λ (n : ℕ). 2 ^ n) c.states.ensures in
     first_settled played fine _ c.first_family.ensures
     (sym c.starts_in.ensures ∙ c.if-not-starts_in.false)
@@ -48,8 +45,8 @@ returns-then-has c =
 
 pub settle-requires : goal.settle-requires
 settle-requires c =
-    let played : Game = game c.args.moves.table.now in
-    let fine : Accepted played = accepted c.args.moves.table.now c.args.moves.ready.fine in
+    let played : Game = game c.args.moves.accepted.table.words.now in
+    let fine : Accepted played = accepted c.args.moves.accepted.table.words.now c.args.moves.accepted.checked in
     let sets_are : c.single-all.result ≡ 2 ^ played.states = c.single-all.ensures ∙ ap (λ (n : ℕ). 2 ^ n) c.states.ensures in (
       first_on played fine _ c.first_family.ensures
           (sym c.starts_in.ensures ∙ c.if-not-starts_in.false)

@@ -15,28 +15,28 @@ use Rattle.search.proofs.Passes.{same_true, same_false}
 use Rattle.search.proofs.settle.Goals as goal
 
 pub loop-k-init : goal.loop-k-init
-loop-k-init c = (few_sets c.args.moves.table.now (sized c.args.moves.table.now c.args.moves.ready.fine), c.requires.1, λ j. omega (arith, c.type_inv.family j), c.requires.0)
+loop-k-init c = (few_sets c.args.moves.accepted.table.words.now c.args.moves.accepted.table.sized, c.requires.1, λ j. omega (arith, c.type_inv.family j), c.requires.0)
 
 pub pass-requires : goal.pass-requires
 pass-requires c =
-    let played : Game = game c.args.moves.table.now in
-    let fine : Accepted played = accepted c.args.moves.table.now c.args.moves.ready.fine in
+    let played : Game = game c.args.moves.accepted.table.words.now in
+    let fine : Accepted played = accepted c.args.moves.accepted.table.words.now c.args.moves.accepted.checked in
     (good_stage played fine c.loop-k.k c.loop-k.family c.loop-k.invariant.3.family, c.loop-k.invariant.1)
 
 pub overflow_add-round : goal.overflow_add-round
 overflow_add-round c =
-    let played : Game = game c.args.moves.table.now in
-    let fine : Accepted played = accepted c.args.moves.table.now c.args.moves.ready.fine in
+    let played : Game = game c.args.moves.accepted.table.words.now in
+    let fine : Accepted played = accepted c.args.moves.accepted.table.words.now c.args.moves.accepted.checked in
     let below : c.loop-k.k < 2 ^ played.states = searching_bound played fine c.loop-k.k c.loop-k.family c.loop-k.invariant.3 in
     omega (arith, c.loop-k.invariant.0, below)
 
 pub starts_in-requires : goal.starts_in-requires
 starts_in-requires c =
-    let played : Game = game c.args.moves.table.now in
-    let fine : Accepted played = accepted c.args.moves.table.now c.args.moves.ready.fine in
+    let played : Game = game c.args.moves.accepted.table.words.now in
+    let fine : Accepted played = accepted c.args.moves.accepted.table.words.now c.args.moves.accepted.checked in
     let left : List ℕ = c.pass.new.next in
     let passed : Bits played.states (good played (c.loop-k.k + 1)) left = good_next played fine c.loop-k.k c.loop-k.family c.loop-k.invariant.3.family left c.pass.ensures in
-    (c.args.moves.ready.fine, passed.size)
+    passed.size
 
 pub shape_of-family-then-not-starts_in : goal.shape_of-family-then-not-starts_in
 shape_of-family-then-not-starts_in c =
@@ -45,8 +45,8 @@ shape_of-family-then-not-starts_in c =
 
 pub shape_of-next-then-not-starts_in : goal.shape_of-next-then-not-starts_in
 shape_of-next-then-not-starts_in c =
-    let played : Game = game c.args.moves.table.now in
-    let fine : Accepted played = accepted c.args.moves.table.now c.args.moves.ready.fine in
+    let played : Game = game c.args.moves.accepted.table.words.now in
+    let fine : Accepted played = accepted c.args.moves.accepted.table.words.now c.args.moves.accepted.checked in
     let kept : length c.loop-k.family ≡ length c.args.family.now = c.loop-k.invariant.3.family.size ∙ sym c.requires.0.family.size in
     let left : List ℕ = c.pass.new.next in
     let passed : Bits played.states (good played (c.loop-k.k + 1)) left = good_next played fine c.loop-k.k c.loop-k.family c.loop-k.invariant.3.family left c.pass.ensures in
@@ -56,8 +56,8 @@ shape_of-next-then-not-starts_in c =
 
 pub returns-then-not-starts_in : goal.returns-then-not-starts_in
 returns-then-not-starts_in c =
-    let played : Game = game c.args.moves.table.now in
-    let fine : Accepted played = accepted c.args.moves.table.now c.args.moves.ready.fine in
+    let played : Game = game c.args.moves.accepted.table.words.now in
+    let fine : Accepted played = accepted c.args.moves.accepted.table.words.now c.args.moves.accepted.checked in
     let left : List ℕ = c.pass.new.next in
     let passed : Bits played.states (good played (c.loop-k.k + 1)) left = good_next played fine c.loop-k.k c.loop-k.family c.loop-k.invariant.3.family left c.pass.ensures in
     turn_lost played fine c.loop-k.k c.loop-k.family c.loop-k.invariant.3 left passed (sym c.starts_in.ensures ∙ c.if-not-starts_in.true)
@@ -69,8 +69,8 @@ shape_of-family-then-eq c =
 
 pub shape_of-next-then-eq : goal.shape_of-next-then-eq
 shape_of-next-then-eq c =
-    let played : Game = game c.args.moves.table.now in
-    let fine : Accepted played = accepted c.args.moves.table.now c.args.moves.ready.fine in
+    let played : Game = game c.args.moves.accepted.table.words.now in
+    let fine : Accepted played = accepted c.args.moves.accepted.table.words.now c.args.moves.accepted.checked in
     let kept : length c.loop-k.family ≡ length c.args.family.now = c.loop-k.invariant.3.family.size ∙ sym c.requires.0.family.size in
     let left : List ℕ = c.pass.new.next in
     let passed : Bits played.states (good played (c.loop-k.k + 1)) left = good_next played fine c.loop-k.k c.loop-k.family c.loop-k.invariant.3.family left c.pass.ensures in
@@ -80,16 +80,16 @@ shape_of-next-then-eq c =
 
 pub returns-then-eq : goal.returns-then-eq
 returns-then-eq c =
-    let played : Game = game c.args.moves.table.now in
-    let fine : Accepted played = accepted c.args.moves.table.now c.args.moves.ready.fine in
+    let played : Game = game c.args.moves.accepted.table.words.now in
+    let fine : Accepted played = accepted c.args.moves.accepted.table.words.now c.args.moves.accepted.checked in
     let left : List ℕ = c.pass.new.next in
     let passed : Bits played.states (good played (c.loop-k.k + 1)) left = good_next played fine c.loop-k.k c.loop-k.family c.loop-k.invariant.3.family left c.pass.ensures in
     turn_settled played fine c.loop-k.k c.loop-k.family c.loop-k.invariant.3 left passed (same_true _ _ c.eq.result c.eq.ensures c.if-eq.true)
 
 pub copy_from_slice-requires : goal.copy_from_slice-requires
 copy_from_slice-requires c =
-    let played : Game = game c.args.moves.table.now in
-    let fine : Accepted played = accepted c.args.moves.table.now c.args.moves.ready.fine in
+    let played : Game = game c.args.moves.accepted.table.words.now in
+    let fine : Accepted played = accepted c.args.moves.accepted.table.words.now c.args.moves.accepted.checked in
     let left : List ℕ = c.pass.new.next in
     let passed : Bits played.states (good played (c.loop-k.k + 1)) left = good_next played fine c.loop-k.k c.loop-k.family c.loop-k.invariant.3.family left c.pass.ensures in
     let as_long : length c.loop-k.family ≡ length left = c.loop-k.invariant.3.family.size ∙ sym passed.size in
@@ -97,15 +97,15 @@ copy_from_slice-requires c =
 
 pub loop-k-smaller : goal.loop-k-smaller
 loop-k-smaller c =
-    let played : Game = game c.args.moves.table.now in
-    let fine : Accepted played = accepted c.args.moves.table.now c.args.moves.ready.fine in
+    let played : Game = game c.args.moves.accepted.table.words.now in
+    let fine : Accepted played = accepted c.args.moves.accepted.table.words.now c.args.moves.accepted.checked in
     let below : c.loop-k.k < 2 ^ played.states = searching_bound played fine c.loop-k.k c.loop-k.family c.loop-k.invariant.3 in
     omega (arith, below)
 
 pub loop-k-preserved : goal.loop-k-preserved
 loop-k-preserved c =
-    let played : Game = game c.args.moves.table.now in
-    let fine : Accepted played = accepted c.args.moves.table.now c.args.moves.ready.fine in
+    let played : Game = game c.args.moves.accepted.table.words.now in
+    let fine : Accepted played = accepted c.args.moves.accepted.table.words.now c.args.moves.accepted.checked in
     let left : List ℕ = c.pass.new.next in
     let passed : Bits played.states (good played (c.loop-k.k + 1)) left = good_next played fine c.loop-k.k c.loop-k.family c.loop-k.invariant.3.family left c.pass.ensures in
     let e : c.copy_from_slice.new.self ≡ left = c.copy_from_slice.ensures.after in

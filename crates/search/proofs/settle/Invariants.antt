@@ -9,7 +9,7 @@ use Rattle.search.specs.Found.{Reached}
 use Rattle.search.proofs.settle.Given as goal
 
 abbrev pub invariant-loop-k : goal.invariant-loop-k
-invariant-loop-k l = (2 ^ (game l.moves.table.now).states ≤ max_sets) × (length l.next ≡ length l.family) × ((j : ℕ) → get_or l.family j 0 < 2 ^ 64) × Reached (game l.moves.table.now) l.k l.family
+invariant-loop-k l = (2 ^ (game l.moves.accepted.table.words.now).states ≤ max_sets) × (length l.next ≡ length l.family) × ((j : ℕ) → get_or l.family j 0 < 2 ^ 64) × Reached (game l.moves.accepted.table.words.now) l.k l.family
 
 abbrev pub decreases-loop-k : goal.decreases-loop-k
-decreases-loop-k l = 2 ^ (game l.moves.table.now).states - l.k
+decreases-loop-k l = 2 ^ (game l.moves.accepted.table.words.now).states - l.k

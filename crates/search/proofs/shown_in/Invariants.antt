@@ -8,4 +8,4 @@ use Rattle.games.specs.Words.{game}
 use Rattle.search.proofs.shown_in.Given as goal
 
 abbrev pub invariant-loop-j : goal.invariant-loop-j
-invariant-loop-j l = all l.j (λ i. has l.family (common l.u ((game l.table).shown i))) ≡ true
+invariant-loop-j l = all l.j (λ i. has l.family (common l.u ((game l.accepted.table.words.now).shown i))) ≡ true

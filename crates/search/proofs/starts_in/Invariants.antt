@@ -8,4 +8,4 @@ use Rattle.games.specs.Words.{game}
 use Rattle.search.proofs.starts_in.Given as goal
 
 abbrev pub invariant-loop-j : goal.invariant-loop-j
-invariant-loop-j l = all l.j (λ i. has l.family (start_set (game l.table) i)) ≡ true
+invariant-loop-j l = all l.j (λ i. has l.family (start_set (game l.accepted.table.words.now) i)) ≡ true

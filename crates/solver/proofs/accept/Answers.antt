@@ -20,27 +20,24 @@ use Rattle.solver.specs.Solve.{by_verdict}
 use Rattle.solver.proofs.Collecting.{settled_closed, cells_are}
 use Rattle.solver.proofs.accept.Goals as goal
 
-pub states-n-requires : goal.states-n-requires
-states-n-requires c = sized c.args.moves.table.now c.args.moves.ready.fine
-
 pub maximal_bits-requires : goal.maximal_bits-requires
-maximal_bits-requires c = (settled_closed (game c.args.moves.table.now) c.args.family.now c.requires.0 c.states-n.result c.states-n.ensures (accepted c.args.moves.table.now c.args.moves.ready.fine) (few_states c.args.moves.table.now (sized c.args.moves.table.now c.args.moves.ready.fine)), c.requires.1)
+maximal_bits-requires c = (settled_closed (game c.args.moves.accepted.table.words.now) c.args.family.now c.requires.0 c.states-n.result c.states-n.ensures (accepted c.args.moves.accepted.table.words.now c.args.moves.accepted.checked) (few_states c.args.moves.accepted.table.words.now c.args.moves.accepted.table.sized), c.requires.1)
 
 pub set_count-base-requires : goal.set_count-base-requires
-set_count-base-requires c = subst (λ (n : ℕ). n ≤ max_states) (sym c.states-n.ensures) (few_states c.args.moves.table.now (sized c.args.moves.table.now c.args.moves.ready.fine))
+set_count-base-requires c = subst (λ (n : ℕ). n ≤ max_states) (sym c.states-n.ensures) (few_states c.args.moves.accepted.table.words.now c.args.moves.accepted.table.sized)
 
 pub note_cells-count-requires : goal.note_cells-count-requires
 note_cells-count-requires c =
-    let played : Game = game c.args.moves.table.now in
+    let played : Game = game c.args.moves.accepted.table.words.now in
     let topped : List ℕ = c.maximal_bits.new.found in
     let tops_are : sets topped ≡ cells played = c.maximal_bits.ensures.1 ∙ cells_are played c.args.family.now c.requires.0 _ c.states-n.ensures in
     let same_lanes : length topped ≡ length c.args.family.now = c.maximal_bits.ensures.0 ∙ c.requires.1 in
     let base_is : c.set_count-base.result ≡ 2 ^ played.states = c.set_count-base.ensures ∙ ap (λ (n : ℕ). 2 ^ n) c.states-n.ensures in
-    let few = few_states c.args.moves.table.now (sized c.args.moves.table.now c.args.moves.ready.fine) in
+    let few = few_states c.args.moves.accepted.table.words.now c.args.moves.accepted.table.sized in
     record {
       room = omega (arith, base_is, c.requires.2);
       few = omega (arith, base_is, ap length tops_are, cells_few played);
-      small = omega (arith, base_is, few_sets c.args.moves.table.now (sized c.args.moves.table.now c.args.moves.ready.fine));
+      small = omega (arith, base_is, few_sets c.args.moves.accepted.table.words.now c.args.moves.accepted.table.sized);
       few_lanes = few_lanes played.states topped few (same_lanes ∙ c.requires.0.size);
       below = λ v h. rw base_is (cell_below played topped tops_are v h);
     }
@@ -55,7 +52,7 @@ pub mark_layers-requires : goal.mark_layers-requires
 mark_layers-requires c =
     let topped : List ℕ = c.maximal_bits.new.found in
     let front : List ℕ = take c.note_cells-count.result c.note_cells-count.new.work in
-    let lanes_few : length topped ≤ max_lanes = few_lanes (game c.args.moves.table.now).states topped (few_states c.args.moves.table.now (sized c.args.moves.table.now c.args.moves.ready.fine)) (c.maximal_bits.ensures.0 ∙ c.requires.1 ∙ c.requires.0.size) in
+    let lanes_few : length topped ≤ max_lanes = few_lanes (game c.args.moves.accepted.table.words.now).states topped (few_states c.args.moves.accepted.table.words.now c.args.moves.accepted.table.sized) (c.maximal_bits.ensures.0 ∙ c.requires.1 ∙ c.requires.0.size) in
     let front_is : front ≡ sets topped = ap (λ (n : ℕ). take n c.note_cells-count.new.work) c.note_cells-count.ensures.0 ∙ c.note_cells-count.ensures.1.front in
     let cells_small : (i : ℕ) → i < length front → get_or front i 0 < 2 ^ max_states = λ i l. subst (λ (k : List ℕ). i < length k → get_or k i 0 < 2 ^ max_states) (sym front_is)
     (λ b. has_small topped lanes_few (get_or (sets topped) i 0) (listed_has topped i b)) l in
@@ -66,7 +63,7 @@ mark_masks-requires c = refl
 
 pub invariant_of-cells : goal.invariant_of-cells
 invariant_of-cells c =
-    let played : Game = game c.args.moves.table.now in
+    let played : Game = game c.args.moves.accepted.table.words.now in
     let topped : List ℕ = c.maximal_bits.new.found in
     let tops_are : sets topped ≡ cells played = c.maximal_bits.ensures.1 ∙ cells_are played c.args.family.now c.requires.0 _ c.states-n.ensures in
     let same_lanes : length topped ≡ length c.args.family.now = c.maximal_bits.ensures.0 ∙ c.requires.1 in
@@ -74,22 +71,22 @@ invariant_of-cells c =
     let front_is : take c.note_cells-count.result c.note_cells-count.new.work ≡ sets topped = ap (λ (n : ℕ). take n c.note_cells-count.new.work) c.note_cells-count.ensures.0 ∙ c.note_cells-count.ensures.1.front in
     record {
       indexed =
-          settled_index played (accepted c.args.moves.table.now c.args.moves.ready.fine) c.args.family.now c.requires.0 (few_states c.args.moves.table.now (sized c.args.moves.table.now c.args.moves.ready.fine)) topped _ _ tops_are same_lanes
+          settled_index played (accepted c.args.moves.accepted.table.words.now c.args.moves.accepted.checked) c.args.family.now c.requires.0 (few_states c.args.moves.accepted.table.words.now c.args.moves.accepted.table.sized) topped _ _ tops_are same_lanes
           (subst (λ (k : List ℕ). Layers k c.mark_layers.new.layers) front_is c.mark_layers.ensures) c.mark_masks.ensures;
     }
 
 pub overflow_cast-count : goal.overflow_cast-count
 overflow_cast-count c =
-    let played : Game = game c.args.moves.table.now in
+    let played : Game = game c.args.moves.accepted.table.words.now in
     let topped : List ℕ = c.maximal_bits.new.found in
     let tops_are : sets topped ≡ cells played = c.maximal_bits.ensures.1 ∙ cells_are played c.args.family.now c.requires.0 _ c.states-n.ensures in
     let same_lanes : length topped ≡ length c.args.family.now = c.maximal_bits.ensures.0 ∙ c.requires.1 in
     let base_is : c.set_count-base.result ≡ 2 ^ played.states = c.set_count-base.ensures ∙ ap (λ (n : ℕ). 2 ^ n) c.states-n.ensures in
-    omega (arith, c.note_cells-count.ensures.0, c.note_cells-count.ensures.1.few, base_is, few_sets c.args.moves.table.now (sized c.args.moves.table.now c.args.moves.ready.fine))
+    omega (arith, c.note_cells-count.ensures.0, c.note_cells-count.ensures.1.few, base_is, few_sets c.args.moves.accepted.table.words.now c.args.moves.accepted.table.sized)
 
 pub invariant_of-grant : goal.invariant_of-grant
 invariant_of-grant c =
-    let played : Game = game c.args.moves.table.now in
+    let played : Game = game c.args.moves.accepted.table.words.now in
     let topped : List ℕ = c.maximal_bits.new.found in
     let tops_are : sets topped ≡ cells played = c.maximal_bits.ensures.1 ∙ cells_are played c.args.family.now c.requires.0 _ c.states-n.ensures in
     let same_lanes : length topped ≡ length c.args.family.now = c.maximal_bits.ensures.0 ∙ c.requires.1 in
@@ -101,7 +98,7 @@ grant-requires c = (c.note_cells-count.ensures.1, c.note_cells-count.ensures.0)
 
 pub returns : goal.returns
 returns c =
-    let played : Game = game c.args.moves.table.now in
+    let played : Game = game c.args.moves.accepted.table.words.now in
     let topped : List ℕ = c.maximal_bits.new.found in
     let tops_are : sets topped ≡ cells played = c.maximal_bits.ensures.1 ∙ cells_are played c.args.family.now c.requires.0 _ c.states-n.ensures in
     c.grant.ensures ∙ ap (λ (n : ℕ). by_verdict played c.args.card.now (Yes c.args.rounds n)) (c.note_cells-count.ensures.0 ∙ ap length tops_are)

@@ -8,15 +8,15 @@ use Rattle.solver.proofs.Answers.{decided_no, decided_yes}
 use Rattle.solver.proofs.answer_with.Goals as goal
 
 pub accept-requires : goal.accept-requires
-accept-requires c = ((subst (λ (r : Ended). Searched (game c.args.moves.table.now) r c.search.new.family) c.in-Settled.is c.search.ensures).family, search rules, c.requires.2)
+accept-requires c = ((subst (λ (r : Ended). Searched (game c.args.moves.accepted.table.words.now) r c.search.new.family) c.in-Settled.is c.search.ensures).family, search rules, c.requires.2)
 
 pub returns-in-Lost : goal.returns-in-Lost
 returns-in-Lost c =
-    let g = game c.args.moves.table.now in
+    let g = game c.args.moves.accepted.table.words.now in
     decided_no g c.args.card.now c.in-Lost.k (subst (λ (r : Ended). Searched g r c.search.new.family) c.in-Lost.is c.search.ensures).0
 
 pub returns-in-Settled : goal.returns-in-Settled
 returns-in-Settled c =
-    let g = game c.args.moves.table.now in
+    let g = game c.args.moves.accepted.table.words.now in
     let w = subst (λ (r : Ended). Searched g r c.search.new.family) c.in-Settled.is c.search.ensures in
     decided_yes g c.args.card.now c.in-Settled.k _ w.count_is w.starts refl _ c.accept.ensures

@@ -9,26 +9,23 @@ use Rattle.tables.proofs.Checks.{sized}
 use Rattle.solver.proofs.Answers.{granted_short, granted_written}
 use Rattle.solver.proofs.grant.Goals as goal
 
-pub observations-requires : goal.observations-requires
-observations-requires c = sized c.args.settled.moves.table.now c.args.settled.moves.ready.fine
-
 pub card_length-need-requires : goal.card_length-need-requires
-card_length-need-requires c = (omega (arith, c.args.settled.cells.indexed.cells_few, c.requires.1), omega (arith, c.observations.ensures, few_observations c.args.settled.moves.table.now (sized c.args.settled.moves.table.now c.args.settled.moves.ready.fine)))
+card_length-need-requires c = (omega (arith, c.args.settled.cells.indexed.cells_few, c.requires.1), omega (arith, c.observations.ensures, few_observations c.args.settled.moves.accepted.table.words.now c.args.settled.moves.accepted.table.sized))
 
 pub returns-then-card-need : goal.returns-then-card-need
 returns-then-card-need c =
-    let needed : ℕ = card_length c.args.count (game c.args.settled.moves.table.now).observations in
+    let needed : ℕ = card_length c.args.count (game c.args.settled.moves.accepted.table.words.now).observations in
     let need_is : c.card_length-need.result ≡ needed = c.card_length-need.ensures ∙ ap (card_length _) c.observations.ensures in
-    rw c.at.ensures (granted_short (game c.args.settled.moves.table.now) c.args.card.now c.args.rounds c.args.count _ need_is c.if-card-need.true)
+    rw c.at.ensures (granted_short (game c.args.settled.moves.accepted.table.words.now) c.args.card.now c.args.rounds c.args.count _ need_is c.if-card-need.true)
 
 pub write_card-requires : goal.write_card-requires
 write_card-requires c =
-    let needed : ℕ = card_length c.args.count (game c.args.settled.moves.table.now).observations in
+    let needed : ℕ = card_length c.args.count (game c.args.settled.moves.accepted.table.words.now).observations in
     let need_is : c.card_length-need.result ≡ needed = c.card_length-need.ensures ∙ ap (card_length _) c.observations.ensures in
     (c.requires.0, c.requires.1, subst (λ (n : ℕ). n ≤ length c.args.card.now) need_is c.if-card-need.false)
 
 pub returns : goal.returns
 returns c =
-    let needed : ℕ = card_length c.args.count (game c.args.settled.moves.table.now).observations in
+    let needed : ℕ = card_length c.args.count (game c.args.settled.moves.accepted.table.words.now).observations in
     let need_is : c.card_length-need.result ≡ needed = c.card_length-need.ensures ∙ ap (card_length _) c.observations.ensures in
-    granted_written (game c.args.settled.moves.table.now) c.args.card.now c.args.rounds c.args.count _ need_is c.if-card-need.false c.write_card.new.card c.write_card.ensures
+    granted_written (game c.args.settled.moves.accepted.table.words.now) c.args.card.now c.args.rounds c.args.count _ need_is c.if-card-need.false c.write_card.new.card c.write_card.ensures

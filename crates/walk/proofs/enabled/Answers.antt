@@ -7,4 +7,4 @@ use Rattle.walk.proofs.Moves.{moved_some}
 use Rattle.walk.proofs.enabled.Goals as goal
 
 pub returns : goal.returns
-returns c = c.is_some.ensures ∙ ap (λ (o : Option ℕ). is_some o) c.move_from.ensures ∙ moved_some (game c.args.table.now) c.args.a.0 c.args.i.0
+returns c = c.is_some.ensures ∙ ap (λ (o : Option ℕ). is_some o) c.move_from.ensures ∙ moved_some (game c.args.table.words.now) c.args.a.0 c.args.i.0

@@ -6,7 +6,7 @@ use Rattle.walk.proofs.Walks.{Walking}
 use Rattle.walk.proofs.walk.Given as goal
 
 abbrev pub invariant-loop-rest : goal.invariant-loop-rest
-invariant-loop-rest l = Walking (game l.table) l.a.0 l.s l.rest l.u l.looked
+invariant-loop-rest l = Walking (game l.table.words.now) l.a.0 l.s l.rest l.u l.looked
 
 abbrev pub decreases-loop-rest : goal.decreases-loop-rest
-decreases-loop-rest l = length (members (game l.table).states l.rest)
+decreases-loop-rest l = length (members (game l.table.words.now).states l.rest)

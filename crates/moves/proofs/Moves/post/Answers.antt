@@ -7,16 +7,16 @@ use Rattle.moves.proofs.Halving.{high_small, posted_open, posted_shut}
 use Rattle.moves.proofs.Moves.post.Goals as goal
 
 pub overflow_mul-at : goal.overflow_mul-at
-overflow_mul-at c = omega (arith, few_actions c.args.self.table.now (sized c.args.self.table.now c.args.self.ready.fine), c.requires.1)
+overflow_mul-at c = omega (arith, few_actions c.args.self.accepted.table.words.now c.args.self.accepted.table.sized, c.requires.1)
 
 pub bounds-self-at : goal.bounds-self-at
-bounds-self-at c = omega (arith, few_actions c.args.self.table.now (sized c.args.self.table.now c.args.self.ready.fine), c.requires.1, c.args.self.ready.tabled.low_size)
+bounds-self-at c = omega (arith, few_actions c.args.self.accepted.table.words.now c.args.self.accepted.table.sized, c.requires.1, c.args.self.tabled.low_size)
 
 pub bounds-self-at-2 : goal.bounds-self-at-2
-bounds-self-at-2 c = omega (arith, few_actions c.args.self.table.now (sized c.args.self.table.now c.args.self.ready.fine), c.requires.1, c.args.self.ready.tabled.high_size, high_small c.args.self.table.now c.args.self.ready.fine c.args.s c.requires.0)
+bounds-self-at-2 c = omega (arith, few_actions c.args.self.accepted.table.words.now c.args.self.accepted.table.sized, c.requires.1, c.args.self.tabled.high_size, high_small c.args.self.accepted.table.words.now c.args.self.accepted.checked c.args.s c.requires.0)
 
 pub returns-then-u-lt-BLOCKED : goal.returns-then-u-lt-BLOCKED
-returns-then-u-lt-BLOCKED c = posted_open (game c.args.self.table.now) (accepted c.args.self.table.now c.args.self.ready.fine) (few_states c.args.self.table.now (sized c.args.self.table.now c.args.self.ready.fine)) c.args.s c.args.a.0 c.requires.1 _ (c.args.self.ready.tabled.at c.args.a.0 c.args.s c.requires.1 c.requires.0) c.if-u-lt-BLOCKED.true
+returns-then-u-lt-BLOCKED c = posted_open (game c.args.self.accepted.table.words.now) (accepted c.args.self.accepted.table.words.now c.args.self.accepted.checked) (few_states c.args.self.accepted.table.words.now c.args.self.accepted.table.sized) c.args.s c.args.a.0 c.requires.1 _ (c.args.self.tabled.at c.args.a.0 c.args.s c.requires.1 c.requires.0) c.if-u-lt-BLOCKED.true
 
 pub returns-else-u-lt-BLOCKED : goal.returns-else-u-lt-BLOCKED
-returns-else-u-lt-BLOCKED c = posted_shut (game c.args.self.table.now) (accepted c.args.self.table.now c.args.self.ready.fine) (few_states c.args.self.table.now (sized c.args.self.table.now c.args.self.ready.fine)) c.args.s c.args.a.0 c.requires.1 _ (c.args.self.ready.tabled.at c.args.a.0 c.args.s c.requires.1 c.requires.0) c.if-u-lt-BLOCKED.false
+returns-else-u-lt-BLOCKED c = posted_shut (game c.args.self.accepted.table.words.now) (accepted c.args.self.accepted.table.words.now c.args.self.accepted.checked) (few_states c.args.self.accepted.table.words.now c.args.self.accepted.table.sized) c.args.s c.args.a.0 c.requires.1 _ (c.args.self.tabled.at c.args.a.0 c.args.s c.requires.1 c.requires.0) c.if-u-lt-BLOCKED.false

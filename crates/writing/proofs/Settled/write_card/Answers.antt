@@ -17,12 +17,9 @@ use Rattle.cards.proofs.Parts.{carded_none, carded_room, carded_part, carded_mor
 use Rattle.writing.proofs.Carding.{listed_words, set_words_length, front_words_length, card_is, cell_of}
 use Rattle.writing.proofs.Settled.write_card.Goals as goal
 
-pub observations-o-requires : goal.observations-o-requires
-observations-o-requires c = sized c.args.self.moves.table.now c.args.self.moves.ready.fine
-
 pub slice_bounds-write_front-end : goal.slice_bounds-write_front-end
 slice_bounds-write_front-end c =
-    let played : Game = game c.args.self.moves.table.now in
+    let played : Game = game c.args.self.moves.accepted.table.words.now in
     let listed : List ℕ = sets_of c.args.self.cells.tops.now in
     let front_is : c.front_length-front.result ≡ front_length played.observations = c.front_length-front.ensures ∙ ap front_length c.observations-o.ensures in
     let count_is : c.args.count ≡ length listed = c.requires.1 in
@@ -32,7 +29,7 @@ slice_bounds-write_front-end c =
 
 pub slice_bounds-write_front-end-2 : goal.slice_bounds-write_front-end-2
 slice_bounds-write_front-end-2 c =
-    let played : Game = game c.args.self.moves.table.now in
+    let played : Game = game c.args.self.moves.accepted.table.words.now in
     let listed : List ℕ = sets_of c.args.self.cells.tops.now in
     let front_is : c.front_length-front.result ≡ front_length played.observations = c.front_length-front.ensures ∙ ap front_length c.observations-o.ensures in
     let count_is : c.args.count ≡ length listed = c.requires.1 in
@@ -42,7 +39,7 @@ slice_bounds-write_front-end-2 c =
 
 pub write_front-requires : goal.write_front-requires
 write_front-requires c =
-    let played : Game = game c.args.self.moves.table.now in
+    let played : Game = game c.args.self.moves.accepted.table.words.now in
     let listed : List ℕ = sets_of c.args.self.cells.tops.now in
     let front_is : c.front_length-front.result ≡ front_length played.observations = c.front_length-front.ensures ∙ ap front_length c.observations-o.ensures in
     let count_is : c.args.count ≡ length listed = c.requires.1 in
@@ -52,7 +49,7 @@ write_front-requires c =
 
 pub loop-c-init : goal.loop-c-init
 loop-c-init c =
-    let played : Game = game c.args.self.moves.table.now in
+    let played : Game = game c.args.self.moves.accepted.table.words.now in
     let listed : List ℕ = sets_of c.args.self.cells.tops.now in
     let seen : ℕ = played.observations in
     let many : ℕ = length listed in
@@ -70,7 +67,7 @@ pub cell_place-at-requires : goal.cell_place-at-requires
 cell_place-at-requires c =
     let listed : List ℕ = sets_of c.args.self.cells.tops.now in
     let count_is : c.args.count ≡ length listed = c.requires.1 in
-    (omega (arith, c.observations-o.ensures, few_observations c.args.self.moves.table.now (sized c.args.self.moves.table.now c.args.self.moves.ready.fine)), omega (arith, c.loop-c-test.true, count_is, c.args.self.cells.indexed.cells_few))
+    (omega (arith, c.observations-o.ensures, few_observations c.args.self.moves.accepted.table.words.now c.args.self.moves.accepted.table.sized), omega (arith, c.loop-c-test.true, count_is, c.args.self.cells.indexed.cells_few))
 
 pub bounds-work-c : goal.bounds-work-c
 bounds-work-c c =
@@ -84,7 +81,7 @@ overflow_add-at c =
     let listed : List ℕ = sets_of c.args.self.cells.tops.now in
     let count_is : c.args.count ≡ length listed = c.requires.1 in
     let more : c.loop-c.c < length listed = omega (arith, c.loop-c-test.true, count_is) in
-    let small : c.cell_place-at.result + c.part_length-part.result < 2 ^ 21 = omega (arith, c.cell_place-at.ensures, c.part_length-part.ensures, c.observations-o.ensures, few_observations c.args.self.moves.table.now (sized c.args.self.moves.table.now c.args.self.moves.ready.fine), parts_below c.loop-c.c (part_length c.observations-o.result) (omega (arith, more, c.args.self.cells.indexed.cells_few)) (omega (arith, c.observations-o.ensures, few_observations c.args.self.moves.table.now (sized c.args.self.moves.table.now c.args.self.moves.ready.fine)))) in
+    let small : c.cell_place-at.result + c.part_length-part.result < 2 ^ 21 = omega (arith, c.cell_place-at.ensures, c.part_length-part.ensures, c.observations-o.ensures, few_observations c.args.self.moves.accepted.table.words.now c.args.self.moves.accepted.table.sized, parts_below c.loop-c.c (part_length c.observations-o.result) (omega (arith, more, c.args.self.cells.indexed.cells_few)) (omega (arith, c.observations-o.ensures, few_observations c.args.self.moves.accepted.table.words.now c.args.self.moves.accepted.table.sized))) in
     omega (arith, small)
 
 pub offset_bounds-card-at : goal.offset_bounds-card-at
@@ -92,7 +89,7 @@ offset_bounds-card-at c =
     let listed : List ℕ = sets_of c.args.self.cells.tops.now in
     let count_is : c.args.count ≡ length listed = c.requires.1 in
     let more : c.loop-c.c < length listed = omega (arith, c.loop-c-test.true, count_is) in
-    let small : c.cell_place-at.result + c.part_length-part.result < 2 ^ 21 = omega (arith, c.cell_place-at.ensures, c.part_length-part.ensures, c.observations-o.ensures, few_observations c.args.self.moves.table.now (sized c.args.self.moves.table.now c.args.self.moves.ready.fine), parts_below c.loop-c.c (part_length c.observations-o.result) (omega (arith, more, c.args.self.cells.indexed.cells_few)) (omega (arith, c.observations-o.ensures, few_observations c.args.self.moves.table.now (sized c.args.self.moves.table.now c.args.self.moves.ready.fine)))) in
+    let small : c.cell_place-at.result + c.part_length-part.result < 2 ^ 21 = omega (arith, c.cell_place-at.ensures, c.part_length-part.ensures, c.observations-o.ensures, few_observations c.args.self.moves.accepted.table.words.now c.args.self.moves.accepted.table.sized, parts_below c.loop-c.c (part_length c.observations-o.result) (omega (arith, more, c.args.self.cells.indexed.cells_few)) (omega (arith, c.observations-o.ensures, few_observations c.args.self.moves.accepted.table.words.now c.args.self.moves.accepted.table.sized))) in
     omega (arith, small)
 
 pub slice_bounds-write_cell-count : goal.slice_bounds-write_cell-count
@@ -103,7 +100,7 @@ slice_bounds-write_cell-start c = omega arith
 
 pub slice_bounds-write_cell-end : goal.slice_bounds-write_cell-end
 slice_bounds-write_cell-end c =
-    let played : Game = game c.args.self.moves.table.now in
+    let played : Game = game c.args.self.moves.accepted.table.words.now in
     let listed : List ℕ = sets_of c.args.self.cells.tops.now in
     let seen : ℕ = played.observations in
     let many : ℕ = length listed in
@@ -117,7 +114,7 @@ slice_bounds-write_cell-end c =
 
 pub write_cell-requires : goal.write_cell-requires
 write_cell-requires c =
-    let played : Game = game c.args.self.moves.table.now in
+    let played : Game = game c.args.self.moves.accepted.table.words.now in
     let listed : List ℕ = sets_of c.args.self.cells.tops.now in
     let seen : ℕ = played.observations in
     let many : ℕ = length listed in
@@ -128,13 +125,13 @@ write_cell-requires c =
     let more : c.loop-c.c < length listed = omega (arith, c.loop-c-test.true, count_is) in
     let read : get_or c.loop-c.work c.loop-c.c 0 ≡ get_or listed c.loop-c.c 0 = noted_cell c.args.self.cells.tops.now c.args.self.cells.base c.loop-c.work c.loop-c.invariant.2 c.loop-c.c more in (
       c.loop-c.invariant.2,
-      subst (SettledSet played) (sym read) (cell_of played (accepted c.args.self.moves.table.now c.args.self.moves.ready.fine) listed c.args.self.listed.are c.loop-c.c more),
+      subst (SettledSet played) (sym read) (cell_of played (accepted c.args.self.moves.accepted.table.words.now c.args.self.moves.accepted.checked) listed c.args.self.listed.are c.loop-c.c more),
       carded_part seen many parts _ c.loop-c.c c.loop-c.card c.loop-c.invariant.0 more c.cell_place-at.result c.part_length-part.result place_is part_is,
     )
 
 pub loop-c-preserved : goal.loop-c-preserved
 loop-c-preserved c =
-    let played : Game = game c.args.self.moves.table.now in
+    let played : Game = game c.args.self.moves.accepted.table.words.now in
     let listed : List ℕ = sets_of c.args.self.cells.tops.now in
     let seen : ℕ = played.observations in
     let many : ℕ = length listed in
@@ -155,7 +152,7 @@ shape_of-work c = c.loop-c.invariant.1 ∙ c.write_front.auto.work
 
 pub shape_of-card : goal.shape_of-card
 shape_of-card c =
-    let played : Game = game c.args.self.moves.table.now in
+    let played : Game = game c.args.self.moves.accepted.table.words.now in
     let listed : List ℕ = sets_of c.args.self.cells.tops.now in
     let seen : ℕ = played.observations in
     let many : ℕ = length listed in
@@ -168,7 +165,7 @@ shape_of-card c =
 
 pub returns : goal.returns
 returns c =
-    let played : Game = game c.args.self.moves.table.now in
+    let played : Game = game c.args.self.moves.accepted.table.words.now in
     let listed : List ℕ = sets_of c.args.self.cells.tops.now in
     let seen : ℕ = played.observations in
     let many : ℕ = length listed in

@@ -28,19 +28,13 @@ use Rattle.writing.proofs.Choosing.{none_next, none_with, chosen_is, never_none,
 use Rattle.writing.proofs.Settled.write_cell.Goals as goal
 
 -- ---- the needs
-pub observations-o-requires : goal.observations-o-requires
-observations-o-requires c = sized c.args.self.moves.table.now c.args.self.moves.ready.fine
-
-pub actions-a-end-requires : goal.actions-a-end-requires
-actions-a-end-requires c = sized c.args.self.moves.table.now c.args.self.moves.ready.fine
-
 pub actions-init : goal.actions-init
 actions-init c = (
   record {
     observations_are = c.observations-o.ensures;
-    observations_few = subst (λ (n : ℕ). n ≤ max_observations) (sym c.observations-o.ensures) (few_observations c.args.self.moves.table.now (sized c.args.self.moves.table.now c.args.self.moves.ready.fine));
+    observations_few = subst (λ (n : ℕ). n ≤ max_observations) (sym c.observations-o.ensures) (few_observations c.args.self.moves.accepted.table.words.now c.args.self.moves.accepted.table.sized);
     actions_are = c.actions-a-end.ensures;
-    actions_few = subst (λ (n : ℕ). n ≤ max_actions) (sym c.actions-a-end.ensures) (few_actions c.args.self.moves.table.now (sized c.args.self.moves.table.now c.args.self.moves.ready.fine));
+    actions_few = subst (λ (n : ℕ). n ≤ max_actions) (sym c.actions-a-end.ensures) (few_actions c.args.self.moves.accepted.table.words.now c.args.self.moves.accepted.table.sized);
     within = omega arith;
     size = c.requires.2 ∙ ap (λ (n : ℕ). 1 + n) (sym c.observations-o.ensures);
     none = first_zero _;
@@ -51,13 +45,13 @@ actions-init c = (
 
 pub post-requires : goal.post-requires
 post-requires c =
-    let played : Game = game c.args.self.moves.table.now in
-    let fine : Accepted played = accepted c.args.self.moves.table.now c.args.self.moves.ready.fine in
+    let played : Game = game c.args.self.moves.accepted.table.words.now in
+    let fine : Accepted played = accepted c.args.self.moves.accepted.table.words.now c.args.self.moves.accepted.checked in
     (c.requires.1.below, omega (arith, c.actions.invariant.0.actions_are))
 
 pub actions-preserved-in_default : goal.actions-preserved-in_default
 actions-preserved-in_default c =
-    let played : Game = game c.args.self.moves.table.now in
+    let played : Game = game c.args.self.moves.accepted.table.words.now in
     let acting : ℕ = c.args.s in
     let observed : ℕ = c.observations-o.result in
     let last : ℕ = c.actions-a-end.result in (
@@ -69,18 +63,18 @@ actions-preserved-in_default c =
 
 pub loop-j-init : goal.loop-j-init
 loop-j-init c =
-    let played : Game = game c.args.self.moves.table.now in
+    let played : Game = game c.args.self.moves.accepted.table.words.now in
     let listed : List ℕ = sets c.args.self.cells.tops.now in
     let observed : ℕ = c.observations-o.result in
     (refl, all_zero _, c.actions.invariant.0, filled_none observed (next_word played listed c.in-Some.u) c.actions.out c.actions.invariant.0.size, refl, c.actions.invariant.2)
 
 pub shown-requires : goal.shown-requires
-shown-requires c = (sized c.args.self.moves.table.now c.args.self.moves.ready.fine, omega (arith, c.actions.invariant.0.observations_are))
+shown-requires c = (omega (arith, c.actions.invariant.0.observations_are))
 
 pub holding-requires : goal.holding-requires
 holding-requires c =
-    let played : Game = game c.args.self.moves.table.now in
-    let fine : Accepted played = accepted c.args.self.moves.table.now c.args.self.moves.ready.fine in
+    let played : Game = game c.args.self.moves.accepted.table.words.now in
+    let fine : Accepted played = accepted c.args.self.moves.accepted.table.words.now c.args.self.moves.accepted.checked in
     let after_it : ℕ = c.in-Some.u in
     let part : ℕ = common after_it c.shown.result in
     let there : c.loop-j.j < played.observations = omega (arith, c.loop-j-test.true, c.actions.invariant.0.observations_are) in
@@ -95,12 +89,12 @@ actions-smaller c = omega (arith, c.loop-j.invariant.0, c.actions-test.true)
 
 pub actions-preserved : goal.actions-preserved
 actions-preserved c =
-    let played : Game = game c.args.self.moves.table.now in
+    let played : Game = game c.args.self.moves.accepted.table.words.now in
     let listed : List ℕ = sets c.args.self.cells.tops.now in
     let acting : ℕ = c.args.s in
     let observed : ℕ = c.observations-o.result in
     let last : ℕ = c.actions-a-end.result in
-    let fine : Accepted played = accepted c.args.self.moves.table.now c.args.self.moves.ready.fine in
+    let fine : Accepted played = accepted c.args.self.moves.accepted.table.words.now c.args.self.moves.accepted.checked in
     let after_it : ℕ = c.in-Some.u in
     let part : ℕ = common after_it c.shown.result in
     let there : c.loop-j.j < played.observations = omega (arith, c.loop-j-test.true, c.actions.invariant.0.observations_are) in
@@ -118,9 +112,9 @@ actions-preserved c =
 
 pub naming-requires : goal.naming-requires
 naming-requires c =
-    let played : Game = game c.args.self.moves.table.now in
+    let played : Game = game c.args.self.moves.accepted.table.words.now in
     let listed : List ℕ = sets c.args.self.cells.tops.now in
-    let fine : Accepted played = accepted c.args.self.moves.table.now c.args.self.moves.ready.fine in
+    let fine : Accepted played = accepted c.args.self.moves.accepted.table.words.now c.args.self.moves.accepted.checked in
     let after_it : ℕ = c.in-Some.u in
     let part : ℕ = common after_it c.shown.result in
     let there : c.loop-j.j < played.observations = omega (arith, c.loop-j-test.true, c.actions.invariant.0.observations_are) in
@@ -137,12 +131,12 @@ bounds-out-j c = omega (arith, c.loop-j.invariant.2.size, c.loop-j-test.true)
 
 pub loop-j-preserved : goal.loop-j-preserved
 loop-j-preserved c =
-    let played : Game = game c.args.self.moves.table.now in
+    let played : Game = game c.args.self.moves.accepted.table.words.now in
     let listed : List ℕ = sets c.args.self.cells.tops.now in
     let acting : ℕ = c.args.s in
     let observed : ℕ = c.observations-o.result in
     let last : ℕ = c.actions-a-end.result in
-    let fine : Accepted played = accepted c.args.self.moves.table.now c.args.self.moves.ready.fine in
+    let fine : Accepted played = accepted c.args.self.moves.accepted.table.words.now c.args.self.moves.accepted.checked in
     let after_it : ℕ = c.in-Some.u in
     let part : ℕ = common after_it c.shown.result in
     let there : c.loop-j.j < played.observations = omega (arith, c.loop-j-test.true, c.actions.invariant.0.observations_are) in
@@ -162,7 +156,7 @@ loop-j-preserved c =
     )
 
 pub picking-requires : goal.picking-requires
-picking-requires c = (omega (arith, c.requires.1.below, few_sets c.args.self.moves.table.now (sized c.args.self.moves.table.now c.args.self.moves.ready.fine)), omega (arith, c.loop-j.invariant.0, c.actions-test.true, c.actions.invariant.0.actions_few))
+picking-requires c = (omega (arith, c.requires.1.below, few_sets c.args.self.moves.accepted.table.words.now c.args.self.moves.accepted.table.sized), omega (arith, c.loop-j.invariant.0, c.actions-test.true, c.actions.invariant.0.actions_few))
 
 pub bounds-out-0 : goal.bounds-out-0
 bounds-out-0 c = omega (arith, c.loop-j.invariant.2.size)
@@ -175,7 +169,7 @@ shape_of-out-in-actions c = length-set c.loop-j.out 0 c.picking.result ∙ c.loo
 
 pub returns-in-actions : goal.returns-in-actions
 returns-in-actions c =
-    let played : Game = game c.args.self.moves.table.now in
+    let played : Game = game c.args.self.moves.accepted.table.words.now in
     let listed : List ℕ = sets c.args.self.cells.tops.now in
     let acting : ℕ = c.args.s in
     let observed : ℕ = c.observations-o.result in
@@ -199,9 +193,9 @@ shape_of-out c = c.actions.invariant.0.size ∙ ap (λ (n : ℕ). 1 + n) c.actio
 
 pub returns : goal.returns
 returns c =
-    let played : Game = game c.args.self.moves.table.now in
+    let played : Game = game c.args.self.moves.accepted.table.words.now in
     let acting : ℕ = c.args.s in
     let observed : ℕ = c.observations-o.result in
     let last : ℕ = c.actions-a-end.result in
-    let fine : Accepted played = accepted c.args.self.moves.table.now c.args.self.moves.ready.fine in
+    let fine : Accepted played = accepted c.args.self.moves.accepted.table.words.now c.args.self.moves.accepted.checked in
     absurd (never_none played acting observed last c.actions.a c.actions.out c.actions.invariant.0 fine c.requires.1 c.actions-test.false)

@@ -14,7 +14,7 @@ use Rattle.writing.proofs.Choosing.{NoneMeets, next_word}
 use Rattle.writing.proofs.Settled.write_cell.Given as goal
 
 abbrev pub invariant-loop-j : goal.invariant-loop-j
-invariant-loop-j l = (l.a ≡ l.initial.a) × (all l.j (λ i. settled (game l.self.moves.table.now) (common l.u ((game l.self.moves.table.now).shown i))) ≡ true) × NoneMeets (game l.self.moves.table.now) l.s l.o l.a-end l.initial.a l.out × Filled l.o (next_word (game l.self.moves.table.now) (sets l.self.cells.tops.now) l.u) l.j l.out × (length l.work ≡ length l.initial.work) × Noted l.self.cells.tops.now l.self.cells.base l.work
+invariant-loop-j l = (l.a ≡ l.initial.a) × (all l.j (λ i. settled (game l.self.moves.accepted.table.words.now) (common l.u ((game l.self.moves.accepted.table.words.now).shown i))) ≡ true) × NoneMeets (game l.self.moves.accepted.table.words.now) l.s l.o l.a-end l.initial.a l.out × Filled l.o (next_word (game l.self.moves.accepted.table.words.now) (sets l.self.cells.tops.now) l.u) l.j l.out × (length l.work ≡ length l.initial.work) × Noted l.self.cells.tops.now l.self.cells.base l.work
 
 abbrev pub invariant-actions : goal.invariant-actions
-invariant-actions l = NoneMeets (game l.self.moves.table.now) l.s l.o l.a-end l.a l.out × (length l.work ≡ length l.initial.work) × Noted l.self.cells.tops.now l.self.cells.base l.work
+invariant-actions l = NoneMeets (game l.self.moves.accepted.table.words.now) l.s l.o l.a-end l.a l.out × (length l.work ≡ length l.initial.work) × Noted l.self.cells.tops.now l.self.cells.base l.work

@@ -23,42 +23,39 @@ use Rattle.cards.proofs.Parts.{filled_none, filled_more, filled_end}
 use Rattle.writing.proofs.Words.{sets_front, first_word, front_is}
 use Rattle.writing.proofs.Settled.write_front.Goals as goal
 
-pub start_sets-j-end-requires : goal.start_sets-j-end-requires
-start_sets-j-end-requires c = sized c.args.self.moves.table.now c.args.self.moves.ready.fine
-
 pub loop-j-init : goal.loop-j-init
 loop-j-init c =
-    let e = ap (λ (n : ℕ). 1 + n) c.start_sets-j-end.ensures ∙ sets_front (game c.args.self.moves.table.now) in (
-      filled_none c.start_sets-j-end.result (first_word (game c.args.self.moves.table.now) (sets_of c.args.self.cells.tops.now)) c.args.out.now (c.requires.2 ∙ sym e),
+    let e = ap (λ (n : ℕ). 1 + n) c.start_sets-j-end.ensures ∙ sets_front (game c.args.self.moves.accepted.table.words.now) in (
+      filled_none c.start_sets-j-end.result (first_word (game c.args.self.moves.accepted.table.words.now) (sets_of c.args.self.cells.tops.now)) c.args.out.now (c.requires.2 ∙ sym e),
       refl,
       c.requires.0,
     )
 
 pub start_set-requires : goal.start_set-requires
-start_set-requires c = (sized c.args.self.moves.table.now c.args.self.moves.ready.fine, omega arith)
+start_set-requires c = omega arith
 
 pub holding-held-requires : goal.holding-held-requires
 holding-held-requires c =
-    let b = start_below (game c.args.self.moves.table.now) (accepted c.args.self.moves.table.now c.args.self.moves.ready.fine) c.loop-j.j in (
+    let b = start_below (game c.args.self.moves.accepted.table.words.now) (accepted c.args.self.moves.accepted.table.words.now c.args.self.moves.accepted.checked) c.loop-j.j in (
       c.loop-j.invariant.2,
-      rw (c.args.self.listed.wide, c.start_set.ensures) (lane_there (game c.args.self.moves.table.now).states (start_set (game c.args.self.moves.table.now) c.loop-j.j) b),
+      rw (c.args.self.listed.wide, c.start_set.ensures) (lane_there (game c.args.self.moves.accepted.table.words.now).states (start_set (game c.args.self.moves.accepted.table.words.now) c.loop-j.j) b),
       rw (c.args.self.listed.all_sets, c.start_set.ensures) b,
     )
 
 pub naming-requires : goal.naming-requires
 naming-requires c =
-    let e = ap (λ (n : ℕ). 1 + n) c.start_sets-j-end.ensures ∙ sets_front (game c.args.self.moves.table.now) in
-    let played : Game = game c.args.self.moves.table.now in
+    let e = ap (λ (n : ℕ). 1 + n) c.start_sets-j-end.ensures ∙ sets_front (game c.args.self.moves.accepted.table.words.now) in
+    let played : Game = game c.args.self.moves.accepted.table.words.now in
     let listed : List ℕ = sets_of c.args.self.cells.tops.now in
     let first_cell : c.unwrap_or-first.result.0 ≡ holding listed (start_set played c.loop-j.j) = ap (λ (x : Cell). x.0) c.unwrap_or-first.ensures ∙ ap named c.holding-held.ensures.0 ∙ named_holding listed c.start_set.result ∙ ap (holding listed) c.start_set.ensures in
-    (search rules, subst (λ (x : ℕ). x < low_values) (sym first_cell) (holding_small _ _ c.args.self.cells.indexed.cells_few), omega (arith, e, few_observations c.args.self.moves.table.now (sized c.args.self.moves.table.now c.args.self.moves.ready.fine), c.loop-j-test.true))
+    (search rules, subst (λ (x : ℕ). x < low_values) (sym first_cell) (holding_small _ _ c.args.self.cells.indexed.cells_few), omega (arith, e, few_observations c.args.self.moves.accepted.table.words.now c.args.self.moves.accepted.table.sized, c.loop-j-test.true))
 
 pub bounds-out-j : goal.bounds-out-j
 bounds-out-j c = omega (arith, c.loop-j.invariant.0.size)
 
 pub loop-j-preserved : goal.loop-j-preserved
 loop-j-preserved c =
-    let played : Game = game c.args.self.moves.table.now in
+    let played : Game = game c.args.self.moves.accepted.table.words.now in
     let listed : List ℕ = sets_of c.args.self.cells.tops.now in
     let first_cell : c.unwrap_or-first.result.0 ≡ holding listed (start_set played c.loop-j.j) = ap (λ (x : Cell). x.0) c.unwrap_or-first.ensures ∙ ap named c.holding-held.ensures.0 ∙ named_holding listed c.start_set.result ∙ ap (holding listed) c.start_set.ensures in (
       filled_more c.start_sets-j-end.result (first_word played listed) c.loop-j.j c.loop-j.out c.naming.result (omega arith)
@@ -67,17 +64,11 @@ loop-j-preserved c =
       c.holding-held.ensures.1,
     )
 
-pub observations-requires : goal.observations-requires
-observations-requires c = sized c.args.self.moves.table.now c.args.self.moves.ready.fine
-
-pub actions-requires : goal.actions-requires
-actions-requires c = sized c.args.self.moves.table.now c.args.self.moves.ready.fine
-
 pub heading-requires : goal.heading-requires
 heading-requires c = (
   omega (arith, c.args.self.cells.indexed.cells_few, c.requires.1),
-  omega (arith, c.observations.ensures, few_observations c.args.self.moves.table.now (sized c.args.self.moves.table.now c.args.self.moves.ready.fine)),
-  omega (arith, c.actions.ensures, few_actions c.args.self.moves.table.now (sized c.args.self.moves.table.now c.args.self.moves.ready.fine)),
+  omega (arith, c.observations.ensures, few_observations c.args.self.moves.accepted.table.words.now c.args.self.moves.accepted.table.sized),
+  omega (arith, c.actions.ensures, few_actions c.args.self.moves.accepted.table.words.now c.args.self.moves.accepted.table.sized),
 )
 
 pub bounds-out-0 : goal.bounds-out-0
@@ -87,11 +78,11 @@ pub shape_of-work : goal.shape_of-work
 shape_of-work c = c.loop-j.invariant.1
 
 pub shape_of-out : goal.shape_of-out
-shape_of-out c = length-set c.loop-j.out 0 c.heading.result ∙ c.loop-j.invariant.0.size ∙ ap (λ (n : ℕ). 1 + n) c.start_sets-j-end.ensures ∙ sets_front (game c.args.self.moves.table.now) ∙ sym c.requires.2
+shape_of-out c = length-set c.loop-j.out 0 c.heading.result ∙ c.loop-j.invariant.0.size ∙ ap (λ (n : ℕ). 1 + n) c.start_sets-j-end.ensures ∙ sets_front (game c.args.self.moves.accepted.table.words.now) ∙ sym c.requires.2
 
 pub returns : goal.returns
 returns c =
-    let g = game c.args.self.moves.table.now in
+    let g = game c.args.self.moves.accepted.table.words.now in
     let l = sets_of c.args.self.cells.tops.now in (
       filled_end c.start_sets-j-end.result (first_word g l) c.loop-j.j c.loop-j.out c.heading.result c.loop-j-test.false c.loop-j.auto.j-end c.loop-j.invariant.0
           ∙ front_is g l c.args.self.listed.are c.start_sets-j-end.result c.heading.result c.start_sets-j-end.ensures (c.heading.ensures ∙ ap (λ (n : ℕ). card_head n c.observations.result c.actions.result) c.requires.1 ∙ rw (c.observations.ensures, c.actions.ensures)),

@@ -9,4 +9,4 @@ use Rattle.writing.proofs.Words.{first_word}
 use Rattle.writing.proofs.Settled.write_front.Given as goal
 
 abbrev pub invariant-loop-j : goal.invariant-loop-j
-invariant-loop-j l = Filled l.j-end (first_word (game l.self.moves.table.now) (sets_of l.self.cells.tops.now)) l.j l.out × (length l.work ≡ length l.initial.work) × Noted l.self.cells.tops.now l.self.cells.base l.work
+invariant-loop-j l = Filled l.j-end (first_word (game l.self.moves.accepted.table.words.now) (sets_of l.self.cells.tops.now)) l.j l.out × (length l.work ≡ length l.initial.work) × Noted l.self.cells.tops.now l.self.cells.base l.work
