@@ -40,7 +40,7 @@ fn observation_turn(accepted: Accepted, s: u32, a: Action, k: u32) -> bool
     requires { a.0 < (game accepted.table.words.now).actions }
     ensures { let g = game accepted.entry.table.words.now in result ≡ meets g (good g k) s a.0 }
 {
-    let Ok(u) = walk::walk(accepted.table.words, s, a).post else {
+    let Ok(u) = walk::walk(accepted.table, s, a).post else {
         return false; // blocked at a member
     };
     if k == 0 {

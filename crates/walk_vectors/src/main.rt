@@ -10,6 +10,7 @@ use games::{Action, State};
 use rows::input::read_full;
 use rows::print::Refused;
 use std::io;
+use tables::Table;
 use walk::Walked;
 
 // The most words that are read, and their bytes.
@@ -48,7 +49,7 @@ fn print_walk(rt: &impl Print, table: &[u32], s: u32, a: Action) -> io::Result<(
     requires { Sized table.now × (a.0 < (game table.now).actions) }
 {
     let action = a.0;
-    let Walked { post, looked } = walk::walk(table, s, a);
+    let Walked { post, looked } = walk::walk(Table { words: table }, s, a);
     match post {
         Ok(u) => println!(rt; "walk {action} {s}: post {u} {looked}"),
         Err(State(i)) => println!(rt; "walk {action} {s}: blocked {i} {looked}"),

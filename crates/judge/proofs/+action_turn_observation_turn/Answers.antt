@@ -43,9 +43,6 @@ action_turn-returns t c =
 
 -- ---- the observation's turn
 
-pub observation_turn-walk-requires : goal.observation_turn-walk-requires
-observation_turn-walk-requires t c = (c.args.accepted.table.sized, c.requires)
-
 pub observation_turn-returns-in_default : goal.observation_turn-returns-in_default
 observation_turn-returns-in_default t c =
     action_blocked (game c.args.accepted.table.words.now) (good (game c.args.accepted.table.words.now) c.args.k) c.args.s c.args.a.0 c.in_default.field-0 (ap (λ (w : Walked). w.post) (sym c.walk.ensures) ∙ c.in_default.is)

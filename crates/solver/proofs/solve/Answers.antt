@@ -18,38 +18,35 @@ use Rattle.solver.proofs.Promises.{promised}
 use Rattle.solver.proofs.solve.Goals as goal
 use Rattle.std.specs.Prelude.{Ok, Err}
 
-pub returns-in_err-check : goal.returns-in_err-check
-returns-in_err-check c =
+pub returns-in_err-accepted : goal.returns-in_err-accepted
+returns-in_err-accepted c =
     let p = err_from_is_err_and c.from_residual.result c.from_residual.ensures.1 in
-    let gave = solved_stopped c.args.table.now c.args.work.now c.args.card.now _ (sym c.check.ensures ∙ c.in_err-check.was) in
+    let gave = solved_stopped c.args.table.now c.args.work.now c.args.card.now _ c.in_err-accepted.ensures.refused in
     let e : leaves c.from_residual.result (buffers c.args.work.now c.args.card.now) ≡ solved c.args.table.now c.args.work.now c.args.card.now = rw (p.1, p.2) gave in
     record { determined = e; promised = promised c.args.table.now c.args.work.now c.args.card.now _ _ _ e }
 
-pub states-requires : goal.states-requires
-states-requires c =
-    let table : List ℕ = c.args.table.now in
-    let fine : checked table ≡ Ok tt = sym c.check.ensures ∙ c.in_ok-check.was in
-    sized table fine
-
 pub set_count-need-requires : goal.set_count-need-requires
 set_count-need-requires c =
-    let table : List ℕ = c.args.table.now in
-    let fine : checked table ≡ Ok tt = sym c.check.ensures ∙ c.in_ok-check.was in
+    let same = ap (λ b. b.now) c.in_ok-accepted.ensures.table in
+    let table : List ℕ = c.in_ok-accepted.accepted.table.words.now in
+    let fine : checked table ≡ Ok tt = c.in_ok-accepted.accepted.checked in
     subst (λ (m : ℕ). m ≤ max_states) (sym c.states.ensures) (few_states table (sized table fine))
 
 pub overflow_mul-need : goal.overflow_mul-need
 overflow_mul-need c =
-    let table : List ℕ = c.args.table.now in
-    let fine : checked table ≡ Ok tt = sym c.check.ensures ∙ c.in_ok-check.was in
+    let same = ap (λ b. b.now) c.in_ok-accepted.ensures.table in
+    let table : List ℕ = c.in_ok-accepted.accepted.table.words.now in
+    let fine : checked table ≡ Ok tt = c.in_ok-accepted.accepted.checked in
     let need_is : 4 * c.set_count-need.result ≡ work_words (game table).states = ap (λ (n : ℕ). 4 * n) (size_is (game table) c.states.result c.set_count-need.result c.states.ensures c.set_count-need.ensures) in
     omega (arith, need_is, few_sets table (sized table fine))
 
 pub returns-then-work-need : goal.returns-then-work-need
 returns-then-work-need c =
-    let table : List ℕ = c.args.table.now in
-    let fine : checked table ≡ Ok tt = sym c.check.ensures ∙ c.in_ok-check.was in
+    let same = ap (λ b. b.now) c.in_ok-accepted.ensures.table in
+    let table : List ℕ = c.in_ok-accepted.accepted.table.words.now in
+    let fine : checked table ≡ Ok tt = c.in_ok-accepted.accepted.checked in
     let need_is : 4 * c.set_count-need.result ≡ work_words (game table).states = ap (λ (n : ℕ). 4 * n) (size_is (game table) c.states.result c.set_count-need.result c.states.ensures c.set_count-need.ensures) in
-    let e : leaves (Err c.at.result) (buffers c.args.work.now c.args.card.now) ≡ solved c.args.table.now c.args.work.now c.args.card.now = rw c.at.ensures (solved_short c.args.table.now c.args.work.now c.args.card.now fine _ need_is c.if-work-need.true) in
+    let e : leaves (Err c.at.result) (buffers c.args.work.now c.args.card.now) ≡ solved c.args.table.now c.args.work.now c.args.card.now = rw (c.at.ensures, sym same) (solved_short table c.args.work.now c.args.card.now fine _ need_is c.if-work-need.true) in
     record { determined = e; promised = promised c.args.table.now c.args.work.now c.args.card.now _ _ _ e }
 
 pub slice_bounds-decide-end-2 : goal.slice_bounds-decide-end-2
@@ -57,16 +54,18 @@ slice_bounds-decide-end-2 c = sym (length-take-le _ _ c.if-work-need.false)
 
 pub decide-answer-requires : goal.decide-answer-requires
 decide-answer-requires c =
-    let table : List ℕ = c.args.table.now in
-    let fine : checked table ≡ Ok tt = sym c.check.ensures ∙ c.in_ok-check.was in
+    let same = ap (λ b. b.now) c.in_ok-accepted.ensures.table in
+    let table : List ℕ = c.in_ok-accepted.accepted.table.words.now in
+    let fine : checked table ≡ Ok tt = c.in_ok-accepted.accepted.checked in
     let need_is : 4 * c.set_count-need.result ≡ work_words (game table).states = ap (λ (n : ℕ). 4 * n) (size_is (game table) c.states.result c.set_count-need.result c.states.ensures c.set_count-need.ensures) in
-    (fine, length-take-le _ _ c.if-work-need.false ∙ need_is)
+    (length-take-le _ _ c.if-work-need.false ∙ need_is)
 
 pub returns : goal.returns
 returns c =
-    let table : List ℕ = c.args.table.now in
-    let fine : checked table ≡ Ok tt = sym c.check.ensures ∙ c.in_ok-check.was in
+    let same = ap (λ b. b.now) c.in_ok-accepted.ensures.table in
+    let table : List ℕ = c.in_ok-accepted.accepted.table.words.now in
+    let fine : checked table ≡ Ok tt = c.in_ok-accepted.accepted.checked in
     let need_is : 4 * c.set_count-need.result ≡ work_words (game table).states = ap (λ (n : ℕ). 4 * n) (size_is (game table) c.states.result c.set_count-need.result c.states.ensures c.set_count-need.ensures) in
-    let e = solved_done c.args.table.now c.args.work.now c.args.card.now fine _ need_is c.if-work-need.false c.decide-answer.result c.fill.new.d c.decide-answer.new.card c.decide-answer.ensures
-    (cleared _ c.decide-answer.new.work c.args.work.now _ c.decide-answer.auto.work c.if-work-need.false c.fill.ensures) in
+    let e : leaves c.decide-answer.result (buffers c.fill.new.d c.decide-answer.new.card) ≡ solved c.args.table.now c.args.work.now c.args.card.now = rw (sym same) (solved_done table c.args.work.now c.args.card.now fine _ need_is c.if-work-need.false c.decide-answer.result c.fill.new.d c.decide-answer.new.card c.decide-answer.ensures
+    (cleared _ c.decide-answer.new.work c.args.work.now _ c.decide-answer.auto.work c.if-work-need.false c.fill.ensures)) in
     record { determined = e; promised = promised c.args.table.now c.args.work.now c.args.card.now _ _ _ e }
