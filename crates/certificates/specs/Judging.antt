@@ -17,7 +17,7 @@ lies_in A s (Some c) = subset s (A.set c.0)
 
 -- where there are half tables, they are those of the table's moves
 abbrev pub Halves : (table : List ℕ) → Option Moves → Type 0
-Halves w moves = IfSome moves (λ m. m.table.now ≡ w)
+Halves w moves = IfSome moves (λ m. m.accepted.table.words.now ≡ w)
 
 -- the words below place p hold
 abbrev pub HoldsBelow : Game → (card : List ℕ) → (p : ℕ) → Type 0

@@ -62,7 +62,7 @@ fn post(table: Table, moves: Option<Moves>, s: u32, a: Action) -> Option<u32>
 {
     match moves {
         Some(halves) => halves.post(s, a),
-        None => walk::walk(table.words, s, a).post.ok(),
+        None => walk::walk(table, s, a).post.ok(),
     }
 }
 
@@ -124,9 +124,10 @@ fn judge_many(pair: Pair) -> Result<(), Refusal>
 {
     let mut low = moves::side();
     let mut high = moves::side();
-    moves::fill(pair.table.table.words, &mut low, &mut high);
+    let accepted = pair.table;
+    moves::fill(accepted.table, &mut low, &mut high);
     let moves = Moves {
-        table: pair.table.table.words,
+        accepted,
         low: &low,
         high: &high,
     };

@@ -8,11 +8,8 @@ use Rattle.sets.specs.Family.{Family}
 use Rattle.games.specs.Format.{max_states, max_actions, low_values}
 use Rattle.games.specs.Game.{Game}
 use Rattle.games.specs.Step.{enabled_at, post}
-use Rattle.games.specs.Words.{game}
-use Rattle.tables.specs.Check.{checked}
 use Rattle.walk.specs.Walk.{moved, walked}
 use Rattle.walk.specs.declared.Walked.{Walked}
-use Rattle.std.specs.Prelude.{Ok}
 
 -- what a set comes to under an action: the successors of the whole set, where the action is enabled at all its members
 unfoldable pub posted : Game → ℕ → ℕ → Option ℕ

@@ -3,7 +3,6 @@ use mathlib.Core.Path.{ap, ◌∙◌, subst}
 use Prim.Native.Nat.{ℕ, ◌-◌, min}
 use native.Mathlib.Omega.{arith}
 use Rattle.games.specs.Words.{game}
-use Rattle.tables.proofs.Checks.{sized}
 use Rattle.moves.specs.Halves.{Sided, half_states}
 use Rattle.tables.proofs.Bounds.{few_states}
 use Rattle.moves.proofs.Halving.{sides_tabled}

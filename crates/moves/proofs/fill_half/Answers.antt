@@ -2,7 +2,6 @@ use mathlib.Core.Path.{sym, ◌∙◌}
 use native.Mathlib.Omega.{arith}
 use Rattle.tables.proofs.Bounds.{few_states}
 use Rattle.moves.proofs.Halving.{halving_none, halving_more, halving_end, halving_room}
-use Rattle.tables.proofs.Checks.{sized}
 use Rattle.moves.proofs.fill_half.Goals as goal
 
 pub bounds-half-0 : goal.bounds-half-0

@@ -3,7 +3,6 @@ use Prim.Native.Nat.{◌<◌}
 use native.Mathlib.Omega.{arith}
 use Rattle.games.specs.Format.{max_actions}
 use Rattle.games.specs.Words.{game}
-use Rattle.tables.proofs.Checks.{sized}
 use Rattle.tables.proofs.Bounds.{few_actions}
 use Rattle.moves.proofs.Halving.{sided_none, sided_more, side_length}
 use Rattle.moves.proofs.fill_side.Goals as goal

@@ -1,7 +1,6 @@
 use mathlib.Core.Path.{◌≡◌}
 use native.Mathlib.Omega.{arith}
 use Rattle.games.specs.Words.{game}
-use Rattle.tables.proofs.Checks.{sized}
 use Rattle.tables.proofs.Bounds.{few_states}
 use Rattle.search.proofs.First.{states_none, states_hit, states_skip}
 use Rattle.search.proofs.enabled_states.Goals as goal

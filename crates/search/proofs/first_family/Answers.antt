@@ -8,7 +8,6 @@ use lib.Seq.{length-take-le}
 use Rattle.games.specs.Format.{max_actions, max_states}
 use Rattle.games.specs.Game.{Game}
 use Rattle.games.specs.Words.{game}
-use Rattle.tables.proofs.Checks.{sized}
 use Rattle.tables.proofs.Bounds.{few_states, few_actions}
 use Rattle.search.proofs.First.{ByAction, actions_none, actions_more, actions_front, actions_below, first_bits}
 use Rattle.search.proofs.first_family.Goals as goal

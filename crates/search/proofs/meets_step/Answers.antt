@@ -5,7 +5,6 @@ use Rattle.sets.proofs.Logic.{or_false_intro}
 use Rattle.families.specs.Bits.{has}
 use Rattle.games.specs.Words.{game}
 use Rattle.games.specs.Step.{meets}
-use Rattle.tables.proofs.Checks.{sized}
 use Rattle.search.proofs.Turns.{step_bad, step_none, step_hit}
 use Rattle.search.proofs.meets_step.Goals as goal
 

@@ -2,7 +2,6 @@ use mathlib.Core.Path.{◌≡◌}
 use Prim.Native.Nat.{◌-◌}
 use native.Mathlib.Omega.{arith}
 use Rattle.games.specs.Words.{game}
-use Rattle.tables.proofs.Checks.{sized}
 use Rattle.search.proofs.Turns.{table_lanes}
 use Rattle.search.proofs.Passes.{passing_none, covered_sound, passing_more, passing_end}
 use Rattle.search.proofs.pass.Goals as goal

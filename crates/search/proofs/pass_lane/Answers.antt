@@ -4,7 +4,6 @@ use lib.Count.{count_leading_zeros}
 use Rattle.sets.proofs.Mask.{single_le}
 use Rattle.families.proofs.Lanes.{shift_one}
 use Rattle.games.specs.Words.{game}
-use Rattle.tables.proofs.Checks.{sized}
 use Rattle.search.proofs.Turns.{table_lanes}
 use Rattle.search.proofs.Passes.{Highest, highest, few_zeros, trying_none, top_below, hit_less, trying_hit, miss_less, trying_miss, trying_end}
 use Rattle.search.proofs.pass_lane.Goals as goal

@@ -2,7 +2,6 @@
 use mathlib.Core.Path.{ap₂}
 use mathlib.Core.Bool.{Bool, not, ◌&&◌}
 use native.Mathlib.Omega.{arith}
-use Rattle.tables.proofs.Checks.{sized}
 use Rattle.search.specs.Stages.{safely_enabled}
 use Rattle.tables.proofs.Bounds.{few_states}
 use Rattle.search.proofs.safely_enabled.Goals as goal

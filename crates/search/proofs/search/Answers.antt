@@ -7,7 +7,7 @@ use lib.Pow.{pow_pos, ones_lt}
 use Rattle.families.proofs.Lanes.{lane_there}
 use Rattle.games.specs.Game.{Game, Accepted}
 use Rattle.games.specs.Words.{game}
-use Rattle.tables.proofs.Checks.{sized, accepted}
+use Rattle.tables.proofs.Checks.{accepted}
 use Rattle.tables.proofs.Bounds.{few_states}
 use Rattle.search.proofs.Searching.{first_lost, first_settled, first_on}
 use Rattle.search.proofs.search.Goals as goal

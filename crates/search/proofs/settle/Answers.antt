@@ -7,7 +7,7 @@ use Rattle.families.specs.Bits.{Bits}
 use Rattle.games.specs.Game.{Game, Accepted}
 use Rattle.games.specs.Words.{game}
 use Rattle.games.specs.Step.{good}
-use Rattle.tables.proofs.Checks.{sized, accepted}
+use Rattle.tables.proofs.Checks.{accepted}
 use Rattle.search.specs.Found.{Reached}
 use Rattle.tables.proofs.Bounds.{few_sets}
 use Rattle.search.proofs.Searching.{good_stage, good_next, searching_bound, turn_lost, turn_settled, turn_on}

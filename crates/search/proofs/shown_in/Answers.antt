@@ -6,7 +6,7 @@ use Rattle.sets.proofs.Logic.{and_intro}
 use Rattle.families.specs.Bits.{has}
 use Rattle.families.proofs.Lanes.{lane_there}
 use Rattle.games.specs.Words.{game}
-use Rattle.tables.proofs.Checks.{sized, accepted}
+use Rattle.tables.proofs.Checks.{accepted}
 use Rattle.games.proofs.Steps.{shown_below}
 use Rattle.search.proofs.Turns.{shown_fails, shown_holds, shown_whole}
 use Rattle.search.proofs.shown_in.Goals as goal

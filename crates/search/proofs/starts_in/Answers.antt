@@ -7,7 +7,7 @@ use Rattle.families.proofs.Lanes.{lane_there}
 use Rattle.games.specs.Verdict.{start_sets, start_set}
 use Rattle.games.specs.Words.{game}
 use Rattle.games.proofs.Starts.{start_below, starts_passed, starts_stop}
-use Rattle.tables.proofs.Checks.{sized, accepted}
+use Rattle.tables.proofs.Checks.{accepted}
 use Rattle.search.proofs.starts_in.Goals as goal
 
 pub loop-j-init : goal.loop-j-init

@@ -11,7 +11,7 @@ use Rattle.games.specs.Format.{max_states}
 use Rattle.games.specs.Game.{Game}
 use Rattle.games.specs.Words.{game}
 use Rattle.games.specs.Verdict.{Yes, cells}
-use Rattle.tables.proofs.Checks.{sized, accepted}
+use Rattle.tables.proofs.Checks.{accepted}
 use Rattle.tables.proofs.Bounds.{few_states, few_sets}
 use Rattle.index.proofs.Settled.{cells_few, cell_below, settled_index}
 use Rattle.index.specs.Index.{Layers}

@@ -8,7 +8,6 @@ use lib.Seq.{length-take-le}
 use Rattle.families.specs.Bits.{lanes, max_lanes}
 use Rattle.games.specs.Format.{max_states}
 use Rattle.games.specs.Words.{game}
-use Rattle.tables.proofs.Checks.{sized}
 use Rattle.tables.proofs.Bounds.{few_states}
 use Rattle.search.proofs.Turns.{table_lanes}
 use Rattle.solver.proofs.decide.Goals as goal

@@ -5,7 +5,6 @@ use native.Mathlib.Omega.{arith}
 use lib.ListN.{length}
 use Rattle.games.specs.Words.{game, card_length}
 use Rattle.tables.proofs.Bounds.{few_observations}
-use Rattle.tables.proofs.Checks.{sized}
 use Rattle.solver.proofs.Answers.{granted_short, granted_written}
 use Rattle.solver.proofs.grant.Goals as goal
 

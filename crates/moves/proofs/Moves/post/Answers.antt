@@ -1,7 +1,7 @@
 -- `moves::post` meets its contract: the two entries united are the marked successors of the set, and only a mark is so large.
 use native.Mathlib.Omega.{arith}
 use Rattle.games.specs.Words.{game}
-use Rattle.tables.proofs.Checks.{sized, accepted}
+use Rattle.tables.proofs.Checks.{accepted}
 use Rattle.tables.proofs.Bounds.{few_actions, few_states}
 use Rattle.moves.proofs.Halving.{high_small, posted_open, posted_shut}
 use Rattle.moves.proofs.Moves.post.Goals as goal

@@ -12,7 +12,7 @@ use Rattle.games.specs.Words.{game, front_length, part_length, card_length, card
 use Rattle.games.proofs.Limits.{parts_below}
 use Rattle.cards.specs.Card.{cell_place}
 use Rattle.tables.proofs.Bounds.{few_observations}
-use Rattle.tables.proofs.Checks.{sized, accepted}
+use Rattle.tables.proofs.Checks.{accepted}
 use Rattle.cards.proofs.Parts.{carded_none, carded_room, carded_part, carded_more, front_within, fronted_same, fronted_room, carded_whole}
 use Rattle.writing.proofs.Carding.{listed_words, set_words_length, front_words_length, card_is, cell_of}
 use Rattle.writing.proofs.Settled.write_card.Goals as goal

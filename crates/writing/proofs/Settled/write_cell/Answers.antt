@@ -19,7 +19,7 @@ use Rattle.games.specs.Words.{game}
 use Rattle.games.specs.Verdict.{settled}
 use Rattle.games.specs.Automaton.{holding}
 use Rattle.games.proofs.Holding.{holding_small}
-use Rattle.tables.proofs.Checks.{sized, accepted}
+use Rattle.tables.proofs.Checks.{accepted}
 use Rattle.tables.proofs.Bounds.{few_observations, few_actions, few_sets}
 use Rattle.games.proofs.Steps.{shown_below}
 use Rattle.cards.proofs.Parts.{filled_none, filled_more, filled_end}

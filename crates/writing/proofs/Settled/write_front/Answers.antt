@@ -15,7 +15,7 @@ use Rattle.games.specs.Words.{game, card_head}
 use Rattle.games.proofs.Holding.{holding_small}
 use Rattle.games.proofs.Starts.{start_below}
 use Rattle.tables.proofs.Bounds.{few_observations, few_actions}
-use Rattle.tables.proofs.Checks.{sized, accepted}
+use Rattle.tables.proofs.Checks.{accepted}
 use Rattle.games.specs.declared.Cell.{Cell}
 use Rattle.index.specs.Index.{named}
 use Rattle.index.proofs.Answer.{named_holding}
