@@ -1,6 +1,6 @@
 // Rows that write a card, and that read what was written.
 use crate::rooms::{self, FREE, MOST_BYTES, MOST_WORDS};
-use crate::source::{Source, next_number, word};
+use crate::source::{Source, number, word};
 use rows::stations::{Change, GUARD};
 use std::fmt::{self, Display};
 use std::io;
@@ -14,8 +14,8 @@ struct Row {
 
 fn row_of(text: &str) -> Row {
     let mut words = text.split_whitespace();
-    let room = next_number(&mut words).unwrap_or(0);
-    let place = next_number(&mut words);
+    let room = number(words.next()).unwrap_or(0);
+    let place = number(words.next());
     let word = words.next().map_or(0, word);
     let change = place.map(|place| Change(place, word));
     Row { room, change }

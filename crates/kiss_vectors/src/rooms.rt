@@ -35,8 +35,10 @@ impl Display for TextRoom<'_> {
         if room.len() < 500 {
             write!(f, "[{}]", Bytes(room))
         } else {
-            let first = Bytes(&room[..92]);
-            let last = Bytes(&room[room.len() - 40..]);
+            let (first, _) = room.split_at(92);
+            let (_, last) = room.split_at(room.len() - 40);
+            let first = Bytes(first);
+            let last = Bytes(last);
             write!(f, "[{first}] [{last}]")
         }
     }

@@ -1,4 +1,6 @@
 // What rows are about: the card or the text of a line.
+ghost use Rattle.std.specs.Iterator.{IsFinite};
+
 use crate::rooms::FREE;
 
 // A text has up to so many bytes.
@@ -14,13 +16,23 @@ pub enum Source<'a> {
 }
 
 // Puts the items in front of the room, as far as there is room for them, and answers that front.
-pub fn fill<T: Copy>(room: &mut [T], items: impl Iterator<Item = T> + Drop) -> &mut [T] {
-    let mut count = 0;
+pub fn fill<T: Copy, I: Iterator<Item = T> + Drop>(room: &mut [T], items: I) -> &mut [T]
+    requires { I.Iterator.can_next items × IsFinite (I.Iterator.remaining items) }
+{
+    let mut count: usize = 0;
     for (place, item) in room.iter_mut().zip(items) {
         *place = item;
-        count += 1;
+        count = count.saturating_add(1);
     }
-    &mut room[..count]
+    front(room, count)
+}
+
+// So many items in front, none where there are fewer.
+fn front<T>(room: &mut [T], count: usize) -> &mut [T] {
+    match room.get_mut(..count) {
+        Some(front) => front,
+        None => &mut [],
+    }
 }
 
 // The byte that the input shows: `|` is a newline, `<` a carriage return, `>` a tab, `_` a space.
@@ -34,9 +46,9 @@ pub fn meant(shown: u8) -> u8 {
     }
 }
 
-// The next number of a row, if there is one.
-pub fn next_number<'r>(words: &mut impl Iterator<Item = &'r str>) -> Option<usize> {
-    words.next().and_then(|n| n.parse().ok())
+// The number that a word of a row is, if there is one.
+pub fn number(word: Option<&str>) -> Option<usize> {
+    word.and_then(|digits| digits.parse().ok())
 }
 
 // Eight hexadecimal digits.
@@ -63,7 +75,7 @@ fn read_card<'c>(text: &str, room: &'c mut [u32]) -> &'c mut [u32] {
         Ok(read) => read.words,
         Err(_) => 0,
     };
-    &mut room[..words]
+    front(room, words)
 }
 
 impl Source<'_> {

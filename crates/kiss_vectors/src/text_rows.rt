@@ -1,20 +1,25 @@
 // Rows that read a text, its front, or the text with some bytes changed.
 use crate::rooms::{self, FREE};
-use crate::source::{Source, TEXT_BYTES, fill, meant, next_number};
+use crate::source::{Source, TEXT_BYTES, fill, meant, number};
 use std::io;
+
+// So many bytes in front, none where there are fewer.
+fn first(bytes: &[u8], count: usize) -> &[u8] {
+    bytes.get(..count).unwrap_or(&[])
+}
 
 // The whole text, or as many bytes as the row says.
 pub fn read(rt: &impl Print, name: &str, source: Source, row: &str) -> io::Result<()> {
     let mut words = row.split_whitespace();
-    let room = next_number(&mut words).unwrap_or(0);
+    let room = number(words.next()).unwrap_or(0);
     let text = source.text();
     let mut bytes = [FREE; TEXT_BYTES];
     fill(&mut bytes, text.bytes().map(meant));
-    match next_number(&mut words) {
-        None => rooms::read(rt, name, &bytes[..text.len()], room),
+    match number(words.next()) {
+        None => rooms::read(rt, name, first(&bytes, text.len()), room),
         Some(cut) => {
             let name = format_args!("{name} cut at {cut}");
-            rooms::read(rt, name, bytes.get(..cut).unwrap_or(&[]), room)
+            rooms::read(rt, name, first(&bytes, cut), room)
         }
     }
 }
@@ -22,9 +27,9 @@ pub fn read(rt: &impl Print, name: &str, source: Source, row: &str) -> io::Resul
 // The text with a piece instead of the bytes between two places.
 pub fn read_edited(rt: &impl Print, name: &str, source: Source, row: &str) -> io::Result<()> {
     let mut words = row.splitn(4, ' ');
-    let room = next_number(&mut words).unwrap_or(0);
-    let from = next_number(&mut words).unwrap_or(0);
-    let to = next_number(&mut words).unwrap_or(0);
+    let room = number(words.next()).unwrap_or(0);
+    let from = number(words.next()).unwrap_or(0);
+    let to = number(words.next()).unwrap_or(0);
     let piece = words.next().unwrap_or("");
     let text = source.text();
     let part = text.get(from..to).unwrap_or("");
