@@ -183,7 +183,7 @@ module _ (name : ℕ → ℕ) (w : List ℕ) (n next : ℕ) where
       }
 
 -- the same names
-pub added_ext : (f g : ℕ → ℕ) (many : ℕ) (w : List ℕ) (n next : ℕ) (v : List ℕ) (k top : ℕ) → ((j : ℕ) → f j ≡ g j) → Added f many w n next v k top → Added g many w n next v k top
+pub added_ext : (f g : ℕ → ℕ) (many : ℕ) (w : List ℕ) (n next : ℕ) (v : List ℕ) (k top : ℕ) → ((j : ℕ) → j < many → f j ≡ g j) → Added f many w n next v k top → Added g many w n next v k top
 added_ext f g many w n next v k top e D =
     record {
       same = D.same;
@@ -191,8 +191,8 @@ added_ext f g many w n next v k top e D =
       grew = D.grew;
       keeps = D.keeps;
       marks = D.marks;
-      all = λ j b h. subst (λ (c : ℕ). marked v c ≡ true) (e j) (D.all j b (omega (arith, e j)));
-      only = λ c h. ⊎_elim (λ q. inl q) (λ q. inr (q.0, (q.1.0, q.1.1, sym (e q.1.0) ∙ q.1.2))) (D.only c h);
+      all = λ j b h. subst (λ (c : ℕ). marked v c ≡ true) (e j b) (D.all j b (omega (arith, e j b)));
+      only = λ c h. ⊎_elim (λ q. inl q) (λ q. inr (q.0, (q.1.0, q.1.1, sym (e q.1.0 q.1.1) ∙ q.1.2))) (D.only c h);
     }
 
 -- ---- where a run begins

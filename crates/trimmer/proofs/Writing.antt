@@ -7,7 +7,7 @@ use mathlib.Core.List.{List, [], ◌∷◌, ◌++◌}
 use Prim.Native.Nat.{ℕ, ◌+◌, ◌≤◌, ◌<◌}
 use native.Mathlib.Omega.{arith}
 use lib.Dec.{eqb}
-use lib.ListN.{length, get_or}
+use lib.ListN.{length, take, drop, get_or}
 use borrow.Author.Tests.{eq-eqb, ne_eqb, eqb-true, eqb-false}
 use Rattle.sets.specs.Bounded.{gather}
 use Rattle.sets.proofs.Logic.{decided}
@@ -30,7 +30,7 @@ use Rattle.trimmer.specs.Marking.{named_from, NamesInside, named_or}
 use Rattle.trimmer.specs.Numbering.{Renumbering, numbered_as, new_name, row_words}
 use Rattle.trimmer.specs.Trimmer.{kept_cells}
 use Rattle.trimmer.proofs.Marking.{or_none, or_some}
-use Rattle.trimmer.proofs.Naming.{first_name, next_name}
+use Rattle.trimmer.proofs.Naming.{row_same, first_name, firsts_naming, next_name, nexts_naming}
 use Rattle.std.specs.Prelude.{Ok}
 
 -- ---- the name in the work
@@ -110,9 +110,11 @@ module _ (w : List ℕ) (e : checked w ≡ Ok tt) (work : List ℕ) (R : Renumbe
     sized = many ∙ sym (trim_size A seen)
 
     -- the front
-    pub front_is : (a own : ℕ) → a ≡ card_actions w → own ≡ card_head m o a → row_words w 1 o kind_first own work ≡ front_of (trim A seen) (card_actions w) seen
-    front_is a own acts h =
-        ap (λ (n : ℕ). row_words w 1 n kind_first own work) is
+    pub front_is : (n a own : ℕ) → n ≡ o → a ≡ card_actions w → own ≡ card_head m o a
+        → row_words (take n (drop 1 w)) 0 (length (take n (drop 1 w))) kind_first own work ≡ front_of (trim A seen) (card_actions w) seen
+    front_is n a own long acts h =
+        row_same w 1 o n long (firsts_naming w e o (card_cells w) is refl).within kind_first own work
+        ∙ ap (λ (n : ℕ). row_words w 1 n kind_first own work) is
         ∙ row_ext w 1 seen kind_first own work (card_head (trim A seen).size seen (card_actions w)) (trim A seen).begins
         (h ∙ ap₂ (λ (x y : ℕ). card_head x y a) sized is ∙ ap (card_head (trim A seen).size seen) acts)
         (λ j l.
@@ -134,13 +136,15 @@ module _ (w : List ℕ) (e : checked w ≡ Ok tt) (work : List ℕ) (R : Renumbe
       pub kept_inside : c < card_cells w
       kept_inside = omega (arith, was, inside, size_of w)
 
-      pub part_is : (at own : ℕ) → at ≡ cell_place o c → own ≡ get_or w at 0 → row_words w (at + 1) o kind_next own work ≡ cell_words (trim A seen) seen i
+      pub part_is : (n at own : ℕ) → n ≡ o → at ≡ cell_place o c → own ≡ get_or w at 0
+          → row_words (take n (drop (at + 1) w)) 0 (length (take n (drop (at + 1) w))) kind_next own work ≡ cell_words (trim A seen) seen i
       unfolding cell_words
-      part_is at own place h =
+      part_is n at own long place h =
           let d = get_or (kept A seen) i 0 in
           let b = old_in A seen i at_place in
           let placed : at ≡ cell_place seen c = place ∙ ap (λ (n : ℕ). cell_place n c) is in
-          ap (λ (n : ℕ). row_words w (at + 1) n kind_next own work) is
+          row_same w (at + 1) o n long (nexts_naming w e o (card_cells w) is refl c at kept_inside place).within kind_next own work
+          ∙ ap (λ (n : ℕ). row_words w (at + 1) n kind_next own work) is
           ∙ row_ext w (at + 1) seen kind_next own work (word kind_cell ((trim A seen).set i) 0 ((trim A seen).action i)) ((trim A seen).next i)
           (h ∙ ap (λ (p : ℕ). get_or w p 0) placed ∙ own_word w e c kept_inside
           ∙ ap (λ (x : ℕ). word kind_cell (A.set x) 0 (A.action x)) was

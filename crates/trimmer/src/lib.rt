@@ -24,8 +24,7 @@ pub struct Trimmed {
     pub cells: u32,
 }
 
-// The numbers that a half of a word can hold. Two numbers share a word since the work that is lent has one word for each cell, and there
-// is no heap for more.
+// The numbers that a half of a word can hold. Two share a word: the work that is lent has one for each cell, and there is no heap.
 const HALF_VALUES: u32 = 1 << 16;
 
 pub fn lower(work: &[u32], i: usize) -> u32
@@ -66,8 +65,8 @@ struct Waiting {
     next: Cell,
 }
 
-// The cell that a word names; the other one where it names none. The number 65,535 is asked for and no `Option`: tried, a `match` on one
-// is a branch for each word of the card, and this is none.
+// The cell that a word names; the other one where it names none. A branch for each of these words, as a `match` on an `Option` is, was
+// tried: a card of 4,096 cells that names none every second time takes 250 µs with it, and 81 µs without.
 fn named_or(cell: Cell, other: Cell) -> Cell
     ensures { result.0 ≡ named_or cell.0 other.0 }
 {
@@ -97,24 +96,16 @@ fn mark(work: &mut [u32], own: Cell, cell: Cell, waiting: Waiting) -> Waiting
     }
 }
 
-// Marks the cells that so many first or next words from a place on name.
-fn mark_named(
-    card: &[u32],
-    at: usize,
-    count: u32,
-    own: Cell,
-    work: &mut [u32],
-    waiting: Waiting,
-) -> Waiting
-    requires { Naming card.now at count (length work.old) × Listing work.old waiting.cells waiting.next.0
-        × Own work.old own.0 }
-    ensures { Added (named_from card.now at) count work.old waiting.cells waiting.next.0
+// Marks the cells that first or next words name.
+fn mark_named(names: &[u32], own: Cell, work: &mut [u32], waiting: Waiting) -> Waiting
+    requires { Naming names.now 0 (length names.now) (length work.old)
+        × Listing work.old waiting.cells waiting.next.0 × Own work.old own.0 }
+    ensures { Added (named_from names.now 0) (length names.now) work.old waiting.cells waiting.next.0
         work.new result.cells result.next.0 }
 {
     let mut listed = waiting;
-    for j in 0..count {
-        let cell = games::low_field(card[at + j as usize]);
-        listed = mark(work, own, Cell(cell), listed);
+    for name in names {
+        listed = mark(work, own, Cell(games::low_field(*name)), listed);
     }
     listed
 }
@@ -145,7 +136,8 @@ fn mark_firsts(card: Card, work: &mut [u32]) -> Waiting
         cells: 1,
         next: first,
     };
-    mark_named(card.words, 1, card.observations(), first, work, waiting)
+    let o = card.observations() as usize;
+    mark_named(&card.words[1..1 + o], first, work, waiting)
 }
 
 // What waits behind the next cell.
@@ -166,14 +158,14 @@ pub fn mark_reached(card: Card, work: &mut [u32]) -> usize
     requires { length work.old ≡ card_cells card.words.now }
     ensures { Marked (automaton card.entry.words.now) (card_observations card.entry.words.now) work.new result }
 {
-    let o = card.observations();
+    let o = card.observations() as usize;
     let mut waiting = mark_firsts(card, work);
     let mut taken: usize = 0;
     while 0 < waiting.cells {
         let cell = waiting.next;
-        let at = card.cell_place(cell);
+        let at = card.cell_place(cell) + 1;
         let others = behind_next(work, waiting);
-        waiting = mark_named(card.words, at + 1, o, cell, work, others);
+        waiting = mark_named(&card.words[at..at + o], cell, work, others);
         taken += 1;
     }
     taken
@@ -213,25 +205,16 @@ fn new_name(work: &[u32], cell: Cell) -> Cell
     numbered(cell, lower(work, asked.0 as usize))
 }
 
-// The front or a part of the trimmed card: its own word, and behind it the first or next words (the kind says which) that the card has
-// from a place on, with new numbers.
-fn write_row(
-    card: &[u32],
-    at: usize,
-    count: u32,
-    kind: u32,
-    own: u32,
-    work: &[u32],
-    out: &mut [u32],
-)
-    requires { Naming card.now at count (length work.now) × (count ≤ number_values) × (kind < kind_values)
-        × (length out.old ≡ 1 + count) × (0 < length work.now) }
-    ensures { out.new ≡ row_words card.now at count kind own work.now }
+// The front or a part of the trimmed card: its own word, and behind it the card's first or next words (the kind says which) with new
+// numbers.
+fn write_row(names: &[u32], kind: u32, own: u32, work: &[u32], out: &mut [u32])
+    requires { Naming names.now 0 (length names.now) (length work.now) × (length names.now ≤ number_values)
+        × (kind < kind_values) × (length out.old ≡ 1 + length names.now) × (0 < length work.now) }
+    ensures { out.new ≡ row_words names.now 0 (length names.now) kind own work.now }
 {
-    for j in 0..count {
-        let cell = games::low_field(card[at + j as usize]);
-        let new = new_name(work, Cell(cell));
-        out[1 + j as usize] = cards::naming(kind, new, Observation(j));
+    for (j, name) in names.iter().enumerate() {
+        let new = new_name(work, Cell(games::low_field(*name)));
+        out[1 + j] = cards::naming(kind, new, Observation(j as u32));
     }
     out[0] = own;
 }
@@ -248,9 +231,7 @@ fn write_trimmed(card: Card, work: &[u32], kept: u32, out: &mut [u32])
     let head = cards::heading(kept, o, card.actions());
     let words = card.words;
     write_row(
-        words,
-        1,
-        o,
+        &words[1..front],
         games::KIND_FIRST,
         head,
         work,
@@ -260,15 +241,8 @@ fn write_trimmed(card: Card, work: &[u32], kept: u32, out: &mut [u32])
         let from = card.cell_place(Cell(upper(work, i as usize)));
         let own = words[from];
         let at = cards::cell_place(o, Cell(i));
-        write_row(
-            words,
-            from + 1,
-            o,
-            games::KIND_NEXT,
-            own,
-            work,
-            &mut out[at..at + part],
-        );
+        let names = &words[from + 1..from + part];
+        write_row(names, games::KIND_NEXT, own, work, &mut out[at..at + part]);
     }
 }
 

@@ -1,6 +1,6 @@
-use mathlib.Core.Path.{◌≡◌, sym, ap, ◌∙◌, subst}
+use mathlib.Core.Path.{◌≡◌, refl, sym, ap, ◌∙◌, subst}
 use mathlib.Core.List.{List}
-use Prim.Native.Nat.{ℕ, ◌+◌, ◌≤◌, ◌<◌}
+use Prim.Native.Nat.{ℕ, ◌+◌, ◌-◌, ◌≤◌, ◌<◌}
 use native.Mathlib.Omega.{arith}
 use lib.ListN.{length}
 use Rattle.games.specs.Automaton.{Automaton}
@@ -11,7 +11,7 @@ use Rattle.sets.proofs.Bounded.{count_le}
 use Rattle.trimmer.specs.Halves.{marked}
 use Rattle.trimmer.specs.Marking.{Added, named_from, Naming, Own, Listing}
 use Rattle.trimmer.proofs.Marking.{added_ext, next_inside, next_marked, rest_listing, taking_more, taking_end}
-use Rattle.trimmer.proofs.Naming.{next_name, nexts_naming}
+use Rattle.trimmer.proofs.Naming.{row_added, next_name, nexts_naming, nexts_row}
 use Rattle.trimmer.proofs.mark_reached.Goals as goal
 use Rattle.std.specs.Prelude.{Ok}
 
@@ -49,6 +49,17 @@ overflow_add-at c =
     let naming : Naming words (c.cell_place-at.result + 1) o (length c.loop-waiting.work) = nexts_naming words fine _ _ seen many cell _ below (c.cell_place-at.ensures ∙ ap (λ (n : ℕ). cell_place n cell) (sym seen)) in
     omega (arith, naming.within)
 
+pub slice_bounds-mark_named-end : goal.slice_bounds-mark_named-end
+slice_bounds-mark_named-end c =
+    let words : List ℕ = c.args.card.words.now in
+    let A : Automaton = automaton words in
+    let o : ℕ = c.observations-o.result in
+    let cell : ℕ = c.loop-waiting.waiting.next.0 in
+    let below : cell < card_cells words = omega (arith, next_inside A (card_observations words) c.loop-waiting.taken c.loop-waiting.work _ cell c.loop-waiting.invariant c.loop-waiting-test.true, size_of words) in
+    let place : c.cell_place-at.result ≡ cell_place o cell = c.cell_place-at.ensures ∙ ap (λ (n : ℕ). cell_place n cell) (sym c.observations-o.ensures) in
+    let inside : c.cell_place-at.result + 1 + o ≤ length words = (nexts_naming words c.args.card.checked _ (card_cells words) c.observations-o.ensures refl cell c.cell_place-at.result below place).within in
+    inside
+
 pub mark_named-waiting-requires : goal.mark_named-waiting-requires
 mark_named-waiting-requires c =
     let words : List ℕ = c.args.card.words.now in
@@ -65,7 +76,8 @@ mark_named-waiting-requires c =
       inside = omega (arith, inside, c.loop-waiting.invariant.size);
       is_marked = next_marked played (card_observations words) c.loop-waiting.taken c.loop-waiting.work _ cell c.loop-waiting.invariant some;
     } in
-    let naming : Naming words (c.cell_place-at.result + 1) o (length c.loop-waiting.work) = nexts_naming words fine _ _ seen many cell _ below (c.cell_place-at.ensures ∙ ap (λ (n : ℕ). cell_place n cell) (sym seen)) in
+    let place : c.cell_place-at.result ≡ cell_place o cell = c.cell_place-at.ensures ∙ ap (λ (n : ℕ). cell_place n cell) (sym seen) in
+    let naming = nexts_row words fine _ _ seen many cell c.cell_place-at.result below place _ (omega arith) in
     let listing : Listing c.loop-waiting.work c.behind_next-others.result.cells c.behind_next-others.result.next.0 = rest_listing played (card_observations words) c.loop-waiting.taken c.loop-waiting.work _ cell c.loop-waiting.invariant some _ _ c.behind_next-others.ensures.0 c.behind_next-others.ensures.1 c.behind_next-others.ensures.2 in
     (naming, listing, own)
 
@@ -103,10 +115,13 @@ loop-waiting-preserved c =
     let w = words in
     let A = played in
     let name = named_from w (c.cell_place-at.result + 1) in
+    let at = c.cell_place-at.result + 1 in
+    let within = (nexts_naming words fine _ _ seen many cell c.cell_place-at.result below (c.cell_place-at.ensures ∙ ap (λ (n : ℕ). cell_place n cell) (sym seen))).within in
+    let added = row_added w at o (at + o - at) (omega arith) within c.loop-waiting.work c.behind_next-others.result.cells c.behind_next-others.result.next.0 c.mark_named-waiting.new.work c.mark_named-waiting.result.cells c.mark_named-waiting.result.next.0 c.mark_named-waiting.ensures in
     taking_more A (card_observations w) c.loop-waiting.taken c.loop-waiting.work _ cell c.loop-waiting.invariant some c.behind_next-others.result.cells c.behind_next-others.result.next.0 c.behind_next-others.ensures.0 c.behind_next-others.ensures.1 c.mark_named-waiting.new.work c.mark_named-waiting.result.cells c.mark_named-waiting.result.next.0
     (added_ext name (A.next cell) (card_observations w) c.loop-waiting.work c.behind_next-others.result.cells c.behind_next-others.result.next.0 c.mark_named-waiting.new.work c.mark_named-waiting.result.cells c.mark_named-waiting.result.next.0
-    (next_name w fine _ _ seen many cell _ below (c.cell_place-at.ensures ∙ ap (λ (n : ℕ). cell_place n cell) (sym seen)))
-    (subst (λ (n : ℕ). Added name n c.loop-waiting.work c.behind_next-others.result.cells c.behind_next-others.result.next.0 c.mark_named-waiting.new.work c.mark_named-waiting.result.cells c.mark_named-waiting.result.next.0) seen c.mark_named-waiting.ensures))
+    (λ j l. next_name w fine _ _ seen many cell _ below (c.cell_place-at.ensures ∙ ap (λ (n : ℕ). cell_place n cell) (sym seen)) j)
+    (subst (λ (n : ℕ). Added name n c.loop-waiting.work c.behind_next-others.result.cells c.behind_next-others.result.next.0 c.mark_named-waiting.new.work c.mark_named-waiting.result.cells c.mark_named-waiting.result.next.0) seen added))
 
 pub shape_of-work : goal.shape_of-work
 shape_of-work c =

@@ -1,4 +1,5 @@
 -- `trimmer::write_row` meets its contract. The loop's invariant: the words for the observations below j are written.
+use lib.ListN.{length}
 use Rattle.games.specs.Fields.{word}
 use Rattle.cards.proofs.Parts.{Filled}
 use Rattle.trimmer.specs.Marking.{named_from}
@@ -6,4 +7,4 @@ use Rattle.trimmer.specs.Numbering.{new_name}
 use Rattle.trimmer.proofs.write_row.Given as goal
 
 abbrev pub invariant-loop-j : goal.invariant-loop-j
-invariant-loop-j l = Filled l.count (λ i. word l.kind (new_name l.work (named_from l.card l.at i)) i 0) l.j l.out
+invariant-loop-j l = Filled (length l.names) (λ i. word l.kind (new_name l.work (named_from l.names 0 i)) i 0) l.j l.out

@@ -1,6 +1,6 @@
 use mathlib.Core.Path.{◌≡◌, refl, sym, ap, ◌∙◌, subst}
 use mathlib.Core.List.{List, ◌++◌}
-use Prim.Native.Nat.{ℕ, ◌+◌, ◌≤◌, ◌<◌, ◌^◌}
+use Prim.Native.Nat.{ℕ, ◌+◌, ◌-◌, ◌≤◌, ◌<◌, ◌^◌}
 use native.Mathlib.Omega.{arith}
 use lib.ListN.{length, drop}
 use lib.Seq.{length-take-le}
@@ -15,7 +15,7 @@ use Rattle.cards.proofs.Written.{cell_length}
 use Rattle.cards.proofs.Parts.{carded_none, carded_room, carded_part, carded_more, front_within, fronted_same, fronted_room, carded_whole}
 use Rattle.trimming.specs.Trim.{trim, trimmed}
 use Rattle.trimming.proofs.Numbers.{kept_few}
-use Rattle.trimmer.proofs.Naming.{firsts_naming, nexts_naming}
+use Rattle.trimmer.proofs.Naming.{row_long, firsts_naming, firsts_row, nexts_naming, nexts_row}
 use Rattle.trimmer.proofs.Writing.{front_of, front_long, front_is, kept_inside, part_is, trimmed_long, trimmed_is}
 use Rattle.trimmer.proofs.write_trimmed.Goals as goal
 use Rattle.std.specs.Prelude.{Ok}
@@ -31,6 +31,12 @@ heading-head-requires c =
 pub slice_bounds-write_row-end : goal.slice_bounds-write_row-end
 slice_bounds-write_row-end c =
     let words : List ℕ = c.args.card.words.now in
+    let inside : c.front_length-front.result ≤ length words = omega (arith, c.front_length-front.ensures, (firsts_naming words c.args.card.checked _ (card_cells words) c.observations-o.ensures refl).within) in
+    inside
+
+pub slice_bounds-write_row-end-2 : goal.slice_bounds-write_row-end-2
+slice_bounds-write_row-end-2 c =
+    let words : List ℕ = c.args.card.words.now in
     let room : List ℕ = c.args.out.now in
     let seen : ℕ = card_observations words in
     let many : ℕ = c.args.kept in
@@ -43,8 +49,8 @@ slice_bounds-write_row-end c =
     let front_fits : front ≤ length room = omega (arith, front_length_is, front_within many seen (length room) enough) in
     front_fits
 
-pub slice_bounds-write_row-end-2 : goal.slice_bounds-write_row-end-2
-slice_bounds-write_row-end-2 c =
+pub slice_bounds-write_row-end-3 : goal.slice_bounds-write_row-end-3
+slice_bounds-write_row-end-3 c =
     let words : List ℕ = c.args.card.words.now in
     let room : List ℕ = c.args.out.now in
     let seen : ℕ = card_observations words in
@@ -74,11 +80,13 @@ write_row-requires c =
     let enough : card_length many seen ≤ length room = subst (λ (n : ℕ). n ≤ length room) long c.requires.2 in
     let front_fits : front ≤ length room = omega (arith, front_length_is, front_within many seen (length room) enough) in
     let work_long : length c.args.work.now ≡ card_cells words = c.requires.0.size ∙ size_of words in
+    let many_is : front - 1 ≡ o = omega (arith, c.front_length-front.ensures) in
+    let long_row = row_long words 1 o (front - 1) many_is (firsts_naming words fine _ _ o_is work_long).within in
     let some_work : 0 < length c.args.work.now = omega (arith, c.requires.0.size, fits.some_cell) in (
-      firsts_naming words fine _ _ o_is work_long,
-      omega (arith, o_is, fits.observations),
+      firsts_row words fine _ _ o_is work_long (front - 1) many_is,
+      omega (arith, long_row, o_is, fits.observations),
       omega arith,
-      length-take-le _ _ front_fits ∙ c.front_length-front.ensures,
+      omega (arith, length-take-le front room front_fits, long_row, c.front_length-front.ensures),
       some_work,
     )
 
@@ -99,7 +107,7 @@ loop-i-init c =
     let enough : card_length many seen ≤ length room = subst (λ (n : ℕ). n ≤ length room) long c.requires.2 in
     let row : List ℕ = c.write_row.new.out in
     let row_is : row ≡ front_of left (card_actions words) seen = c.write_row.ensures
-    ∙ front_is words fine c.args.work.now c.requires.0 o many o_is c.requires.1 _ _ c.actions.ensures c.heading-head.ensures in
+    ∙ front_is words fine c.args.work.now c.requires.0 o many o_is c.requires.1 (front - 1) _ _ (omega (arith, c.front_length-front.ensures)) c.actions.ensures c.heading-head.ensures in
     let row_long : length (front_of left (card_actions words) seen) ≡ front_length seen = front_long left (card_actions words) seen in
     carded_none seen many parts _
     (fronted_room seen many parts _ front front_length_is row_long room row row_is enough)
@@ -160,8 +168,8 @@ cell_place-at-requires c =
     let few : many ≤ max_cells = omega (arith, c.requires.1, kept_few (automaton words) seen, fits.cells) in
     (omega (arith, o_is, fits.observations), omega (arith, c.loop-i-test.true, few))
 
-pub overflow_add-from : goal.overflow_add-from
-overflow_add-from c =
+pub slice_bounds-names-end : goal.slice_bounds-names-end
+slice_bounds-names-end c =
     let words : List ℕ = c.args.card.words.now in
     let seen : ℕ = card_observations words in
     let many : ℕ = c.args.kept in
@@ -171,7 +179,9 @@ overflow_add-from c =
     let inside : c.upper.result < card_cells words = kept_inside words fine c.args.work.now c.requires.0 o many o_is c.requires.1 c.loop-i.i c.upper.result c.loop-i-test.true c.upper.ensures in
     let from_is : c.cell_place-from.result ≡ cell_place seen c.upper.result = c.cell_place-from.ensures in
     let from_in : c.cell_place-from.result < length words = subst (λ (p : ℕ). p < length words) (sym from_is) (cell_in words fine c.upper.result inside) in
-    omega (arith, from_in)
+    let place : c.cell_place-from.result ≡ cell_place o c.upper.result = from_is ∙ ap (λ (n : ℕ). cell_place n c.upper.result) (sym o_is) in
+    let bound : c.cell_place-from.result + c.part_length-part.result ≤ length words = omega (arith, c.part_length-part.ensures, (nexts_naming words fine _ (card_cells words) o_is refl c.upper.result c.cell_place-from.result inside place).within) in
+    bound
 
 pub overflow_add-at : goal.overflow_add-at
 overflow_add-at c =
@@ -242,11 +252,16 @@ write_row-requires-in-loop-i c =
     let some_work : 0 < length c.args.work.now = omega (arith, c.requires.0.size, fits.some_cell) in
     let inside : c.upper.result < card_cells words = kept_inside words fine c.args.work.now c.requires.0 o many o_is c.requires.1 c.loop-i.i c.upper.result c.loop-i-test.true c.upper.ensures in
     let more : c.loop-i.i < many = c.loop-i-test.true in
-    let at_is : c.cell_place-at.result ≡ cell_place seen c.loop-i.i = c.cell_place-at.ensures ∙ ap (λ (n : ℕ). cell_place n c.loop-i.i) o_is in (
-      nexts_naming words fine _ _ o_is work_long c.upper.result _ inside (c.cell_place-from.ensures ∙ ap (λ (n : ℕ). cell_place n c.upper.result) (sym o_is)),
-      omega (arith, o_is, fits.observations),
+    let at_is : c.cell_place-at.result ≡ cell_place seen c.loop-i.i = c.cell_place-at.ensures ∙ ap (λ (n : ℕ). cell_place n c.loop-i.i) o_is in
+    let from = c.cell_place-from.result in
+    let part = c.part_length-part.result in
+    let place : from ≡ cell_place o c.upper.result = c.cell_place-from.ensures ∙ ap (λ (n : ℕ). cell_place n c.upper.result) (sym o_is) in
+    let many_is : from + part - (from + 1) ≡ o = omega (arith, c.part_length-part.ensures) in
+    let long_row = row_long words (from + 1) o (from + part - (from + 1)) many_is (nexts_naming words fine _ _ o_is work_long c.upper.result from inside place).within in (
+      nexts_row words fine _ _ o_is work_long c.upper.result from inside place (from + part - (from + 1)) many_is,
+      omega (arith, long_row, o_is, fits.observations),
       omega arith,
-      carded_part seen many parts _ c.loop-i.i c.loop-i.out c.loop-i.invariant more _ _ at_is part_length_is ∙ ap part_length (sym o_is),
+      omega (arith, carded_part seen many parts _ c.loop-i.i c.loop-i.out c.loop-i.invariant more _ _ at_is part_length_is, long_row, o_is),
       some_work,
     )
 
@@ -265,7 +280,7 @@ loop-i-preserved c =
     let at_is : c.cell_place-at.result ≡ cell_place seen c.loop-i.i = c.cell_place-at.ensures ∙ ap (λ (n : ℕ). cell_place n c.loop-i.i) o_is in
     carded_more seen many parts _ c.loop-i.i c.loop-i.out c.loop-i.invariant more _ _ at_is part_length_is c.write_row-in-loop-i.new.out
     (c.write_row-in-loop-i.ensures
-    ∙ part_is words fine c.args.work.now c.requires.0 o many o_is c.requires.1 c.loop-i.i c.upper.result more c.upper.ensures c.cell_place-from.result _ (c.cell_place-from.ensures ∙ ap (λ (n : ℕ). cell_place n c.upper.result) (sym o_is)) refl)
+    ∙ part_is words fine c.args.work.now c.requires.0 o many o_is c.requires.1 c.loop-i.i c.upper.result more c.upper.ensures (c.cell_place-from.result + c.part_length-part.result - (c.cell_place-from.result + 1)) c.cell_place-from.result _ (omega (arith, c.part_length-part.ensures)) (c.cell_place-from.ensures ∙ ap (λ (n : ℕ). cell_place n c.upper.result) (sym o_is)) refl)
     (cell_length left (card_actions words) seen c.loop-i.i)
 
 pub shape_of-out : goal.shape_of-out
@@ -285,7 +300,7 @@ shape_of-out c =
     let enough : card_length many seen ≤ length room = subst (λ (n : ℕ). n ≤ length room) long c.requires.2 in
     let row : List ℕ = c.write_row.new.out in
     let row_is : row ≡ front_of left (card_actions words) seen = c.write_row.ensures
-    ∙ front_is words fine c.args.work.now c.requires.0 o many o_is c.requires.1 _ _ c.actions.ensures c.heading-head.ensures in
+    ∙ front_is words fine c.args.work.now c.requires.0 o many o_is c.requires.1 (front - 1) _ _ (omega (arith, c.front_length-front.ensures)) c.actions.ensures c.heading-head.ensures in
     let row_long : length (front_of left (card_actions words) seen) ≡ front_length seen = front_long left (card_actions words) seen in
     c.loop-i.invariant.same
     ∙ fronted_same seen many parts _ front front_length_is row_long room row row_is enough
@@ -307,7 +322,7 @@ returns c =
     let enough : card_length many seen ≤ length room = subst (λ (n : ℕ). n ≤ length room) long c.requires.2 in
     let row : List ℕ = c.write_row.new.out in
     let row_is : row ≡ front_of left (card_actions words) seen = c.write_row.ensures
-    ∙ front_is words fine c.args.work.now c.requires.0 o many o_is c.requires.1 _ _ c.actions.ensures c.heading-head.ensures in
+    ∙ front_is words fine c.args.work.now c.requires.0 o many o_is c.requires.1 (front - 1) _ _ (omega (arith, c.front_length-front.ensures)) c.actions.ensures c.heading-head.ensures in
     let row_long : length (front_of left (card_actions words) seen) ≡ front_length seen = front_long left (card_actions words) seen in
     carded_whole seen many parts _ front front_length_is row_long room row row_is enough c.loop-i.i c.loop-i.out c.loop-i.invariant c.loop-i-test.false
     ∙ ap (λ (d : List ℕ). d ++ drop (card_length many seen) room) (trimmed_is words many c.requires.1)
