@@ -18,32 +18,6 @@ const INPUT_WORDS: usize = 16384;
 
 const INPUT_BYTES: usize = 4 * INPUT_WORDS;
 
-fn wide(b: u8) -> u32
-    ensures { result < 256 }
-{
-    b as u32
-}
-
-// The word whose little-endian bytes begin at `at`.
-fn word_at(bytes: &[u8], at: usize) -> u32
-    requires { at + 4 ≤ length bytes.now }
-{
-    wide(bytes[at])
-        + 256 * wide(bytes[at + 1])
-        + 65536 * wide(bytes[at + 2])
-        + 16777216 * wide(bytes[at + 3])
-}
-
-fn decode(bytes: &[u8], words: &mut [u32])
-    requires { length bytes.now ≡ 4 * length words.old }
-{
-    let mut i: usize = 0;
-    while i < words.len() {
-        words[i] = word_at(bytes, 4 * i);
-        i += 1;
-    }
-}
-
 // The line of one walk.
 fn print_walk(rt: &impl Print, table: &[u32], s: u32, a: Action) -> io::Result<()>
     requires { Sized table.now × (a.0 < (game table.now).actions) }
@@ -115,7 +89,7 @@ fn print_input(rt: &impl Print, bytes: &[u8]) -> io::Result<()> {
     }
     let end = 4 * count;
     let mut words = input_words();
-    decode(&bytes[..end], &mut words[..count]);
+    words::decode(&bytes[..end], &mut words[..count]);
     each_table(rt, &words[..count])
 }
 
