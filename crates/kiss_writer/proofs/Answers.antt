@@ -5,21 +5,22 @@ use mathlib.Core.List.{List, ◌++◌}
 use Prim.Native.Nat.{ℕ, ◌≤◌, ◌<◌}
 use lib.ListN.{length, drop}
 use borrow.Author.Tests.{lt-ltb, le-ltb}
-use Rattle.sets.specs.Bounded.{or_else, at_found}
+use Rattle.sets.specs.Bounded.{at_found}
 use Rattle.games.specs.Answers.{leaves}
 use Rattle.games.specs.Answers.{refused}
-use Rattle.cards.specs.Card.{card_cells, checked}
+use Rattle.cards.specs.Card.{checked}
 use Rattle.text.specs.Puts.{Puts}
 use Rattle.text.specs.declared.Writer.{Writer}
 use Rattle.text.proofs.Writing.{wrote_front}
 use Rattle.kiss.specs.Text.{kiss_text}
-use Rattle.kiss.specs.Idle.{idle}
-use Rattle.kiss.proofs.Idling.{idle_found, idle_nothing}
+use Rattle.kiss.specs.Idle.{idle, cell_found}
+use Rattle.games.specs.declared.Cell.{Cell}
+use Rattle.kiss.proofs.Idling.{cell_some, cell_none}
 use Rattle.kiss_writer.specs.Write.{by_room, written_to}
 use Rattle.kiss_writer.specs.Write.{Answer}
 use Rattle.games.specs.declared.Refusal.{Refusal}
 use Rattle.games.specs.declared.Reason.TheVariants as reason
-use Rattle.std.specs.Prelude.{Ok, Err}
+use Rattle.std.specs.Prelude.{Ok, Err, Some, None}
 
 -- the room is short, or the text is written
 module _ (w d : List ℕ) (need : ℕ) (is : need ≡ length (kiss_text w)) where
@@ -44,13 +45,13 @@ module _ (w d : List ℕ) where
   unfolding written_to
   write_stopped e h = sym (rw h)
 
-  module _ (fine : checked w ≡ Ok tt) (i : ℕ) (is : i ≡ or_else (idle w) (card_cells w)) where
+  module _ (fine : checked w ≡ Ok tt) where
     fine_is : written_to w d ≡ at_found (idle w) (λ c. leaves (refused reason.IdleCell c) d) (by_room w d)
     unfolding written_to
     fine_is = rw fine
 
-    pub write_idle : i < card_cells w → leaves (refused reason.IdleCell i) d ≡ written_to w d
-    write_idle l = sym (fine_is ∙ rw (idle_found w i (card_cells w) is refl l))
+    pub write_idle : (c : Cell) → Some c ≡ cell_found (idle w) → leaves (refused reason.IdleCell c.0) d ≡ written_to w d
+    write_idle c e = sym (fine_is ∙ rw (cell_some (idle w) c e) refl)
 
-    pub write_whole : card_cells w ≤ i → (r : Answer) (e : List ℕ) → leaves r e ≡ by_room w d → leaves r e ≡ written_to w d
-    write_whole l r e h = h ∙ sym (fine_is ∙ rw (idle_nothing w i (card_cells w) is refl l))
+    pub write_whole : None ≡ cell_found (idle w) → (r : Answer) (e : List ℕ) → leaves r e ≡ by_room w d → leaves r e ≡ written_to w d
+    write_whole n r e h = h ∙ sym (fine_is ∙ rw (cell_none (idle w) n) refl)

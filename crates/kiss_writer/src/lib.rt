@@ -273,9 +273,8 @@ pub fn write(card: &[u32], out: &mut [u8]) -> Result<usize, Refusal>
     ensures promised { Writes card.now result out.new }
 {
     let card = Card::of(card)?;
-    let idle = kiss::lowest_idle(card.words);
-    if idle < card.cells() {
-        return Err(Reason::IdleCell.at(idle as usize));
+    if let Some(idle) = kiss::idle_cell(card) {
+        return Err(Reason::IdleCell.at(idle.0 as usize));
     }
     write_text(card, out)
 }

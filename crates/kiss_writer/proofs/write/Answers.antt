@@ -1,6 +1,5 @@
 -- `kiss_writer::write` meets its contract: a refusal of the card, 20, or what `write_text` ensures.
-use mathlib.Core.Path.{ap, subst}
-use Prim.Native.Nat.{ℕ, ◌≤◌, ◌<◌}
+use mathlib.Core.Path.{sym, ◌∙◌}
 use Rattle.std.proofs.lemmas.Result.{err_from_is_err_and}
 use Rattle.kiss_writer.proofs.Answers.{write_stopped, write_idle, write_whole}
 use Rattle.kiss_writer.proofs.Promises.{whole}
@@ -12,14 +11,14 @@ returns-in_err-card c =
     let w = whole _ _ _ _ (write_stopped c.args.card.now c.args.out.now _ c.in_err-card.ensures.refused) in
     rw (p.1, p.2) (record { determined = w.0; promised = w.1 })
 
-pub returns-then-idle-cells : goal.returns-then-idle-cells
-returns-then-idle-cells c =
+pub returns-in-Some : goal.returns-in-Some
+returns-in-Some c =
     let card = c.in_ok-card.card in
-    let w = whole _ _ _ _ (write_idle card.words.now c.args.out.now card.checked _ c.lowest_idle-idle.ensures (subst (λ (m : ℕ). c.lowest_idle-idle.result < m) c.cells.ensures c.if-idle-cells.true)) in
+    let w = whole _ _ _ _ (write_idle card.words.now c.args.out.now card.checked _ (sym c.in-Some.is ∙ c.idle_cell.ensures)) in
     rw (c.at.ensures, ← c.in_ok-card.ensures.card) (record { determined = w.0; promised = w.1 })
 
 pub returns : goal.returns
 returns c =
     let card = c.in_ok-card.card in
-    let w = whole _ _ _ _ (write_whole card.words.now c.args.out.now card.checked _ c.lowest_idle-idle.ensures (subst (λ (m : ℕ). m ≤ c.lowest_idle-idle.result) c.cells.ensures c.if-idle-cells.false) _ _ c.write_text.ensures) in
+    let w = whole _ _ _ _ (write_whole card.words.now c.args.out.now card.checked (sym c.in_default.is ∙ c.idle_cell.ensures) _ _ c.write_text.ensures) in
     rw (← c.in_ok-card.ensures.card) (record { determined = w.0; promised = w.1 })
