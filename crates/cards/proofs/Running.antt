@@ -1,14 +1,13 @@
 -- Laws of the run: each move by its case, and what a card's automaton is.
 -- Assumes nothing.
-use Rattle.std.proofs.Common.{◌≡◌, ℕ, ◌+◌, ◌<◌, ◌≤◌, List, length, get_or, sym, refl, ap, ◌∙◌, subst, ⊎_elim, eq-eqb, ne_eqb, le-leb, arith}
+use Rattle.std.proofs.Common.{◌≡◌, ℕ, ◌<◌, ◌≤◌, List, get_or, sym, refl, ap, ◌∙◌, subst, ⊎_elim, eq-eqb, ne_eqb, le-leb, arith}
 use borrow.Author.Tests.{lt-leb}
 use Rattle.games.specs.Automaton.{Automaton, no_cell}
 use Rattle.games.specs.Fields.{low_field, action_field}
 use Rattle.games.specs.Answers.{refused}
 use Rattle.cards.specs.Card.{first_place, cell_place, next_place, card_cells, card_observations, automaton, checked, Named}
 use Rattle.cards.specs.Run.{as_cell, led, enters_if, entered, enters, begun, followed, opened, stepped}
-use Rattle.cards.proofs.Checked.{fitting, cell_in, next_in}
-use Rattle.games.specs.declared.Reason.{Reason}
+use Rattle.cards.proofs.Checked.{fitting}
 use Rattle.games.specs.declared.Reason.TheVariants as reason
 use Rattle.games.specs.declared.Cell.{Cell}
 use Rattle.std.specs.Option.{ForSome}
@@ -90,31 +89,11 @@ pub stepped_fine : (w : List ℕ) (c j : ℕ) → checked w ≡ Ok tt → steppe
 unfolding stepped
 stepped_fine w c j e = rw (stepped, e)
 
-pub opened_wrong : (w : List ℕ) (j : ℕ) (n : Reason) (p : ℕ) → checked w ≡ refused n p → opened w j ≡ refused n p
-unfolding opened
-opened_wrong w j n p e = rw (opened, e)
-
-pub stepped_wrong : (w : List ℕ) (c j : ℕ) (n : Reason) (p : ℕ) → checked w ≡ refused n p → stepped w c j ≡ refused n p
-unfolding stepped
-stepped_wrong w c j n p e = rw (stepped, e)
-
 -- what the functions over a checked card read; p is the place that the code has of a cell's own word
 module _ (w : List ℕ) (e : checked w ≡ Ok tt) where
-  pub own_in : (c p : ℕ) → c < card_cells w → p ≡ cell_place (card_observations w) c → p < length w
-  own_in c p l g = subst (λ (i : ℕ). i < length w) (sym g) (cell_in w e c l)
-
-  pub later_in : (c j p : ℕ) → c < card_cells w → j < card_observations w → p ≡ cell_place (card_observations w) c → p + 1 + j < length w
-  later_in c j p l k g = subst (λ (i : ℕ). i + 1 + j < length w) (sym g) (next_in w e c j l k)
-
   -- a cell that is named, and is not none, by the number of the head
   pub cell_below : (c : ℕ) → Named (automaton w) c → (c ≡ no_cell → ⊥) → c < card_cells w
   cell_below c h n = subst (λ (i : ℕ). c < i) (size_of w) (named_cell (automaton w) c h n)
-
-  pub begins_named_at : (j x : ℕ) → j < card_observations w → x ≡ (automaton w).begins j → Named (automaton w) x
-  begins_named_at j x l f = subst (Named (automaton w)) (sym f) ((fitting w e).begins_named j l)
-
-  pub next_named_at : (c j x : ℕ) → c < card_cells w → j < card_observations w → x ≡ (automaton w).next c j → Named (automaton w) x
-  next_named_at c j x l k f = subst (Named (automaton w)) (sym f) ((fitting w e).next_named c j (subst (λ (n : ℕ). c < n) (sym (size_of w)) l) k)
 
   -- the cell that a word of the card leads to is one of its cells
   led_below : (c : ℕ) (x : Option Cell) → Named (automaton w) c → x ≡ led c → ForSome x (λ d. d.0 < card_cells w)
@@ -136,24 +115,12 @@ module _ (w : List ℕ) where
   begun_led j x l f =
       ap (λ (y : Option Cell). enters_if (automaton w) y j) f ∙ enters_led (automaton w) _ j ∙ sym (begun_enters (automaton w) (card_observations w) j l)
 
-  pub enter_told : (c j x : ℕ) → (c ≡ no_cell → ⊥) → x ≡ (automaton w).action c → entered c x ≡ enters (automaton w) c j
-  enter_told c j x n h = ap (entered c) h ∙ sym (enters_cell (automaton w) 0 c j n)
-
-  pub begun_told : (j x : ℕ) → j < card_observations w → x ≡ (automaton w).begins j → enters (automaton w) x j ≡ begun (automaton w) (card_observations w) j
-  begun_told j x l f = ap (λ (c : ℕ). enters (automaton w) c j) f ∙ sym (begun_enters (automaton w) (card_observations w) j l)
-
   pub outside_told : (c j : ℕ) → card_cells w ≤ c → refused reason.NumberBeyond c ≡ followed (automaton w) (card_observations w) c j
   outside_told c j l = sym (followed_outside (automaton w) (card_observations w) c j (subst (λ (n : ℕ). n ≤ c) (sym (size_of w)) l))
 
   module _ (c j : ℕ) (l : c < card_cells w) where
     pub late_told : card_observations w ≤ j → refused reason.NumberBeyond j ≡ followed (automaton w) (card_observations w) c j
     late_told k = sym (followed_late (automaton w) (card_observations w) c j (subst (λ (n : ℕ). c < n) (sym (size_of w)) l) k)
-
-    pub followed_told : (x : ℕ) → j < card_observations w → x ≡ (automaton w).next c j
-        → enters (automaton w) x j ≡ followed (automaton w) (card_observations w) c j
-    followed_told x k f =
-        ap (λ (i : ℕ). enters (automaton w) i j) f
-        ∙ sym (followed_enters (automaton w) (card_observations w) c j (subst (λ (n : ℕ). c < n) (sym (size_of w)) l) k)
 
     pub followed_led : (x : Option Cell) → j < card_observations w → x ≡ led ((automaton w).next c j)
         → enters_if (automaton w) x j ≡ followed (automaton w) (card_observations w) c j
