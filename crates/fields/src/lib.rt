@@ -43,11 +43,9 @@ fn check_slots(f: Fields) -> Result<(), Refusal>
     if !tables::limits_hold(f.shape()) {
         return Err(Reason::BadHead.at(0));
     }
-    let shown = f.shown;
-    let moves = f.moves;
     let clean = (f.marked | (f.parked == 0))
-        & (unused_zero(&shown, f.observations as usize)
-            & unused_zero(&moves, (f.actions * f.states) as usize));
+        & (unused_zero(&f.shown, f.observations as usize)
+            & unused_zero(&f.moves, (f.actions * f.states) as usize));
     if !clean {
         return Err(Reason::SlotUsed.at(0));
     }
@@ -104,14 +102,8 @@ impl Bounded {
             Place::Start => f.start,
             Place::Bad => f.bad,
             Place::Parked => f.parked,
-            Place::Shown(seen) => {
-                let shown = f.shown;
-                shown[seen.0 as usize]
-            }
-            Place::Move(a, i) => {
-                let moves = f.moves;
-                moves[(a.0 * f.states + i.0) as usize]
-            }
+            Place::Shown(seen) => f.shown[seen.0 as usize],
+            Place::Move(a, i) => f.moves[(a.0 * f.states + i.0) as usize],
         }
     }
 
@@ -139,7 +131,7 @@ impl Narrow {
         let bounded = Bounded::of(f)?;
         bounded.check_masks()?;
         let narrow = Narrow { bounded };
-        tables::check_sets(f)?;
+        f.check_sets()?;
         narrow.check_departures()?;
         Ok(narrow)
     }
@@ -149,9 +141,8 @@ impl Narrow {
         ensures { result ≡ parked_checked (game_of self.bounded.fields) }
     {
         let f = self.bounded.fields;
-        let masks = f.moves;
         let moves = MoveWords {
-            words: &masks,
+            words: &f.moves,
             base: 0,
             sizes: self.bounded.sizes(),
             parked: f.parked,

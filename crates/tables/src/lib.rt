@@ -81,14 +81,6 @@ pub fn observations(table: &[u32]) -> u32
     Table { words: table }.observations()
 }
 
-// Where a set stands in the table.
-pub fn place_in(table: &[u32], x: Place) -> usize
-    requires { Sized table.now }
-    ensures { result ≡ place_of (shape_in table.now) x }
-{
-    Table { words: table }.place_in(x)
-}
-
 pub fn bad(table: &[u32]) -> u32
     requires { Sized table.now }
     ensures { result ≡ (game table.now).bad }
@@ -224,7 +216,7 @@ pub fn check(table: &[u32]) -> Result<(), Refusal>
 {
     let table = Table::of(table)?;
     check_words(table)?;
-    check_sets(table.fields())?;
+    table.fields().check_sets()?;
     check_departures(table)
 }
 
@@ -256,44 +248,35 @@ impl Fields {
             marked: self.marked,
         }
     }
-}
 
-// The fields of a table that was accepted.
-pub fn fields_of(table: &[u32]) -> Fields
-    requires { Sized table.now }
-    ensures { result ≡ fields_of table.now }
-{
-    Table { words: table }.fields()
-}
-
-// State i shows no observation.
-fn is_unseen(f: Fields, i: State) -> bool
-    requires { (f.observations ≤ max_observations) × (i.0 < 32) }
-    ensures { result ≡ unseen (game_of f) i.0 }
-{
-    let shown = f.shown;
-    for j in 0..f.observations as usize {
-        if sets::member(shown[j], i.0) {
-            return false;
+    // State i shows no observation.
+    fn is_unseen(self, i: State) -> bool
+        requires { (self.observations ≤ max_observations) × (i.0 < 32) }
+        ensures { result ≡ unseen (game_of self) i.0 }
+    {
+        for j in 0..self.observations as usize {
+            if sets::member(self.shown[j], i.0) {
+                return false;
+            }
         }
+        true
     }
-    true
-}
 
-// Refusals 6 and 7.
-pub fn check_sets(f: Fields) -> Result<(), Refusal>
-    requires { Limited (fields_shape f) }
-    ensures { result ≡ sets_checked (game_of f) }
-{
-    if f.start == 0 {
-        return Err(Reason::NoStart.at(games::place_of(f.shape(), Place::Start)));
-    }
-    for i in 0..f.states {
-        if is_unseen(f, State(i)) {
-            return Err(Reason::Unseen.at(i as usize));
+    // Refusals 6 and 7.
+    pub fn check_sets(self) -> Result<(), Refusal>
+        requires { Limited (fields_shape self) }
+        ensures { result ≡ sets_checked (game_of self) }
+    {
+        if self.start == 0 {
+            return Err(Reason::NoStart.at(games::place_of(self.shape(), Place::Start)));
         }
+        for i in 0..self.states {
+            if self.is_unseen(State(i)) {
+                return Err(Reason::Unseen.at(i as usize));
+            }
+        }
+        Ok(())
     }
-    Ok(())
 }
 
 // The moves of a table, as they stand in its words from a place on, and its parked states. The words may be masks without a kind.

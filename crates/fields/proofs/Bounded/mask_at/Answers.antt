@@ -11,8 +11,8 @@ place_at-requires c =
     let short = length_short (fields_shape c.args.self.fields) c.args.self.limited in
     rw c.shape.ensures (omega (arith, short, c))
 
-pub bounds-shown-seen : goal.bounds-shown-seen
-bounds-shown-seen c = shown_slot c.args.self.fields c.args.self.limited _ c.requires.0 c.requires.1 _ c.shape.ensures _ (sym c.place_at.ensures ∙ c.in-Shown.is)
+pub bounds-f-seen : goal.bounds-f-seen
+bounds-f-seen c = shown_slot c.args.self.fields c.args.self.limited _ c.requires.0 c.requires.1 _ c.shape.ensures _ (sym c.place_at.ensures ∙ c.in-Shown.is)
 
 pub overflow_mul-result : goal.overflow_mul-result
 overflow_mul-result c =
@@ -22,5 +22,5 @@ pub overflow_add-result : goal.overflow_add-result
 overflow_add-result c =
     omega (arith, move_slot c.args.self.fields c.args.self.limited _ c.requires.0 c.requires.1 _ c.shape.ensures _ _ (sym c.place_at.ensures ∙ c.in-Move.is))
 
-pub bounds-moves-a : goal.bounds-moves-a
-bounds-moves-a c = move_slot c.args.self.fields c.args.self.limited _ c.requires.0 c.requires.1 _ c.shape.ensures _ _ (sym c.place_at.ensures ∙ c.in-Move.is)
+pub bounds-f-a : goal.bounds-f-a
+bounds-f-a c = move_slot c.args.self.fields c.args.self.limited _ c.requires.0 c.requires.1 _ c.shape.ensures _ _ (sym c.place_at.ensures ∙ c.in-Move.is)
