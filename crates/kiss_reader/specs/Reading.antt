@@ -75,7 +75,7 @@ entry a B next =
     word (bytes " ") (number 2 (bits a) (least_output B n) (most_output B a n) (λ u.
     word newline (next n u)))))
 
--- the numbers of a slot, an entry and a line lie in the machine
+-- the numbers of a line lie in the machine
 pub record SlotIn (z : Sizes) (x : Slot) : Type 0 where
   pub state : x.state ≤ z.cells
   pub observation : x.observation < z.observations
@@ -87,12 +87,6 @@ pub record EntryIn (z : Sizes) (x : Entry) : Type 0 where
 pub record Bounded (z : Sizes) (x : Line) : Type 0 where
   pub slot : SlotIn z x.slot
   pub entry : EntryIn z x.entry
-
--- from the lowest free slot on
-pub record SlotRead (c r : Reader) (z : Sizes) (free : Slot) (e : Result Slot ℕ) : Type 0 where
-  pub bounded : IfOk e (SlotIn z)
-  pub goes : (next : ℕ → ℕ → Form)
-      → runs (slot z.observations z.cells free.state free.observation next) c ≡ behind e (λ x. runs (next x.state x.observation) r)
 
 -- the words are those of the card of a machine of these sizes
 pub record Says (z : Sizes) (B : Automaton) (w : List ℕ) : Type 0 where
@@ -108,11 +102,7 @@ pub record Held (z : Sizes) (w : List ℕ) : Type 0 where
 abbrev pub outputs_by : (a own : ℕ) → Range
 outputs_by a x = cond (eqb (low_field x) 0) (record { least = action_field x; most = action_field x }) (record { least = 0; most = a - 1 })
 
-pub record EntryRead (c r : Reader) (z : Sizes) (w : List ℕ) (e : Result Entry ℕ) : Type 0 where
-  pub bounded : IfOk e (EntryIn z)
-  pub goes : (B : Automaton) → Says z B w → (next : ℕ → ℕ → Form)
-      → runs (entry z.actions B next) c ≡ behind e (λ x. runs (next x.cell x.output) r)
-
+-- a line is read, from the lowest free slot on
 pub record LineRead (c r : Reader) (z : Sizes) (free : Slot) (w : List ℕ) (e : Result Line ℕ) : Type 0 where
   pub bounded : IfOk e (Bounded z)
   pub goes : (B : Automaton) → Says z B w → (next : ℕ → ℕ → ℕ → ℕ → Form)
