@@ -65,7 +65,8 @@ pub fn mark_masks(masks: &mut [u64])
     }
 }
 
-// The settled cells with what helps to search them.
+// The settled cells with what helps to search them. The work words with the notes stay apart: with a `&mut` to them inside this would be
+// no Copy type, and each caller's loop would have to say that all else in it stays.
 #[derive(Clone, Copy)]
 pub struct Cells<'a> {
     // the sets that a cell's set holds

@@ -164,6 +164,7 @@ fn settle(moves: Moves, family: &mut [u64], next: &mut [u64]) -> Ended
     requires { Reached (game moves.accepted.table.words.now) 1 family.old × (length next.old ≡ length family.old) }
     ensures { Searched (game moves.entry.accepted.table.words.now) result family.new }
 {
+    // (No range: how many rounds there are is what is sought.)
     let mut k: u32 = 1;
     loop {
         pass(moves, family, next);
