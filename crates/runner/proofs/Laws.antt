@@ -13,7 +13,7 @@ use borrow.Author.Tests.{lt-ltb, le-ltb}
 use Rattle.games.specs.Answers.{Leaves, leaves}
 use Rattle.games.specs.declared.Cell.{Cell}
 use Rattle.games.specs.declared.Action.{Action}
-use Rattle.sets.proofs.Fills.{filled_none, filled_more, length_filled}
+use Rattle.sets.proofs.Fills.{filled_none, filled_more}
 use Rattle.cards.specs.Run.{Move}
 use Rattle.games.specs.Answers.{refused}
 use Rattle.cards.specs.Card.{automaton, card_observations, checked}
@@ -105,11 +105,6 @@ module _ (w h : List ℕ) where
       pub no_stop : ran_up_to w h (length h) ≡ Ok (length h) → ⊥
       no_stop f = let z : ◌≡◌ {A = ℕ} 0 1 = cc (stays (length h) l) in omega arith
 
-  pub run_ends : (i : ℕ) (c : Option Cell) → At i c → length h ≤ i → Ok i ≡ ran_up_to w h (length h)
-  run_ends i c at l =
-      let e : i ≡ length h = omega (arith, at.within) in
-      sym (subst (λ (n : ℕ). ran_up_to w h n ≡ Ok i) e at.taken)
-
   -- as many are taken as there are
   pub done_all : (k j : ℕ) → ran_up_to w h k ≡ Ok j → j ≡ k
   unfolding ran_up_to
@@ -128,19 +123,11 @@ module _ (w h : List ℕ) where
   wrote_none d = record { at = at_none; front = filled_none action_at d }
 
   module _ (d₀ d : List ℕ) (i : ℕ) (c : Option Cell) (s : Wrote d₀ d i c) (room : length h ≤ length d₀) where
-    pub same_length : length d ≡ length d₀
-    same_length = ap length s.front ∙ length_filled action_at i d₀ (omega (arith, s.at.within))
-
     pub wrote_more : (r : Cell) (a : Action) → i < length h → move_from w c (get_or h i 0) ≡ Ok (record { cell = r; action = a }) → Wrote d₀ (set d i a.0) (i + 1) (Some r)
     wrote_more r a l e = record {
       at = at_more i c s.at l r a e;
       front = ap₂ (λ (x : List ℕ) (v : ℕ). set x i v) s.front (action_is i c s.at l r a e) ∙ filled_more action_at i d₀ (omega arith);
     }
-
-    pub wrote_all : length h ≤ i → d ≡ with_actions w h (length h) d₀
-    wrote_all l =
-        let e : i ≡ length h = omega (arith, s.at.within) in
-        subst (λ (n : ℕ). d ≡ with_actions w h n d₀) e s.front
 
   -- ---- the outcome
 

@@ -10,6 +10,7 @@ ghost use Rattle.runner.specs.Runs.{standing, move_from, ran_up_to, with_actions
 use cards::{Card, Move, Stood};
 use games::{Cell, Observation, Reason, Refusal};
 
+// Its cell is a number, 65,535 for none: the C interface gives it, and a step from it is refused by it.
 #[derive(Clone, Copy)]
 pub struct Runner<'c> {
     pub card: &'c [u32],
