@@ -8,9 +8,9 @@ use native.Mathlib.Omega.{arith, not-le}
 use lib.Dec.{ltb}
 use lib.ListN.{length}
 use borrow.Author.Tests.{lt-ltb, ltb-true, le-ltb, not-true, not-false}
-use Rattle.sets.specs.Bounded.{Found, found, nothing, first, or_else, any}
+use Rattle.sets.specs.Bounded.{Found, found, nothing, first, any}
 use Rattle.sets.proofs.Logic.{true_not, false_not, and_left, and_right, and_intro}
-use Rattle.sets.proofs.Bounded.{first_ext, first_is, first_found, any_intro, any_found, any_refuted, first_stop}
+use Rattle.sets.proofs.Bounded.{first_ext, first_is, any_intro, any_found, any_refuted, first_stop}
 use Rattle.games.specs.Format.{max_cells}
 use Rattle.games.specs.Automaton.{Automaton, no_cell}
 use Rattle.cards.specs.Card.{automaton, card_cells, card_observations, checked}
@@ -80,26 +80,7 @@ module _ (w : List ℕ) (e : checked w ≡ Ok tt) where
       first_ext (length marks) (λ c. not (marked marks c)) (λ c. not (led A o c)) (λ c l. ap not (m.just c (omega (arith, m.size)) ∙ sym (led_reached A o s c))) in
       h ∙ rw (same, long)
 
--- ---- which it is: the number that is told is below the number of cells, or it is that number
-
-told_found : (f : Found) (m i : ℕ) → i ≡ or_else f m → i < m → f ≡ found i
-told_found nothing m i h l = absurd (omega arith)
-told_found (found k) m i h l = ap found (sym h)
-
-told_nothing : (f : Found) (m i : ℕ) → ((k : ℕ) → f ≡ found k → k < m) → i ≡ or_else f m → m ≤ i → f ≡ nothing
-told_nothing nothing m i b h l = refl
-told_nothing (found k) m i b h l = absurd (omega (arith, b k refl))
-
-module _ (w : List ℕ) (i m : ℕ) (is : i ≡ or_else (idle w) (card_cells w)) (cells : m ≡ card_cells w) where
-  pub idle_found : i < m → idle w ≡ found i
-  idle_found l = told_found (idle w) (card_cells w) i is (omega arith)
-
-  pub idle_nothing : m ≤ i → idle w ≡ nothing
-  unfolding idle
-  idle_nothing l =
-      told_nothing (idle w) (card_cells w) i (λ k h. (first_found (card_cells w) (λ c. not (led (automaton w) (card_observations w) c)) k h).0) is (omega arith)
-
--- ---- the same of the cell that is told, if one is
+-- ---- which it is, by the cell that is told, if one is
 
 -- what was found, by the cell
 abbrev found_of : Option Cell → Found

@@ -3,9 +3,9 @@
 #![tactic(auto)]
 
 ghost use Rattle.std.specs.Prelude.{◌≡◌, false, not, ◌≤◌, length};
-ghost use Rattle.sets.specs.Bounded.{first, or_else};
+ghost use Rattle.sets.specs.Bounded.{first};
 ghost use Rattle.games.specs.Format.{max_actions, max_cells};
-ghost use Rattle.cards.specs.Card.{automaton, card_cells, card_observations, checked};
+ghost use Rattle.cards.specs.Card.{automaton, card_cells, card_observations};
 ghost use Rattle.trimming.specs.Trim.{no_first};
 ghost use Rattle.trimmer.specs.Halves.{marked};
 ghost use Rattle.kiss.specs.Text.{bits as fewest_bits};
@@ -76,21 +76,9 @@ fn idle_by(card: Card, marks: &mut [u32]) -> Option<Cell>
 }
 
 // The lowest cell that no sequence of observations leads to, if there is one. The marks are on the stack.
-pub fn idle_cell(card: Card) -> Option<Cell>
+pub fn lowest_idle(card: Card) -> Option<Cell>
     ensures { result ≡ cell_found (idle card.entry.words.now) }
 {
     let mut marks = [0u32; games::MAX_CELLS as usize];
     idle_by(card, &mut marks)
-}
-
-// The same, with the number of cells where there is none.
-pub fn lowest_idle(card: &[u32]) -> u32
-    requires { checked card.now ≡ Ok tt }
-    ensures { result ≡ or_else (idle card.now) (card_cells card.now) }
-{
-    let card = Card { words: card };
-    match idle_cell(card) {
-        Some(cell) => cell.0,
-        None => card.cells(),
-    }
 }

@@ -6,7 +6,7 @@ ghost use Rattle.std.specs.Prelude.{◌≡◌, ◌+◌, ◌*◌, ◌<◌, ◌≤
 ghost use Rattle.games.specs.Answers.{leaves};
 ghost use Rattle.games.specs.Format.{max_actions, max_observations, max_cells, number_values, kind_values};
 ghost use Rattle.games.specs.Words.{card_length, card_words};
-ghost use Rattle.cards.specs.Card.{cell_place, checked};
+ghost use Rattle.cards.specs.Card.{cell_place};
 ghost use Rattle.form.specs.Form.{byte_at};
 ghost use Rattle.kiss.specs.Profile.{blank, state_from, least_input, least_state};
 ghost use Rattle.kiss_reader.specs.Reading.{widths, states, Passed, Told, CountsRead, HeadRead, Held, outputs_by, LineRead, Bounded, comes, EndRead, LinesRead, CardRead};
@@ -15,6 +15,7 @@ ghost use Rattle.kiss_reader.specs.Read.{of_card, read_into, Reads};
 
 mod sizes;
 
+use cards::Card;
 use form::{Numeral, Range, Reader};
 use games::{Action, Cell, Observation, Reason, Refusal};
 pub use sizes::Sizes;
@@ -391,21 +392,21 @@ fn read_card(text: &[u8], words: &mut [u32]) -> Result<usize, usize>
 // ---- the answer
 
 // 20 for a cell that nothing leads to, then 9, then the card.
-fn tell(card: &[u32], out: &mut [u32]) -> Result<Extent, Refusal>
-    requires { checked card.now ≡ Ok tt }
-    ensures { leaves result out.new ≡ of_card card.now out.old }
+fn tell(card: Card, out: &mut [u32]) -> Result<Extent, Refusal>
+    ensures { leaves result out.new ≡ of_card card.entry.words.now out.old }
 {
-    let cells = cards::cells(card);
-    let idle = kiss::lowest_idle(card);
-    if idle < cells {
-        return Err(Reason::IdleCell.at(idle as usize));
+    if let Some(cell) = kiss::lowest_idle(card) {
+        return Err(Reason::IdleCell.at(cell.0 as usize));
     }
-    let need = card.len();
+    let need = card.words.len();
     if out.len() < need {
         return Err(Reason::ShortRoom.at(need));
     }
-    trimmer::copy_card(card, out);
-    Ok(Extent { words: need, cells })
+    trimmer::copy_card(card.words, out);
+    Ok(Extent {
+        words: need,
+        cells: card.cells(),
+    })
 }
 
 // Reading KISS2 text: the card that it says.
@@ -415,7 +416,10 @@ pub fn read(text: &[u8], out: &mut [u32]) -> Result<Extent, Refusal>
 {
     let mut words = [0u32; MOST_WORDS];
     match read_card(text, &mut words) {
-        Ok(need) => tell(&words[..need], out),
+        Ok(need) => {
+            let words = &words[..need];
+            tell(Card { words }, out)
+        }
         Err(at) => Err(Reason::Departs.at(at)),
     }
 }

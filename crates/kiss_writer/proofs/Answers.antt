@@ -14,13 +14,13 @@ use Rattle.text.specs.declared.Writer.{Writer}
 use Rattle.text.proofs.Writing.{wrote_front}
 use Rattle.kiss.specs.Text.{kiss_text}
 use Rattle.kiss.specs.Idle.{idle, cell_found}
-use Rattle.games.specs.declared.Cell.{Cell}
 use Rattle.kiss.proofs.Idling.{cell_some, cell_none}
 use Rattle.kiss_writer.specs.Write.{by_room, written_to}
 use Rattle.kiss_writer.specs.Write.{Answer}
+use Rattle.games.specs.declared.Cell.{Cell}
 use Rattle.games.specs.declared.Refusal.{Refusal}
 use Rattle.games.specs.declared.Reason.TheVariants as reason
-use Rattle.std.specs.Prelude.{Ok, Err, Some, None}
+use Rattle.std.specs.Prelude.{Ok, Err, None, Some}
 
 -- the room is short, or the text is written
 module _ (w d : List ℕ) (need : ℕ) (is : need ≡ length (kiss_text w)) where
@@ -51,7 +51,7 @@ module _ (w d : List ℕ) where
     fine_is = rw fine
 
     pub write_idle : (c : Cell) → Some c ≡ cell_found (idle w) → leaves (refused reason.IdleCell c.0) d ≡ written_to w d
-    write_idle c e = sym (fine_is ∙ rw (cell_some (idle w) c e) refl)
+    write_idle c h = sym (fine_is ∙ rw (cell_some (idle w) c h))
 
     pub write_whole : None ≡ cell_found (idle w) → (r : Answer) (e : List ℕ) → leaves r e ≡ by_room w d → leaves r e ≡ written_to w d
-    write_whole n r e h = h ∙ sym (fine_is ∙ rw (cell_none (idle w) n) refl)
+    write_whole n r e h = h ∙ sym (fine_is ∙ rw (cell_none (idle w) n))

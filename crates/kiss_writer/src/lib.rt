@@ -273,8 +273,8 @@ pub fn write(card: &[u32], out: &mut [u8]) -> Result<usize, Refusal>
     ensures promised { Writes card.now result out.new }
 {
     let card = Card::of(card)?;
-    if let Some(idle) = kiss::idle_cell(card) {
-        return Err(Reason::IdleCell.at(idle.0 as usize));
+    if let Some(cell) = kiss::lowest_idle(card) {
+        return Err(Reason::IdleCell.at(cell.0 as usize));
     }
     write_text(card, out)
 }

@@ -1,5 +1,4 @@
 use mathlib.Core.Bool.{not}
-use native.Mathlib.Omega.{arith}
 use Rattle.sets.proofs.Bounded.{first_zero, first_skip}
 use Rattle.trimmer.specs.Halves.{marked}
 use Rattle.kiss.proofs.Idling.{free_at, taken_at, lowest_stop, lowest_end}

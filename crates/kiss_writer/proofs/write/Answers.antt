@@ -14,11 +14,11 @@ returns-in_err-card c =
 pub returns-in-Some : goal.returns-in-Some
 returns-in-Some c =
     let card = c.in_ok-card.card in
-    let w = whole _ _ _ _ (write_idle card.words.now c.args.out.now card.checked _ (sym c.in-Some.is ∙ c.idle_cell.ensures)) in
+    let w = whole _ _ _ _ (write_idle card.words.now c.args.out.now card.checked c.in-Some.cell (sym c.in-Some.is ∙ c.lowest_idle.ensures)) in
     rw (c.at.ensures, ← c.in_ok-card.ensures.card) (record { determined = w.0; promised = w.1 })
 
 pub returns : goal.returns
 returns c =
     let card = c.in_ok-card.card in
-    let w = whole _ _ _ _ (write_whole card.words.now c.args.out.now card.checked (sym c.in_default.is ∙ c.idle_cell.ensures) _ _ c.write_text.ensures) in
+    let w = whole _ _ _ _ (write_whole card.words.now c.args.out.now card.checked (sym c.in_default.is ∙ c.lowest_idle.ensures) _ _ c.write_text.ensures) in
     rw (← c.in_ok-card.ensures.card) (record { determined = w.0; promised = w.1 })

@@ -5,11 +5,8 @@ use native.Mathlib.Omega.{arith}
 use lib.ListN.{length}
 use Rattle.trimmer.specs.Marking.{Added, named_from, NamesInside}
 use Rattle.trimmer.proofs.Naming.{name_here}
-use Rattle.trimmer.proofs.Marking.{added_none, added_more}
+use Rattle.trimmer.proofs.Marking.{added_more}
 use Rattle.trimmer.proofs.mark_named.Goals as goal
-
-pub loop-name-init : goal.loop-name-init
-loop-name-init c = added_none _ _ _ _ c.requires.1
 
 pub mark-listed-requires : goal.mark-listed-requires
 mark-listed-requires c =

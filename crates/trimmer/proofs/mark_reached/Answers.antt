@@ -9,17 +9,11 @@ use Rattle.cards.proofs.Checked.{fitting}
 use Rattle.cards.proofs.Running.{size_of}
 use Rattle.sets.proofs.Bounded.{count_le}
 use Rattle.trimmer.specs.Halves.{marked}
-use Rattle.trimmer.specs.Marking.{Added, named_from, Naming, Own, Listing}
+use Rattle.trimmer.specs.Marking.{Added, named_from, Own, Listing}
 use Rattle.trimmer.proofs.Marking.{added_ext, next_inside, next_marked, rest_listing, taking_more, taking_end}
 use Rattle.trimmer.proofs.Naming.{row_added, next_name, nexts_naming, nexts_row}
 use Rattle.trimmer.proofs.mark_reached.Goals as goal
 use Rattle.std.specs.Prelude.{Ok}
-
-pub mark_firsts-waiting-requires : goal.mark_firsts-waiting-requires
-mark_firsts-waiting-requires c = c.requires
-
-pub loop-waiting-init : goal.loop-waiting-init
-loop-waiting-init c = c.mark_firsts-waiting.ensures
 
 pub cell_place-at-requires : goal.cell_place-at-requires
 cell_place-at-requires c =
@@ -33,21 +27,6 @@ behind_next-others-requires c =
     let few : c.loop-waiting.taken + c.loop-waiting.waiting.cells ≤ played.size = omega (arith, c.loop-waiting.invariant.many, count_le played.size (marked c.loop-waiting.work)) in
     let some : 0 < c.loop-waiting.waiting.cells = c.loop-waiting-test.true in
     (some, omega (arith, few, c.loop-waiting.invariant.size))
-
-pub overflow_add-at : goal.overflow_add-at
-overflow_add-at c =
-    let words : List ℕ = c.args.card.words.now in
-    let played : Automaton = automaton words in
-    let o : ℕ = c.observations-o.result in
-    let fine : checked words ≡ Ok tt = c.args.card.checked in
-    let seen : o ≡ card_observations words = c.observations-o.ensures in
-    let many : length c.loop-waiting.work ≡ card_cells words = c.loop-waiting.invariant.size ∙ size_of words in
-    let some : 0 < c.loop-waiting.waiting.cells = c.loop-waiting-test.true in
-    let cell : ℕ = c.loop-waiting.waiting.next.0 in
-    let inside : cell < played.size = next_inside played (card_observations words) c.loop-waiting.taken c.loop-waiting.work _ cell c.loop-waiting.invariant some in
-    let below : cell < card_cells words = omega (arith, inside, size_of words) in
-    let naming : Naming words (c.cell_place-at.result + 1) o (length c.loop-waiting.work) = nexts_naming words fine _ _ seen many cell _ below (c.cell_place-at.ensures ∙ ap (λ (n : ℕ). cell_place n cell) (sym seen)) in
-    omega (arith, naming.within)
 
 pub slice_bounds-mark_named-end : goal.slice_bounds-mark_named-end
 slice_bounds-mark_named-end c =
@@ -122,12 +101,6 @@ loop-waiting-preserved c =
     (added_ext name (A.next cell) (card_observations w) c.loop-waiting.work c.behind_next-others.result.cells c.behind_next-others.result.next.0 c.mark_named-waiting.new.work c.mark_named-waiting.result.cells c.mark_named-waiting.result.next.0
     (λ j l. next_name w fine _ _ seen many cell _ below (c.cell_place-at.ensures ∙ ap (λ (n : ℕ). cell_place n cell) (sym seen)) j)
     (subst (λ (n : ℕ). Added name n c.loop-waiting.work c.behind_next-others.result.cells c.behind_next-others.result.next.0 c.mark_named-waiting.new.work c.mark_named-waiting.result.cells c.mark_named-waiting.result.next.0) seen added))
-
-pub shape_of-work : goal.shape_of-work
-shape_of-work c =
-    let words : List ℕ = c.args.card.words.now in
-    let many : length c.loop-waiting.work ≡ card_cells words = c.loop-waiting.invariant.size ∙ size_of words in
-    many ∙ sym c.requires
 
 pub returns : goal.returns
 returns c =

@@ -45,8 +45,5 @@ loop-c-preserved c =
           (counting_skip entry c.loop-c.c c.loop-c.kept c.loop-c.work c.loop-c.invariant (no_marked w.if-lower-gt0.false))
     ]
 
-pub shape_of-work : goal.shape_of-work
-shape_of-work c = c.loop-c.invariant.same
-
 pub returns : goal.returns
 returns c = counting_end c.args.work.now c.loop-c.c c.loop-c.kept c.loop-c.work c.loop-c.invariant c.loop-c.auto.c-end c.loop-c-test.false

@@ -1,10 +1,9 @@
 -- `trimmer::trim` meets its contract: a refusal of the card, 8, or what `trim_into` ensures; the promise follows from the outcome.
-use mathlib.Core.Path.{◌≡◌, ap, ◌∙◌}
+use mathlib.Core.Path.{◌≡◌, ap}
 use mathlib.Core.List.{List, ◌++◌}
 use Prim.Native.Nat.{ℕ}
 use borrow.Author.Rules.{rules}
 use lib.ListN.{drop, replicate}
-use lib.Seq.{length-take-le}
 use Rattle.sets.proofs.Fills.{cleared}
 use Rattle.trimmer.proofs.Answers.{trim_stopped, trim_short, trim_done, refused_trims, room_trims}
 use Rattle.std.proofs.lemmas.Result.{err_from_is_err_and}
@@ -26,9 +25,6 @@ returns-then-work-need c =
       determined = trim_short c.args.card.now c.args.work.now c.args.out.now fine _ need c.if-work-need.true;
       promised = refused_trims c.args.card.now _ _ _;
     })
-
-pub trim_into-answer-requires : goal.trim_into-answer-requires
-trim_into-answer-requires c = length-take-le _ _ c.if-work-need.false ∙ c.cells-need.ensures
 
 pub returns : goal.returns
 returns c =

@@ -1,18 +1,17 @@
 use mathlib.Core.Path.{◌≡◌, refl, sym, ap, ◌∙◌, subst}
 use mathlib.Core.List.{List, ◌++◌}
-use Prim.Native.Nat.{ℕ, ◌+◌, ◌-◌, ◌≤◌, ◌<◌, ◌^◌}
+use Prim.Native.Nat.{ℕ, ◌+◌, ◌-◌, ◌≤◌, ◌<◌}
 use native.Mathlib.Omega.{arith}
 use lib.ListN.{length, drop}
 use lib.Seq.{length-take-le}
 use Rattle.games.specs.Automaton.{Automaton}
 use Rattle.games.specs.Format.{max_cells}
 use Rattle.games.specs.Words.{front_length, part_length, card_length, cell_words}
-use Rattle.games.proofs.Limits.{parts_below}
 use Rattle.cards.specs.Card.{card_cells, card_actions, card_observations, cell_place, automaton, checked, Fitting}
 use Rattle.cards.proofs.Checked.{fitting, cell_in}
 use Rattle.cards.proofs.Running.{size_of}
 use Rattle.cards.proofs.Written.{cell_length}
-use Rattle.cards.proofs.Parts.{carded_none, carded_room, carded_part, carded_more, front_within, fronted_same, fronted_room, carded_whole}
+use Rattle.cards.proofs.Parts.{carded_none, carded_part, carded_more, front_within, fronted_room, carded_whole}
 use Rattle.trimming.specs.Trim.{trim, trimmed}
 use Rattle.trimming.proofs.Numbers.{kept_few}
 use Rattle.trimmer.proofs.Naming.{row_long, firsts_naming, firsts_row, nexts_naming, nexts_row}
@@ -130,19 +129,6 @@ cell_place-from-requires c =
     let inside : c.upper.result < card_cells words = kept_inside words fine c.args.work.now c.requires.0 o many o_is c.requires.1 c.loop-i.i c.upper.result c.loop-i-test.true c.upper.ensures in
     inside
 
-pub offset_bounds-words-from : goal.offset_bounds-words-from
-offset_bounds-words-from c =
-    let words : List ℕ = c.args.card.words.now in
-    let seen : ℕ = card_observations words in
-    let many : ℕ = c.args.kept in
-    let o : ℕ = c.observations-o.result in
-    let fine : checked words ≡ Ok tt = c.args.card.checked in
-    let o_is : o ≡ seen = c.observations-o.ensures in
-    let inside : c.upper.result < card_cells words = kept_inside words fine c.args.work.now c.requires.0 o many o_is c.requires.1 c.loop-i.i c.upper.result c.loop-i-test.true c.upper.ensures in
-    let from_is : c.cell_place-from.result ≡ cell_place seen c.upper.result = c.cell_place-from.ensures in
-    let from_in : c.cell_place-from.result < length words = subst (λ (p : ℕ). p < length words) (sym from_is) (cell_in words fine c.upper.result inside) in
-    omega (arith, from_in)
-
 pub bounds-words-from : goal.bounds-words-from
 bounds-words-from c =
     let words : List ℕ = c.args.card.words.now in
@@ -182,59 +168,6 @@ slice_bounds-names-end c =
     let place : c.cell_place-from.result ≡ cell_place o c.upper.result = from_is ∙ ap (λ (n : ℕ). cell_place n c.upper.result) (sym o_is) in
     let bound : c.cell_place-from.result + c.part_length-part.result ≤ length words = omega (arith, c.part_length-part.ensures, (nexts_naming words fine _ (card_cells words) o_is refl c.upper.result c.cell_place-from.result inside place).within) in
     bound
-
-pub overflow_add-at : goal.overflow_add-at
-overflow_add-at c =
-    let words : List ℕ = c.args.card.words.now in
-    let seen : ℕ = card_observations words in
-    let many : ℕ = c.args.kept in
-    let o : ℕ = c.observations-o.result in
-    let fine : checked words ≡ Ok tt = c.args.card.checked in
-    let fits : Fitting (automaton words) (card_actions words) seen = fitting words fine in
-    let o_is : o ≡ seen = c.observations-o.ensures in
-    let part_length_is : c.part_length-part.result ≡ part_length seen = c.part_length-part.ensures ∙ ap part_length o_is in
-    let few : many ≤ max_cells = omega (arith, c.requires.1, kept_few (automaton words) seen, fits.cells) in
-    let more : c.loop-i.i < many = c.loop-i-test.true in
-    let at_is : c.cell_place-at.result ≡ cell_place seen c.loop-i.i = c.cell_place-at.ensures ∙ ap (λ (n : ℕ). cell_place n c.loop-i.i) o_is in
-    let small : c.cell_place-at.result + c.part_length-part.result < 2 ^ 21 = omega (arith, at_is, part_length_is, fits.observations, parts_below c.loop-i.i (part_length seen) (omega (arith, more, few)) (omega (arith, fits.observations))) in
-    omega (arith, small)
-
-pub offset_bounds-out-at : goal.offset_bounds-out-at
-offset_bounds-out-at c =
-    let words : List ℕ = c.args.card.words.now in
-    let seen : ℕ = card_observations words in
-    let many : ℕ = c.args.kept in
-    let o : ℕ = c.observations-o.result in
-    let fine : checked words ≡ Ok tt = c.args.card.checked in
-    let fits : Fitting (automaton words) (card_actions words) seen = fitting words fine in
-    let o_is : o ≡ seen = c.observations-o.ensures in
-    let part_length_is : c.part_length-part.result ≡ part_length seen = c.part_length-part.ensures ∙ ap part_length o_is in
-    let few : many ≤ max_cells = omega (arith, c.requires.1, kept_few (automaton words) seen, fits.cells) in
-    let more : c.loop-i.i < many = c.loop-i-test.true in
-    let at_is : c.cell_place-at.result ≡ cell_place seen c.loop-i.i = c.cell_place-at.ensures ∙ ap (λ (n : ℕ). cell_place n c.loop-i.i) o_is in
-    let small : c.cell_place-at.result + c.part_length-part.result < 2 ^ 21 = omega (arith, at_is, part_length_is, fits.observations, parts_below c.loop-i.i (part_length seen) (omega (arith, more, few)) (omega (arith, fits.observations))) in
-    omega (arith, small)
-
-pub slice_bounds-write_row-count : goal.slice_bounds-write_row-count
-slice_bounds-write_row-count c = omega arith
-
-pub slice_bounds-write_row-start : goal.slice_bounds-write_row-start
-slice_bounds-write_row-start c = omega arith
-
-pub slice_bounds-write_row-end-in-loop-i : goal.slice_bounds-write_row-end-in-loop-i
-slice_bounds-write_row-end-in-loop-i c =
-    let words : List ℕ = c.args.card.words.now in
-    let seen : ℕ = card_observations words in
-    let many : ℕ = c.args.kept in
-    let left : Automaton = trim (automaton words) seen in
-    let parts : ℕ → List ℕ = cell_words left seen in
-    let o : ℕ = c.observations-o.result in
-    let o_is : o ≡ seen = c.observations-o.ensures in
-    let part_length_is : c.part_length-part.result ≡ part_length seen = c.part_length-part.ensures ∙ ap part_length o_is in
-    let more : c.loop-i.i < many = c.loop-i-test.true in
-    let at_is : c.cell_place-at.result ≡ cell_place seen c.loop-i.i = c.cell_place-at.ensures ∙ ap (λ (n : ℕ). cell_place n c.loop-i.i) o_is in
-    let in_room : c.cell_place-at.result + c.part_length-part.result ≤ length c.loop-i.out = carded_room seen many parts _ c.loop-i.i c.loop-i.out c.loop-i.invariant more _ _ at_is part_length_is in
-    in_room
 
 pub write_row-requires-in-loop-i : goal.write_row-requires-in-loop-i
 write_row-requires-in-loop-i c =
@@ -282,28 +215,6 @@ loop-i-preserved c =
     (c.write_row-in-loop-i.ensures
     ∙ part_is words fine c.args.work.now c.requires.0 o many o_is c.requires.1 c.loop-i.i c.upper.result more c.upper.ensures (c.cell_place-from.result + c.part_length-part.result - (c.cell_place-from.result + 1)) c.cell_place-from.result _ (omega (arith, c.part_length-part.ensures)) (c.cell_place-from.ensures ∙ ap (λ (n : ℕ). cell_place n c.upper.result) (sym o_is)) refl)
     (cell_length left (card_actions words) seen c.loop-i.i)
-
-pub shape_of-out : goal.shape_of-out
-shape_of-out c =
-    let words : List ℕ = c.args.card.words.now in
-    let room : List ℕ = c.args.out.now in
-    let seen : ℕ = card_observations words in
-    let many : ℕ = c.args.kept in
-    let left : Automaton = trim (automaton words) seen in
-    let parts : ℕ → List ℕ = cell_words left seen in
-    let o : ℕ = c.observations-o.result in
-    let front : ℕ = c.front_length-front.result in
-    let fine : checked words ≡ Ok tt = c.args.card.checked in
-    let o_is : o ≡ seen = c.observations-o.ensures in
-    let front_length_is : front ≡ front_length seen = c.front_length-front.ensures ∙ ap front_length o_is in
-    let long : length (trimmed words) ≡ card_length many seen = trimmed_long words ∙ ap (λ (m : ℕ). card_length m seen) (sym c.requires.1) in
-    let enough : card_length many seen ≤ length room = subst (λ (n : ℕ). n ≤ length room) long c.requires.2 in
-    let row : List ℕ = c.write_row.new.out in
-    let row_is : row ≡ front_of left (card_actions words) seen = c.write_row.ensures
-    ∙ front_is words fine c.args.work.now c.requires.0 o many o_is c.requires.1 (front - 1) _ _ (omega (arith, c.front_length-front.ensures)) c.actions.ensures c.heading-head.ensures in
-    let row_long : length (front_of left (card_actions words) seen) ≡ front_length seen = front_long left (card_actions words) seen in
-    c.loop-i.invariant.same
-    ∙ fronted_same seen many parts _ front front_length_is row_long room row row_is enough
 
 pub returns : goal.returns
 returns c =
