@@ -17,7 +17,6 @@ use Rattle.sets.proofs.Logic.{decided}
 use Rattle.text.specs.Text.{Wrote, Stands}
 use Rattle.text.specs.Decimal.{digit, decimal, digit_of, digit_at}
 use Rattle.text.specs.Read.{wrong, matched, skipped, number, no_number, misplaced, further_digits, number_of, read_decimal}
-use Rattle.text.specs.declared.Wrong.{Wrong}
 use Rattle.text.proofs.Writing.{stands_wrote, wrote_stands}
 use Rattle.text.proofs.Decimals.{by_digits, digit_of_lem, digit_byte, decimal_small, decimal_large, decimal_longer}
 use Rattle.text.proofs.Readers.{placed, well_placed, further_none}

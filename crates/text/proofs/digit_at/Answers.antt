@@ -1,7 +1,6 @@
 -- `text::digit_at` meets its contract: one law for each answer.
 use mathlib.Core.Path.{sym}
 use native.Mathlib.Omega.{arith}
-use lib.ListN.{get_or}
 use Rattle.text.specs.Decimal.{digit_at}
 use Rattle.text.proofs.Decimals.{digit_low, digit_high, digit_is, digit_past}
 use Rattle.text.proofs.digit_at.Goals as goal
