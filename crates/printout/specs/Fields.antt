@@ -1,7 +1,6 @@
 -- A line by the fields that the code hands over: what inner functions promise each other.
 -- Assumes nothing.
-use Rattle.std.specs.Prelude.{List, [], ◌∷◌, ◌++◌, ℕ, Option, Some, None}
-use Rattle.games.specs.declared.Cell.{Cell}
+use Rattle.std.specs.Prelude.{List, [], ◌∷◌, ◌++◌, ℕ, Some, None}
 use Rattle.text.specs.Text.{bytes}
 use Rattle.text.specs.Decimal.{decimal}
 use Rattle.printout.specs.Lines.{field}

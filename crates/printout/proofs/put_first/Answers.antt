@@ -1,4 +1,3 @@
-use mathlib.Core.Path.{ap}
 use Rattle.printout.specs.Lines.{first_line}
 use Rattle.printout.proofs.Texts.{entered_field}
 use Rattle.printout.proofs.put_first.Goals as goal

@@ -1,6 +1,6 @@
 use mathlib.Core.Path.{refl}
 use Rattle.printout.specs.Lines.{front_text}
-use Rattle.printout.proofs.Texts.{below_none, below_more, below_fits, below_all}
+use Rattle.printout.proofs.Texts.{below_none, below_more, below_all}
 use Rattle.printout.proofs.put_front.Goals as goal
 
 pub loop-j-init : goal.loop-j-init

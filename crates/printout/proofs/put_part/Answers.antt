@@ -2,7 +2,7 @@ use mathlib.Core.Path.{refl}
 use native.Mathlib.Omega.{arith}
 use Rattle.text.proofs.Writing.{puts_then}
 use Rattle.printout.specs.Lines.{part_text}
-use Rattle.printout.proofs.Texts.{below_none, below_more, below_fits, below_all}
+use Rattle.printout.proofs.Texts.{below_none, below_more, below_all}
 use Rattle.printout.proofs.put_part.Goals as goal
 
 pub loop-j-init : goal.loop-j-init
