@@ -25,6 +25,7 @@ use Rattle.games.specs.declared.Place.{Place}
 use Rattle.games.specs.declared.Place.TheVariants.{Shown, Move}
 use Rattle.games.specs.Answers.{refused}
 use Rattle.games.proofs.Answers.{never, cond_passed, found_none, then_fine}
+use Rattle.games.proofs.Limits.{moves_below}
 use Rattle.games.proofs.Places.{place_within, place_from, place_below, place_there}
 use Rattle.tables.specs.Layout.{head_word, bare_word}
 use Rattle.tables.specs.Check.{limits_hold, too_wide, sets_checked, parked_checked, parked_from, checked}
@@ -63,6 +64,10 @@ module _ (f : Fields) (l : Limited (fields_shape f)) (p : ℕ) (first : 1 ≤ p)
 
   pub move_slot : (a : Action) (i : State) → place_at s p ≡ Move a i → a.0 * f.states + i.0 < max_moves
   move_slot a i e = let k = there (Move a i) e in slot_inside f a.0 i.0 l k.0 k.1
+
+-- the moves of numbers within the limits
+pub few_moves : (f : Fields) → limits_hold (fields_shape f) ≡ true → f.actions * f.states ≤ max_moves
+few_moves f e = let l = limits_hold_lem (fields_shape f) e in moves_below f.actions f.states l.most_actions l.most_states
 
 -- ---- 11
 
@@ -125,15 +130,7 @@ module _ (f : Fields) where
 
   -- ---- 2 and 11
 
-  pub slots_limits : limits_hold (fields_shape f) ≡ false → slots_checked f ≡ refused reason.BadHead 0
-  unfolding slots_checked
-  slots_limits e = rw e
-
   module _ (within : limits_hold (fields_shape f) ≡ true) where
-    pub slots_dirty : slots_clean f ≡ false → slots_checked f ≡ refused reason.SlotUsed 0
-    unfolding slots_checked
-    slots_dirty e = rw (within, e)
-
     pub slots_fine : slots_clean f ≡ true → slots_checked f ≡ Ok tt
     unfolding slots_checked
     slots_fine e = rw (within, e)

@@ -37,6 +37,7 @@ fn unused_zero(slots: &[u32], used: usize) -> bool
 }
 
 // Refusals 2 and 11.
+#[tactic(auto, unfolding(crate::specs::Write::slots_checked))]
 fn check_slots(f: Fields) -> Result<(), Refusal>
     ensures { result ≡ slots_checked f }
 {
