@@ -9,7 +9,7 @@ use Rattle.tables.specs.declared.Fields.{Fields}
 use Rattle.cards.specs.Card.{card_cells, card_observations, checked as card_checked}
 use Rattle.fields.specs.Read.{read_of}
 use Rattle.fields.specs.Write.{write_of}
-use Rattle.answers.specs.Words.{done, refusal_words}
+use Rattle.answers.specs.Words.{done, words_of, pair_words}
 use Rattle.std.specs.Prelude.{Result, Ok, Err}
 
 -- an outcome, its answer as words
@@ -28,9 +28,12 @@ rewritten w d = written_again (read_of w) d
 abbrev pub ComesBack : (table out : List ℕ) → Leaves (List ℕ) (List ℕ) → Type 0
 ComesBack w d l = checked w ≡ Ok tt → length w ≤ length d → l ≡ leaves (done (length w) 0) (w ++ drop (length w) d)
 
--- the numbers of cells and observations of words that are a card, or the refusal
-unfoldable pub card_told : (card : List ℕ) → List ℕ
-card_told k = unless (card_checked k) refusal_words (done (card_cells k) (card_observations k))
+-- the numbers of cells and observations of words that are a card, or the refusal; and these as words
+unfoldable pub numbers_of : (card : List ℕ) → Result (ℕ × ℕ) Refusal
+numbers_of k = unless (card_checked k) Err (Ok (card_cells k, card_observations k))
+
+abbrev pub card_told : (card : List ℕ) → List ℕ
+card_told k = words_of pair_words (numbers_of k)
 
 -- the fields that write is given
 abbrev pub given : (n a o start bad : ℕ) (marked : Bool) (parked : ℕ) (shown moves : List ℕ) → Fields

@@ -23,9 +23,10 @@ ghost use Rattle.kiss_writer.specs.Write.{Answer as WriteAnswer};
 ghost use Rattle.kiss_reader.specs.Read.{read_into, Reads};
 ghost use Rattle.kiss_reader.specs.Read.{Answer as ReadAnswer};
 ghost use Rattle.answers.specs.Words.{done, check_words, solve_words, judge_words, written_words, move_words, ran_words, show_words, trim_words, text_words, read_words};
-ghost use Rattle.abi.specs.Calls.{told, rewritten, ComesBack, card_told, given, ReadsAs};
+ghost use Rattle.abi.specs.Calls.{told, rewritten, ComesBack, numbers_of, card_told, given, ReadsAs};
 
-use games::{Cell, Checked, Observation, Written};
+use cards::Card;
+use games::{Cell, Observation, Refusal};
 use tables::Fields;
 
 // 0, 0, 0: the words are a table.
@@ -33,22 +34,16 @@ use tables::Fields;
 pub extern "C" fn kirdanzug_check_table(table: &[u32], answer: &mut [u64; 3])
     ensures { answer.new ≡ check_words (checked table.now) }
 {
-    *answer = answers::check_words(tables::check(table));
+    *answer = answers::words(tables::check(table));
 }
 
-// The numbers are read only of words that are a card.
-fn card_words(card: &[u32]) -> [u64; 3]
-    ensures { result ≡ card_told card.now }
+// The numbers of cells and observations, read only of words that are a card.
+#[tactic(auto, unfolding(crate::specs::Calls::numbers_of))]
+fn card_numbers(card: &[u32]) -> Result<(u32, u32), Refusal>
+    ensures { result ≡ numbers_of card.now }
 {
-    let found = cards::check(card);
-    match found {
-        Ok(()) => {
-            let cells = cards::cells(card);
-            let observations = cards::observations(card);
-            answers::pair(cells, observations)
-        }
-        Checked::Refused(_, _) => answers::check_words(found),
-    }
+    let card = Card::of(card)?;
+    Ok((card.cells(), card.observations()))
 }
 
 // 0, cells, observations: the words are a card.
@@ -56,7 +51,7 @@ fn card_words(card: &[u32]) -> [u64; 3]
 pub extern "C" fn kirdanzug_check_card(card: &[u32], answer: &mut [u64; 3])
     ensures { answer.new ≡ card_told card.now }
 {
-    *answer = card_words(card);
+    *answer = answers::words(card_numbers(card));
 }
 
 // Yes: 0, settling count, cells, and the card in front of its room. No: 1, round number, 0.
@@ -72,7 +67,7 @@ pub extern "C" fn kirdanzug_solve(
     ensures promised { (r : Answer) → answer.new ≡ solve_words r
         → Promise table.now work.old card.old r card.new }
 {
-    *answer = answers::solve_words(solver::solve(table, work, card));
+    *answer = answers::words(solver::solve(table, work, card));
 }
 
 // 0, 1 or 0, 0: is the set good for k rounds?
@@ -80,7 +75,7 @@ pub extern "C" fn kirdanzug_solve(
 pub extern "C" fn kirdanzug_judge(table: &[u32], mask: u32, k: u32, answer: &mut [u64; 3])
     ensures { answer.new ≡ judge_words (judged table.now mask k) }
 {
-    *answer = answers::judge_words(judge::judge(table, mask, k));
+    *answer = answers::words(judge::judge(table, mask, k));
 }
 
 // 0, length, 0: the maximal sets of both lists.
@@ -97,7 +92,7 @@ pub extern "C" fn kirdanzug_join(
     ensures plain { (w : ℕ) → answer.new ≡ done w 0
         → MaximalOf (OfEither first.now second.now) (take w out.new) }
 {
-    *answer = answers::written_words(lists::join(n, first, second, out));
+    *answer = answers::words(lists::join(n, first, second, out));
 }
 
 // 0, length, 0: the maximal common parts of one set from each list.
@@ -114,7 +109,7 @@ pub extern "C" fn kirdanzug_meet(
     ensures plain { (w : ℕ) → answer.new ≡ done w 0
         → MaximalOf (OfBoth first.now second.now) (take w out.new) }
 {
-    *answer = answers::written_words(lists::meet(n, first, second, out));
+    *answer = answers::words(lists::meet(n, first, second, out));
 }
 
 // 0, length, 0: the fields written as a table's words, which read back as these fields.
@@ -148,19 +143,15 @@ pub extern "C" fn kirdanzug_write(
         shown: *shown,
         moves: *moves,
     };
-    *answer = answers::written_words(fields::write(f, out));
+    *answer = answers::words(fields::write(f, out));
 }
 
 // Reads the table into fields, and writes these.
+#[tactic(auto, unfolding(crate::specs::Calls::rewritten))]
 fn rewrite(table: &[u32], out: &mut [u32]) -> Result<usize, Refusal>
     ensures { leaves result out.new ≡ rewritten table.now out.old }
 {
-    let got = fields::read(table);
-    let answer = got.answer;
-    match answer {
-        Checked::Refused(number, place) => Written::Refused(number, place),
-        Ok(()) => fields::write(got.fields, out),
-    }
+    fields::write(fields::read(table)?, out)
 }
 
 // 0, length, 0: the table read into fields and written again; an accepted table comes back as it was.
@@ -171,7 +162,7 @@ pub extern "C" fn kirdanzug_rewrite(table: &[u32], out: &mut [u32], answer: &mut
     ensures same { ComesBack table.now out.old
         (leaves answer.new out.new) }
 {
-    *answer = answers::written_words(rewrite(table, out));
+    *answer = answers::words(rewrite(table, out));
 }
 
 // 0, cell entered, its action: the card opened with the first observation.
@@ -179,7 +170,7 @@ pub extern "C" fn kirdanzug_rewrite(table: &[u32], out: &mut [u32], answer: &mut
 pub extern "C" fn kirdanzug_open(card: &[u32], observation: u32, answer: &mut [u64; 3])
     ensures { answer.new ≡ move_words (opened card.now observation) }
 {
-    *answer = answers::move_words(cards::begin(card, Observation(observation)));
+    *answer = answers::words(cards::begin(card, Observation(observation)));
 }
 
 // 0, cell entered, its action: a later observation in a cell.
@@ -187,7 +178,7 @@ pub extern "C" fn kirdanzug_open(card: &[u32], observation: u32, answer: &mut [u
 pub extern "C" fn kirdanzug_step(card: &[u32], cell: u32, observation: u32, answer: &mut [u64; 3])
     ensures { answer.new ≡ move_words (stepped card.now cell observation) }
 {
-    *answer = answers::move_words(cards::step(card, Cell(cell), Observation(observation)));
+    *answer = answers::words(cards::step(card, Cell(cell), Observation(observation)));
 }
 
 // 0, observations taken, 0: the card run over the observations, and the action after each in front of `out`.
@@ -201,7 +192,7 @@ pub extern "C" fn kirdanzug_run(
     ensures { leaves answer.new out.new
         ≡ told ran_words (ran_into card.now observations.now out.old) }
 {
-    *answer = answers::ran_words(runner::run(card, observations, out));
+    *answer = answers::of_run(runner::run(card, observations, out));
 }
 
 // 0, cell entered, its action: a runner opened with the first observation and moved by two more; the answer to the third. It is for
@@ -225,7 +216,7 @@ pub extern "C" fn kirdanzug_drive(
     );
     let last = driven.last;
     let said = last.answer;
-    *answer = answers::move_words(said);
+    *answer = answers::words(said);
 }
 
 // 0, offset, length: where the move words of a cell's action stand in the table.
@@ -233,7 +224,7 @@ pub extern "C" fn kirdanzug_drive(
 pub extern "C" fn kirdanzug_show(table: &[u32], card: &[u32], cell: u32, answer: &mut [u64; 3])
     ensures { answer.new ≡ show_words (found table.now card.now cell) }
 {
-    *answer = answers::show_words(show::find(table, card, Cell(cell)));
+    *answer = answers::words(show::find(table, card, Cell(cell)));
 }
 
 // 0, 0, 0: the card, whoever drew it, is safe for the table.
@@ -242,7 +233,7 @@ pub extern "C" fn kirdanzug_judge_card(table: &[u32], card: &[u32], answer: &mut
     ensures determined { answer.new ≡ check_words (certified table.now card.now) }
     ensures safe { answer.new ≡ done 0 0 → Safe (game table.now) card.now }
 {
-    *answer = answers::check_words(certificates::judge_card(table, card));
+    *answer = answers::words(certificates::judge_card(table, card));
 }
 
 // 0, words, cells: the card without its idle cells, in front of `out`.
@@ -258,7 +249,7 @@ pub extern "C" fn kirdanzug_trim(
     ensures promised { (r : TrimAnswer) → answer.new ≡ trim_words r
         → Trims card.now r out.new }
 {
-    *answer = answers::trim_words(trimmer::trim(card, work, out));
+    *answer = answers::words(trimmer::trim(card, work, out));
 }
 
 // 0, bytes, 0: the card as KISS2 text, in front of `text`.
@@ -269,7 +260,7 @@ pub extern "C" fn kirdanzug_write_kiss(card: &[u32], text: &mut [u8], answer: &m
     ensures promised { (r : WriteAnswer) → answer.new ≡ text_words r
         → Writes card.now r text.new }
 {
-    *answer = answers::text_words(kiss_writer::write(card, text));
+    *answer = answers::words(kiss_writer::write(card, text));
 }
 
 // 0, words, cells: the card that a KISS2 text says, in front of `out`.
@@ -280,5 +271,5 @@ pub extern "C" fn kirdanzug_read_kiss(text: &[u8], out: &mut [u32], answer: &mut
     ensures promised { (r : ReadAnswer) → answer.new ≡ read_words r
         → Reads text.now r out.new }
 {
-    *answer = answers::read_words(kiss_reader::read(text, out));
+    *answer = answers::words(kiss_reader::read(text, out));
 }

@@ -41,6 +41,10 @@ words_of told (Err e) = refusal_words e
 abbrev pub unit_words : Unit {0} → List ℕ
 unit_words _ = done 0 0
 
+-- two numbers
+abbrev pub pair_words : ℕ × ℕ → List ℕ
+pair_words p = done p.0 p.1
+
 -- 1 where the set is good, else 0
 abbrev pub bool_words : Bool → List ℕ
 bool_words true = done 1 0

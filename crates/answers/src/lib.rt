@@ -2,130 +2,119 @@
 // 2, number and place (refused).
 #![tactic(auto)]
 
-ghost use Rattle.std.specs.Prelude.{◌≡◌};
-ghost use Rattle.answers.specs.Words.{done, no as no_words, refused as refused_words};
-ghost use Rattle.answers.specs.Words.{check_words, solve_words, judge_words, written_words, move_words, ran_words, show_words, trim_words, text_words, read_words};
+ghost use Rattle.std.specs.Prelude.{◌≡◌, ℕ, List};
+ghost use Rattle.answers.specs.Words.{words_of, unit_words, pair_words, bool_words, length_words, verdict_words, entered_words, part_words, trimmed_words, read_card_words, ran_words};
 
-use cards::Move;
-use games::{Checked, Written};
-use judge::Judged;
+use cards::Entered;
+use games::Refusal;
+use kiss_reader::Read;
 use runner::Ran;
-use show::Shown;
+use show::Part;
+use solver::Verdict;
+use trimmer::Trimmed;
 
-// Done, with two numbers.
-pub fn pair(x: u32, y: u32) -> [u64; 3]
-    ensures { result ≡ done x y }
-{
-    [0, x as u64, y as u64]
+// A value that an entry answers.
+pub trait Told {
+    // its three words
+    ghost told: { Self → List ℕ };
+
+    fn told(self) -> [u64; 3]
+        ensures { result ≡ told self };
 }
 
-// Done, with two places or lengths.
-fn span(x: usize, y: usize) -> [u64; 3]
-    ensures { result ≡ done x y }
-{
-    [0, x as u64, y as u64]
-}
+// A table's check and the judge of cards: no value beside fine.
+impl Told for () {
+    ghost told = { unit_words };
 
-fn no(round: u32) -> [u64; 3]
-    ensures { result ≡ no_words round }
-{
-    [1, round as u64, 0]
-}
-
-fn refused(number: u32, place: usize) -> [u64; 3]
-    ensures { result ≡ refused_words number place }
-{
-    [2, number as u64, place as u64]
-}
-
-pub fn check_words(a: Checked) -> [u64; 3]
-    ensures { result ≡ check_words a }
-{
-    match a {
-        Ok(()) => pair(0, 0),
-        Checked::Refused(number, place) => refused(number, place),
+    fn told(self) -> [u64; 3] {
+        [0, 0, 0]
     }
 }
 
-pub fn solve_words(a: solver::Answer) -> [u64; 3]
-    ensures { result ≡ solve_words a }
-{
-    match a {
-        solver::Answer::Yes(settled, cells) => pair(settled, cells),
-        solver::Answer::No(round) => no(round),
-        solver::Answer::Refused(number, place) => refused(number, place),
+// A card's cells and observations.
+impl Told for (u32, u32) {
+    ghost told = { pair_words };
+
+    fn told(self) -> [u64; 3] {
+        [0, self.0 as u64, self.1 as u64]
     }
 }
 
-pub fn judge_words(a: Judged) -> [u64; 3]
-    ensures { result ≡ judge_words a }
-{
-    match a {
-        Judged::Good => pair(1, 0),
-        Judged::NotGood => pair(0, 0),
-        Judged::Refused(number, place) => refused(number, place),
+// Whether a set is good.
+impl Told for bool {
+    ghost told = { bool_words };
+
+    fn told(self) -> [u64; 3] {
+        if self { [0, 1, 0] } else { [0, 0, 0] }
     }
 }
 
-pub fn written_words(a: Written) -> [u64; 3]
-    ensures { result ≡ written_words a }
-{
-    match a {
-        Ok(length) => span(length, 0),
-        Written::Refused(number, place) => refused(number, place),
+// A number of words, bytes or observations.
+impl Told for usize {
+    ghost told = { length_words };
+
+    fn told(self) -> [u64; 3] {
+        [0, self as u64, 0]
     }
 }
 
-pub fn move_words(a: Move) -> [u64; 3]
-    ensures { result ≡ move_words a }
-{
-    match a {
-        Move::Entered(cell, action) => pair(cell.0, action.0),
-        Move::Refused(number, place) => refused(number, place),
+impl Told for Verdict {
+    ghost told = { verdict_words };
+
+    fn told(self) -> [u64; 3] {
+        match self {
+            Verdict::Yes(settled, cells) => [0, settled as u64, cells as u64],
+            Verdict::No(round) => [1, round as u64, 0],
+        }
     }
 }
 
-pub fn ran_words(a: Ran) -> [u64; 3]
-    ensures { result ≡ ran_words a }
-{
-    match a {
-        Ran::Done(taken) => span(taken, 0),
-        Ran::Refused(number, place, _) => refused(number, place),
+impl Told for Entered {
+    ghost told = { entered_words };
+
+    fn told(self) -> [u64; 3] {
+        [0, self.cell.0 as u64, self.action.0 as u64]
     }
 }
 
-pub fn show_words(a: Shown) -> [u64; 3]
-    ensures { result ≡ show_words a }
-{
-    match a {
-        Shown::Part(offset, length) => span(offset, length),
-        Shown::Refused(number, place) => refused(number, place),
+impl Told for Part {
+    ghost told = { part_words };
+
+    fn told(self) -> [u64; 3] {
+        [0, self.offset as u64, self.length as u64]
     }
 }
 
-pub fn trim_words(a: trimmer::Answer) -> [u64; 3]
-    ensures { result ≡ trim_words a }
-{
-    match a {
-        trimmer::Answer::Trimmed(words, cells) => span(words, cells as usize),
-        trimmer::Answer::Refused(number, place) => refused(number, place),
+impl Told for Trimmed {
+    ghost told = { trimmed_words };
+
+    fn told(self) -> [u64; 3] {
+        let Trimmed { words, cells } = self;
+        [0, words as u64, cells as u64]
     }
 }
 
-pub fn text_words(a: kiss_writer::Answer) -> [u64; 3]
-    ensures { result ≡ text_words a }
-{
-    match a {
-        kiss_writer::Answer::Written(bytes) => span(bytes, 0),
-        kiss_writer::Answer::Refused(number, place) => refused(number, place),
+impl Told for Read {
+    ghost told = { read_card_words };
+
+    fn told(self) -> [u64; 3] {
+        [0, self.words as u64, self.cells as u64]
     }
 }
 
-pub fn read_words(a: kiss_reader::Answer) -> [u64; 3]
-    ensures { result ≡ read_words a }
+// The words of an answer: its value's, or its refusal's.
+pub fn words<T: Told>(answer: Result<T, Refusal>) -> [u64; 3]
+    ensures { result ≡ words_of T.told answer }
 {
-    match a {
-        kiss_reader::Answer::Read(words, cells) => span(words, cells as usize),
-        kiss_reader::Answer::Refused(number, place) => refused(number, place),
+    match answer {
+        Ok(value) => value.told(),
+        Err(refusal) => [2, refusal.reason.number() as u64, refusal.place as u64],
     }
+}
+
+// The words of a run: those of a refusal don't say how many observations were taken before it.
+pub fn of_run(answer: Ran) -> [u64; 3]
+    ensures { result ≡ ran_words answer }
+{
+    words(answer.map_err(|stopped| stopped.refusal))
 }

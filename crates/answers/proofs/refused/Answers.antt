@@ -1,6 +1,0 @@
--- `answers::refused` meets its contract: the three words.
-use mathlib.Core.Path.{refl}
-use Rattle.answers.proofs.refused.Goals as goal
-
-pub returns : goal.returns
-returns c = refl
