@@ -15,3 +15,4 @@ pub mod Holding
 pub mod Winning
 pub mod Tightest
 pub mod Decided
+pub mod Reasons

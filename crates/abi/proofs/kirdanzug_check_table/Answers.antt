@@ -4,4 +4,4 @@ use Rattle.answers.specs.Words.{check_words}
 use Rattle.abi.proofs.kirdanzug_check_table.Goals as goal
 
 pub returns : goal.returns
-returns c = c.check_words.ensures ∙ ap check_words c.check.ensures
+returns c = c.words.ensures ∙ ap check_words c.check.ensures

@@ -5,4 +5,4 @@ use Rattle.answers.specs.Words.{move_words}
 use Rattle.abi.proofs.kirdanzug_drive.Goals as goal
 
 pub returns : goal.returns
-returns c = c.move_words.ensures ∙ ap (λ (s : Stood). move_words s.answer) c.drive-driven.ensures.2
+returns c = c.words.ensures ∙ ap (λ (s : Stood). move_words s.answer) c.drive-driven.ensures.2

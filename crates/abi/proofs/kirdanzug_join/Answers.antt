@@ -5,6 +5,6 @@ use Rattle.abi.proofs.kirdanzug_join.Goals as goal
 
 pub returns : goal.returns
 returns c = record {
-  out_after = tells written_words _ c.join.result _ _ c.written_words.ensures c.join.ensures.out_after;
-  plain = list_plain _ c.join.result c.written_words.ensures _ _ c.join.ensures.plain;
+  out_after = tells written_words _ c.join.result _ _ c.words.ensures c.join.ensures.out_after;
+  plain = list_plain _ c.join.result c.words.ensures _ _ c.join.ensures.plain;
 }

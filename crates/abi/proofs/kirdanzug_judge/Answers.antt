@@ -4,4 +4,4 @@ use Rattle.answers.specs.Words.{judge_words}
 use Rattle.abi.proofs.kirdanzug_judge.Goals as goal
 
 pub returns : goal.returns
-returns c = c.judge_words.ensures ∙ ap judge_words c.judge.ensures
+returns c = c.words.ensures ∙ ap judge_words c.judge.ensures

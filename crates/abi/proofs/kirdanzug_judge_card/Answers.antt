@@ -6,6 +6,6 @@ use Rattle.abi.proofs.kirdanzug_judge_card.Goals as goal
 
 pub returns : goal.returns
 returns c = record {
-  determined = c.check_words.ensures ∙ ap check_words c.judge_card.ensures.determined;
-  safe = accepted_told _ c.judge_card.result _ c.check_words.ensures c.judge_card.ensures.safe;
+  determined = c.words.ensures ∙ ap check_words c.judge_card.ensures.determined;
+  safe = accepted_told _ c.judge_card.result _ c.words.ensures c.judge_card.ensures.safe;
 }

@@ -5,6 +5,6 @@ use Rattle.abi.proofs.kirdanzug_meet.Goals as goal
 
 pub returns : goal.returns
 returns c = record {
-  out_after = tells written_words _ c.meet.result _ _ c.written_words.ensures c.meet.ensures.out_after;
-  plain = list_plain _ c.meet.result c.written_words.ensures _ _ c.meet.ensures.plain;
+  out_after = tells written_words _ c.meet.result _ _ c.words.ensures c.meet.ensures.out_after;
+  plain = list_plain _ c.meet.result c.words.ensures _ _ c.meet.ensures.plain;
 }

@@ -1,10 +1,11 @@
 -- `abi::kirdanzug_read_kiss` meets its contract: the words of what `read` answers, what it leaves, and what it promises.
-use Rattle.answers.specs.Words.{read_words}
-use Rattle.abi.proofs.Told.{tells, read_promised}
+use Rattle.kiss_reader.specs.Read.{Answer, Reads}
+use Rattle.answers.specs.Words.{read_words, read_card_words}
+use Rattle.abi.proofs.Told.{tells, promised_of, read_tells}
 use Rattle.abi.proofs.kirdanzug_read_kiss.Goals as goal
 
 pub returns : goal.returns
 returns c = record {
-  determined = tells read_words _ c.read.result _ _ c.read_words.ensures c.read.ensures.determined;
-  promised = read_promised _ c.read.result c.read_words.ensures _ _ c.read.ensures.promised;
+  determined = tells read_words _ c.read.result _ _ c.words.ensures c.read.ensures.determined;
+  promised = promised_of read_card_words read_tells _ c.read.result c.words.ensures (λ (r : Answer). Reads c.args.text.now r c.read.new.out) c.read.ensures.promised;
 }

@@ -5,5 +5,5 @@ use Rattle.abi.proofs.kirdanzug_rewrite.Goals as goal
 
 pub returns : goal.returns
 returns c =
-    let told = tells written_words _ c.rewrite.result _ _ c.written_words.ensures c.rewrite.ensures in
+    let told = tells written_words _ c.rewrite.result _ _ c.words.ensures c.rewrite.ensures in
     record { out_after = told; same = rewrite_same _ _ _ told }

@@ -4,4 +4,4 @@ use Rattle.abi.proofs.Told.{tells}
 use Rattle.abi.proofs.kirdanzug_run.Goals as goal
 
 pub returns : goal.returns
-returns c = tells ran_words _ c.run.result _ _ c.ran_words.ensures c.run.ensures
+returns c = tells ran_words _ c.run.result _ _ c.of_run.ensures c.run.ensures

@@ -4,4 +4,4 @@ use Rattle.answers.specs.Words.{show_words}
 use Rattle.abi.proofs.kirdanzug_show.Goals as goal
 
 pub returns : goal.returns
-returns c = c.show_words.ensures ∙ ap show_words c.find.ensures
+returns c = c.words.ensures ∙ ap show_words c.find.ensures

@@ -4,4 +4,4 @@ use Rattle.answers.specs.Words.{move_words}
 use Rattle.abi.proofs.kirdanzug_step.Goals as goal
 
 pub returns : goal.returns
-returns c = c.move_words.ensures ∙ ap move_words c.step.ensures
+returns c = c.words.ensures ∙ ap move_words c.step.ensures

@@ -5,6 +5,6 @@ use Rattle.abi.proofs.kirdanzug_write.Goals as goal
 
 pub returns : goal.returns
 returns c = record {
-  out_after = tells written_words _ c.write.result _ _ c.written_words.ensures c.write.ensures.answers;
-  read_back = write_read_back _ c.write.result c.written_words.ensures _ _ c.write.ensures.read_back;
+  out_after = tells written_words _ c.write.result _ _ c.words.ensures c.write.ensures.answers;
+  read_back = write_read_back _ c.write.result c.words.ensures _ _ c.write.ensures.read_back;
 }
