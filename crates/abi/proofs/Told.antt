@@ -21,8 +21,8 @@ use Rattle.fields.proofs.RoundTrip.{read_then_write}
 use Rattle.solver.specs.declared.Verdict.{Verdict}
 use Rattle.solver.specs.declared.Verdict.TheVariants.{Yes, No}
 use Rattle.trimmer.specs.declared.Trimmed.{Trimmed}
-use Rattle.kiss_reader.specs.declared.Read.{Read}
-use Rattle.answers.specs.Words.{done, refusal_words, words_of, unit_words, length_words, verdict_words, trimmed_words, read_card_words, written_words, check_words}
+use Rattle.kiss_reader.specs.declared.Extent.{Extent}
+use Rattle.answers.specs.Words.{done, refusal_words, words_of, unit_words, length_words, verdict_words, trimmed_words, extent_words, written_words, check_words}
 use Rattle.abi.specs.Calls.{told, written_again, rewritten, ComesBack, ReadsAs}
 
 -- the words of an answer, with what it left, tell the outcome
@@ -80,9 +80,9 @@ trimmed_tells = record { one = one; done_first = λ x e h. let z : ◌≡◌ {A 
   one : (x y : Trimmed) → trimmed_words x ≡ trimmed_words y → x ≡ y
   one x y h = let w : x.words ≡ y.words = cc in let c : x.cells ≡ y.cells = cc in cc
 
-pub read_tells : Telling read_card_words
+pub read_tells : Telling extent_words
 read_tells = record { one = one; done_first = λ x e h. let z : ◌≡◌ {A = ℕ} 0 2 = cc in omega arith } where
-  one : (x y : Read) → read_card_words x ≡ read_card_words y → x ≡ y
+  one : (x y : Extent) → extent_words x ≡ extent_words y → x ≡ y
   one x y h = let w : x.words ≡ y.words = cc in let c : x.cells ≡ y.cells = cc in cc
 
 -- ---- join, meet and write

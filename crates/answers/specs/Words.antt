@@ -72,8 +72,8 @@ abbrev pub trimmed_words : Trimmed → List ℕ
 trimmed_words t = done t.words t.cells
 
 -- the words of the card that was read, and its cells
-abbrev pub read_card_words : Extent → List ℕ
-read_card_words r = done r.words r.cells
+abbrev pub extent_words : Extent → List ℕ
+extent_words r = done r.words r.cells
 
 -- ---- the words of an entry's answer
 
@@ -112,4 +112,4 @@ text_words = words_of length_words
 
 -- read_kiss
 abbrev pub read_words : ReadAnswer → List ℕ
-read_words = words_of read_card_words
+read_words = words_of extent_words

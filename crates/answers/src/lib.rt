@@ -3,11 +3,11 @@
 #![tactic(auto)]
 
 ghost use Rattle.std.specs.Prelude.{◌≡◌, ℕ, List};
-ghost use Rattle.answers.specs.Words.{words_of, unit_words, pair_words, bool_words, length_words, verdict_words, entered_words, part_words, trimmed_words, read_card_words, ran_words};
+ghost use Rattle.answers.specs.Words.{words_of, unit_words, pair_words, bool_words, length_words, verdict_words, entered_words, part_words, trimmed_words, extent_words, ran_words};
 
 use cards::Entered;
 use games::Refusal;
-use kiss_reader::Read;
+use kiss_reader::Extent;
 use runner::Ran;
 use show::Part;
 use solver::Verdict;
@@ -94,8 +94,8 @@ impl Told for Trimmed {
     }
 }
 
-impl Told for Read {
-    ghost told = { read_card_words };
+impl Told for Extent {
+    ghost told = { extent_words };
 
     fn told(self) -> [u64; 3] {
         [0, self.words as u64, self.cells as u64]
