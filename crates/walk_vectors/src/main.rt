@@ -2,15 +2,14 @@
 // The tests run it on many tables beside a walk of their own.
 #![tactic(auto)]
 
-ghost use Rattle.std.specs.Prelude.{◌+◌, ◌*◌, ◌≤◌, ◌<◌, ◌≡◌, length, IfOk};
+ghost use Rattle.std.specs.Prelude.{◌≤◌, ◌<◌, ◌≡◌, length};
 ghost use Rattle.games.specs.Words.{game};
-ghost use Rattle.tables.specs.Layout.{Sized};
 
 use games::{Action, State};
 use rows::input::read_full;
 use rows::print::Refused;
 use std::io;
-use tables::Table;
+use tables::{Accepted, Table};
 use walk::Walked;
 
 // The most words that are read, and their bytes.
@@ -19,11 +18,11 @@ const INPUT_WORDS: usize = 16384;
 const INPUT_BYTES: usize = 4 * INPUT_WORDS;
 
 // The line of one walk.
-fn print_walk(rt: &impl Print, table: &[u32], s: u32, a: Action) -> io::Result<()>
-    requires { Sized table.now × (a.0 < (game table.now).actions) }
+fn print_walk(rt: &impl Print, table: Table, s: u32, a: Action) -> io::Result<()>
+    requires { a.0 < (game table.words.now).actions }
 {
     let action = a.0;
-    let Walked { post, looked } = walk::walk(Table { words: table }, s, a);
+    let Walked { post, looked } = walk::walk(table, s, a);
     match post {
         Ok(u) => println!(rt; "walk {action} {s}: post {u} {looked}"),
         Err(State(i)) => println!(rt; "walk {action} {s}: blocked {i} {looked}"),
@@ -31,28 +30,26 @@ fn print_walk(rt: &impl Print, table: &[u32], s: u32, a: Action) -> io::Result<(
 }
 
 // The sets of the table's states, and then one with a state that the table doesn't have.
-fn each_set(rt: &impl Print, table: &[u32], a: Action) -> io::Result<()>
-    requires { Sized table.now × (a.0 < (game table.now).actions) }
+fn each_set(rt: &impl Print, table: Table, a: Action) -> io::Result<()>
+    requires { a.0 < (game table.words.now).actions }
 {
-    for s in 0..=sets::single(tables::states(table)) {
+    for s in 0..=sets::single(table.states()) {
         print_walk(rt, table, s, a)?;
     }
     Ok(())
 }
 
-fn each_action(rt: &impl Print, table: &[u32]) -> io::Result<()>
-    requires { Sized table.now }
-{
-    for a in 0..tables::actions(table) {
+fn each_action(rt: &impl Print, table: Table) -> io::Result<()> {
+    for a in 0..table.actions() {
         each_set(rt, table, Action(a))?;
     }
     Ok(())
 }
 
-fn print_table(rt: &impl Print, table: &[u32]) -> io::Result<()> {
-    println!(rt; "table {}", table.len())?;
-    match tables::check(table) {
-        Ok(()) => each_action(rt, table),
+fn print_table(rt: &impl Print, words: &[u32]) -> io::Result<()> {
+    println!(rt; "table {}", words.len())?;
+    match Accepted::of(words) {
+        Ok(accepted) => each_action(rt, accepted.table),
         Err(refusal) => rt.println(Refused(refusal)),
     }
 }
