@@ -65,8 +65,8 @@ struct Waiting {
     next: Cell,
 }
 
-// The cell that a word names; the other one where it names none. A branch for each of these words, as a `match` on an `Option` is, was
-// tried: a card of 4,096 cells that names none every second time takes 250 µs with it, and 81 µs without.
+// The cell that a word names; the other one where it names none.
+// No `Option`: its branch for each word was tried, 250 µs for a card of 4,096 cells that names none every second time, and 81 so.
 fn named_or(cell: Cell, other: Cell) -> Cell
     ensures { result.0 ≡ named_or cell.0 other.0 }
 {
