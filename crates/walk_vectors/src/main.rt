@@ -62,6 +62,7 @@ fn first_length(words: &[u32]) -> usize
     games::table_length(games::shape_of(words[0])).min(words.len())
 }
 
+// Each table's head says where the next begins, so no iterator of std cuts the words.
 fn each_table(rt: &impl Print, words: &[u32]) -> io::Result<()> {
     let mut rest = words;
     while !rest.is_empty() {
