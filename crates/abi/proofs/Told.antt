@@ -1,28 +1,25 @@
 -- What the answer words tell: the answer behind them, and what is promised of it.
 -- Assumes nothing.
-use mathlib.Core.Path.{◌≡◌, refl, sym, ap, ◌∙◌, subst}
+use mathlib.Core.Path.{◌≡◌, refl, sym, ap, ap₂, ◌∙◌, subst}
 use mathlib.Core.List.{List}
 use Prim.Native.Nat.{ℕ}
 use native.Mathlib.Omega.{arith}
 use lib.ListN.{take}
 use Rattle.std.specs.Prelude.{Result, Ok, Err}
-use Rattle.std.proofs.Common.{[], ◌∷◌}
 use Rattle.games.specs.Answers.{Leaves, leaves, unless, Checked, Written}
 use Rattle.games.specs.declared.Refusal.{Refusal}
 use Rattle.games.proofs.Reasons.{same_refusal}
-use Rattle.tables.specs.Check.{checked}
 use Rattle.tables.specs.Fields.{fields_of}
 use Rattle.tables.specs.declared.Fields.{Fields}
 use Rattle.lists.specs.Plain.{MaximalOf}
 use Rattle.fields.specs.Read.{read_of}
-use Rattle.fields.specs.Write.{write_of}
 use Rattle.fields.specs.RoundTrip.{ReadsBack}
 use Rattle.fields.proofs.RoundTrip.{read_then_write}
 use Rattle.solver.specs.declared.Verdict.{Verdict}
 use Rattle.solver.specs.declared.Verdict.TheVariants.{Yes, No}
 use Rattle.trimmer.specs.declared.Trimmed.{Trimmed}
 use Rattle.kiss_reader.specs.declared.Extent.{Extent}
-use Rattle.answers.specs.Words.{done, refusal_words, words_of, unit_words, length_words, verdict_words, trimmed_words, extent_words, written_words, check_words}
+use Rattle.answers.specs.Words.{done, refusal_words, words_of, length_words, verdict_words, trimmed_words, extent_words, written_words, check_words}
 use Rattle.abi.specs.Calls.{told, written_again, rewritten, ComesBack, ReadsAs}
 
 -- the words of an answer, with what it left, tell the outcome
@@ -78,12 +75,18 @@ length_tells = record { one = λ x y h. cc; done_first = λ x e h. let z : ◌�
 pub trimmed_tells : Telling trimmed_words
 trimmed_tells = record { one = one; done_first = λ x e h. let z : ◌≡◌ {A = ℕ} 0 2 = cc in omega arith } where
   one : (x y : Trimmed) → trimmed_words x ≡ trimmed_words y → x ≡ y
-  one x y h = let w : x.words ≡ y.words = cc in let c : x.cells ≡ y.cells = cc in cc
+  one x y h =
+      let words : x.words ≡ y.words = cc in
+      let cells : x.cells ≡ y.cells = cc in
+      ap₂ (λ (a b : ℕ). let t : Trimmed = record { words = a; cells = b } in t) words cells
 
 pub read_tells : Telling extent_words
 read_tells = record { one = one; done_first = λ x e h. let z : ◌≡◌ {A = ℕ} 0 2 = cc in omega arith } where
   one : (x y : Extent) → extent_words x ≡ extent_words y → x ≡ y
-  one x y h = let w : x.words ≡ y.words = cc in let c : x.cells ≡ y.cells = cc in cc
+  one x y h =
+      let words : x.words ≡ y.words = cc in
+      let cells : x.cells ≡ y.cells = cc in
+      ap₂ (λ (a b : ℕ). let t : Extent = record { words = a; cells = b } in t) words cells
 
 -- ---- join, meet and write
 
