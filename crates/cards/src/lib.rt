@@ -3,6 +3,7 @@
 
 ghost use Rattle.std.specs.Prelude.{◌≡◌, ◌<◌};
 ghost use Rattle.games.specs.Format.{low_values, number_values, action_values, kind_values, kind_cell};
+ghost use Rattle.games.specs.Kinds.{kind_number};
 ghost use Rattle.games.specs.Fields.{word};
 ghost use Rattle.games.specs.Words.{card_head};
 ghost use Rattle.cards.specs.Card.{head_fits, cell_named, cell_fits, checked};
@@ -12,7 +13,7 @@ ghost use Rattle.cards.specs.Run.{opened, stepped, stands_after, starts, advance
 mod shape;
 mod words;
 
-use games::{Action, Cell, Observation, Reason, Refusal};
+use games::{Action, Cell, Kind, Observation, Reason, Refusal};
 use shape::Draft;
 pub use words::Card;
 
@@ -34,9 +35,9 @@ pub struct Stood {
 }
 
 // The word of a kind that names the cell to go to on an observation.
-pub fn naming(kind: u32, cell: Cell, seen: Observation) -> u32
-    requires { (kind < kind_values) × (cell.0 < low_values) × (seen.0 < number_values) }
-    ensures { result ≡ word kind cell.0 seen.0 0 }
+pub fn naming(kind: Kind, cell: Cell, seen: Observation) -> u32
+    requires { (cell.0 < low_values) × (seen.0 < number_values) }
+    ensures { result ≡ word (kind_number kind) cell.0 seen.0 0 }
 {
     games::word(kind, cell.0, seen.0, 0)
 }
@@ -46,7 +47,7 @@ pub fn picking(set: u32, picked: Action) -> u32
     requires { (set < low_values) × (picked.0 < action_values) }
     ensures { result ≡ word kind_cell set 0 picked.0 }
 {
-    games::word(games::KIND_CELL, set, 0, picked.0)
+    games::word(Kind::Cell, set, 0, picked.0)
 }
 
 // A card's head.
@@ -54,7 +55,7 @@ pub fn heading(cells: u32, o: u32, a: u32) -> u32
     requires { (cells < low_values) × (o < number_values) × (a < action_values) }
     ensures { result ≡ card_head cells o a }
 {
-    games::word(games::KIND_CARD, cells, o, a)
+    games::word(Kind::Card, cells, o, a)
 }
 
 fn head_fits(x: u32) -> bool
@@ -71,9 +72,9 @@ fn head_fits(x: u32) -> bool
 
 // A first or next word, by its kind, for observation j: it names a cell below m, or none. The cell is what the word has above the frame
 // of kind and number, so two comparisons do: a word with another frame is further above it.
-fn cell_named(kind: u32, m: u32, j: u32, x: u32) -> bool
-    requires { (kind < kind_values) × (m < low_values) × (j < number_values) }
-    ensures { result ≡ cell_named kind m j x }
+fn cell_named(kind: Kind, m: u32, j: u32, x: u32) -> bool
+    requires { (m < low_values) × (j < number_values) }
+    ensures { result ≡ cell_named (kind_number kind) m j x }
 {
     let cell = std::num::wrapping_sub_u32(x, games::word(kind, 0, j, 0));
     (cell < m) | (cell == games::NO_CELL)
@@ -84,7 +85,7 @@ fn cell_fits(a: u32, x: u32) -> bool
     requires { a < action_values }
     ensures { result ≡ cell_fits a x }
 {
-    let picked = std::num::wrapping_sub_u32(x, games::word(games::KIND_CELL, 0, 0, 0));
+    let picked = std::num::wrapping_sub_u32(x, games::word(Kind::Cell, 0, 0, 0));
     (picked % games::ACTION_AT < games::MAX_SETS) & (picked < a * games::ACTION_AT)
 }
 

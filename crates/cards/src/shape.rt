@@ -1,12 +1,13 @@
 // The check of a card's words, once its head and its length are right.
 
 ghost use Rattle.std.specs.Prelude.{◌≡◌, ◌+◌, ◌<◌, ◌≤◌, ◌&&◌, length};
-ghost use Rattle.games.specs.Format.{kind_values, kind_next};
+ghost use Rattle.games.specs.Kinds.{kind_number};
+ghost use Rattle.games.specs.Format.{kind_next};
 ghost use Rattle.games.specs.Words.{front_length};
 ghost use Rattle.cards.specs.Card.{card_cells, card_observations, card_actions, words_checked};
 ghost use Rattle.cards.specs.Checking.{Shaped, Pass, FitsBelow, names, RightNames};
 
-use games::{Cell, Reason, Refusal};
+use games::{Cell, Kind, Reason, Refusal};
 
 // Words with the head of a card, and as many as it asks for.
 #[derive(Clone, Copy)]
@@ -36,11 +37,11 @@ impl Draft<'_> {
 
     // Four first or next words (the kind says which) in a row from a place are right, from observation j on. Without a branch between
     // them they are compared at once.
-    fn four_named(self, kind: u32, at: usize, j: u32) -> bool
-        requires { (kind < kind_values) × (j + 4 ≤ card_observations self.words.now)
+    fn four_named(self, kind: Kind, at: usize, j: u32) -> bool
+        requires { (j + 4 ≤ card_observations self.words.now)
             × (at + card_observations self.words.now ≤ length self.words.now) }
-        ensures { result ≡ (names self.entry.words.now kind at j && names self.entry.words.now kind at (j + 1)
-            && names self.entry.words.now kind at (j + 2) && names self.entry.words.now kind at (j + 3)) }
+        ensures { result ≡ (names self.entry.words.now (kind_number kind) at j && names self.entry.words.now (kind_number kind) at (j + 1)
+            && names self.entry.words.now (kind_number kind) at (j + 2) && names self.entry.words.now (kind_number kind) at (j + 3)) }
     {
         let m = self.cells();
         let p = at + j as usize;
@@ -51,9 +52,9 @@ impl Draft<'_> {
     }
 
     // Of the first or next words from a place on, one for each observation, some that are right: as many as go by fours.
-    fn right_fours(self, kind: u32, at: usize) -> u32
-        requires { (kind < kind_values) × (at + card_observations self.words.now ≤ length self.words.now) }
-        ensures { Pass (names self.entry.words.now kind at) (card_observations self.entry.words.now) result }
+    fn right_fours(self, kind: Kind, at: usize) -> u32
+        requires { at + card_observations self.words.now ≤ length self.words.now }
+        ensures { Pass (names self.entry.words.now (kind_number kind) at) (card_observations self.entry.words.now) result }
     {
         let o = self.observations();
         // by itself, so that the compiler asks it once for a card and not for each cell
@@ -69,10 +70,10 @@ impl Draft<'_> {
     }
 
     // How many of them are right before one that is wrong, where those below a number are.
-    fn right_from(self, kind: u32, at: usize, from: u32) -> u32
-        requires { (kind < kind_values) × (at + card_observations self.words.now ≤ length self.words.now)
-            × Pass (names self.words.now kind at) (card_observations self.words.now) from }
-        ensures { RightNames self.entry.words.now kind at (card_observations self.entry.words.now) result }
+    fn right_from(self, kind: Kind, at: usize, from: u32) -> u32
+        requires { (at + card_observations self.words.now ≤ length self.words.now)
+            × Pass (names self.words.now (kind_number kind) at) (card_observations self.words.now) from }
+        ensures { RightNames self.entry.words.now (kind_number kind) at (card_observations self.entry.words.now) result }
     {
         let m = self.cells();
         let o = self.observations();
@@ -89,8 +90,8 @@ impl Draft<'_> {
         requires { at + card_observations self.words.now ≤ length self.words.now }
         ensures { RightNames self.entry.words.now kind_next at (card_observations self.entry.words.now) result }
     {
-        let fours = self.right_fours(games::KIND_NEXT, at);
-        self.right_from(games::KIND_NEXT, at, fours)
+        let fours = self.right_fours(Kind::Next, at);
+        self.right_from(Kind::Next, at, fours)
     }
 
     // The cells' parts, each its own word and its next words: the lowest wrong word stops the check.
@@ -117,7 +118,7 @@ impl Draft<'_> {
     pub fn check(self) -> Result<(), Refusal>
         ensures { result ≡ words_checked self.entry.words.now }
     {
-        let named = self.right_from(games::KIND_FIRST, 1, 0);
+        let named = self.right_from(Kind::First, 1, 0);
         if named < self.observations() {
             return Err(Reason::NoCard.at(1 + named as usize));
         }

@@ -16,3 +16,4 @@ pub mod Winning
 pub mod Tightest
 pub mod Decided
 pub mod Reasons
+pub mod KindNumbers

@@ -12,3 +12,4 @@ pub mod Words
 pub mod Demands
 pub mod Parked
 pub mod Stations
+pub mod Kinds

@@ -9,6 +9,7 @@ ghost use Rattle.games.specs.Fields.{low_field, number_field, action_field, word
 ghost use Rattle.games.specs.Places.{max_place, shape_of, place_at, place_of, parked_words, shown_place, moves_place, table_length};
 ghost use Rattle.games.specs.Words.{front_length, part_length, card_length};
 ghost use Rattle.games.specs.Answers.{number_of};
+ghost use Rattle.games.specs.Kinds.{kind_number};
 
 // Document 01's four columns: state, action, reading and cell numbers. One can't be passed as another.
 #[derive(Clone, Copy, PartialEq, Eq, Debug)]
@@ -129,27 +130,30 @@ pub const HEAD_SPARE_AT: u32 = 1 << 25;
 // The largest cell number says: the observation cannot occur here.
 pub const NO_CELL: u32 = LOW_VALUES - 1;
 
-// The kinds of a table's words: head, start set, bad set, the states that show an observation, the successors of a state, parked states.
-pub const KIND_TABLE: u32 = 1;
+// The kinds of words.
+#[derive(Clone, Copy, PartialEq, Eq, Debug)]
+pub enum Kind {
+    // of a table: head, start set, bad set, the states that show an observation, the successors of a state, parked states
+    Table = 1,
+    Start = 2,
+    Bad = 3,
+    Shown = 4,
+    Move = 5,
+    Parked = 6,
+    // of a card: head, first cell, cell, next cell
+    Card = 8,
+    First = 9,
+    Cell = 10,
+    Next = 11,
+}
 
-pub const KIND_START: u32 = 2;
-
-pub const KIND_BAD: u32 = 3;
-
-pub const KIND_SHOWN: u32 = 4;
-
-pub const KIND_MOVE: u32 = 5;
-
-pub const KIND_PARKED: u32 = 6;
-
-// The kinds of a card's words: head, first cell, cell, next cell.
-pub const KIND_CARD: u32 = 8;
-
-pub const KIND_FIRST: u32 = 9;
-
-pub const KIND_CELL: u32 = 10;
-
-pub const KIND_NEXT: u32 = 11;
+impl Kind {
+    pub fn number(self) -> u32
+        ensures { (result ≡ kind_number self) × (result < kind_values) }
+    {
+        self as u32
+    }
+}
 
 // From 1 up to the limit.
 pub fn within(x: u32, most: u32) -> bool
@@ -176,11 +180,11 @@ pub fn action_field(w: u32) -> u32
     w / ACTION_AT % ACTION_VALUES
 }
 
-pub fn word(kind: u32, low: u32, number: u32, action: u32) -> u32
-    requires { (kind < kind_values) × (low < low_values) × (number < number_values) × (action < action_values) }
-    ensures { result ≡ word_of kind low number action }
+pub fn word(kind: Kind, low: u32, number: u32, action: u32) -> u32
+    requires { (low < low_values) × (number < number_values) × (action < action_values) }
+    ensures { result ≡ word_of (kind_number kind) low number action }
 {
-    kind * KIND_AT + action * ACTION_AT + number * NUMBER_AT + low
+    kind.number() * KIND_AT + action * ACTION_AT + number * NUMBER_AT + low
 }
 
 // The numbers of a table's head: states, actions and observations; and whether it marks parked states.

@@ -4,12 +4,13 @@
 
 ghost use Rattle.std.specs.Prelude.{◌≡◌, ◌+◌, ◌*◌, ◌<◌, ◌≤◌, Ok, length, get_or};
 ghost use Rattle.games.specs.Answers.{leaves};
-ghost use Rattle.games.specs.Format.{max_actions, max_observations, max_cells, number_values, kind_values};
+ghost use Rattle.games.specs.Format.{max_actions, max_observations, max_cells, number_values};
 ghost use Rattle.games.specs.Words.{card_length, card_words};
 ghost use Rattle.cards.specs.Card.{cell_place};
 ghost use Rattle.form.specs.Form.{byte_at};
 ghost use Rattle.kiss.specs.Profile.{blank, state_from, least_input, least_state};
 ghost use Rattle.kiss_reader.specs.Reading.{widths, states, Passed, Told, CountsRead, HeadRead, Held, outputs_by, LineRead, Bounded, comes, EndRead, LinesRead, CardRead};
+ghost use Rattle.games.specs.Kinds.{kind_number};
 ghost use Rattle.kiss_reader.specs.Storing.{most_words, blank_row, slot_kind, stored};
 ghost use Rattle.kiss_reader.specs.Read.{of_card, read_into, Reads};
 
@@ -17,7 +18,7 @@ mod sizes;
 
 use cards::Card;
 use form::{Numeral, Range, Reader};
-use games::{Action, Cell, Observation, Reason, Refusal};
+use games::{Action, Cell, Kind, Observation, Reason, Refusal};
 pub use sizes::Sizes;
 
 // A card that was read: its words and its cells.
@@ -279,9 +280,9 @@ fn read_line(r: &mut Reader, machine: Machine, free: Slot) -> Result<Line, usize
 // ---- the words
 
 // A row of a blank card: its own word, and words that name no cell.
-fn blank_row(kind: u32, own: u32, o: u32, row: &mut [u32])
-    requires { (kind < kind_values) × (o ≤ number_values) × (length row.old ≡ 1 + o) }
-    ensures { row.new ≡ blank_row kind own o }
+fn blank_row(kind: Kind, own: u32, o: u32, row: &mut [u32])
+    requires { (o ≤ number_values) × (length row.old ≡ 1 + o) }
+    ensures { row.new ≡ blank_row (kind_number kind) own o }
 {
     for j in 0..o {
         row[1 + j as usize] = cards::naming(kind, Cell(games::NO_CELL), Observation(j));
@@ -299,21 +300,21 @@ fn write_blank(z: Sizes, words: &mut [u32])
     let part = games::part_length(o);
     let head = cards::heading(z.cells, o, z.actions);
     let own = cards::picking(1, Action(0));
-    blank_row(games::KIND_FIRST, head, o, &mut words[..front]);
+    blank_row(Kind::First, head, o, &mut words[..front]);
     for c in 0..z.cells {
         let at = cards::cell_place(o, Cell(c));
-        blank_row(games::KIND_NEXT, own, o, &mut words[at..at + part]);
+        blank_row(Kind::Next, own, o, &mut words[at..at + part]);
     }
 }
 
 // The kind of a state's words: those of the reset state are first words.
-fn slot_kind(state: u32) -> u32
-    ensures { result ≡ slot_kind state }
+fn slot_kind(state: u32) -> Kind
+    ensures { kind_number result ≡ slot_kind state }
 {
     if state == 0 {
-        return games::KIND_FIRST;
+        return Kind::First;
     }
-    games::KIND_NEXT
+    Kind::Next
 }
 
 // A line in the words: its slot leads to the cell, and the cell is entered.

@@ -13,11 +13,11 @@ ghost use Rattle.tables.specs.Check.{limits_hold, head_right, size_checked, plac
 
 mod words;
 
-use games::{Action, Observation, Place, Reason, Refusal, Shape, State};
+use games::{Action, Kind, Observation, Place, Reason, Refusal, Shape, State};
 pub use words::{Accepted, Table};
 
 // The head's kind in its place, and as it stands above the head's numbers, where the spare bits are 0.
-const HEAD: u32 = games::KIND_TABLE * games::KIND_AT;
+const HEAD: u32 = Kind::Table as u32 * games::KIND_AT;
 
 const HEAD_TOP: u32 = HEAD / games::HEAD_SPARE_AT;
 
@@ -153,11 +153,11 @@ impl Sizes {
         ensures { result ≡ bare_word (place_at self.shape p) }
     {
         match games::place_at(self.shape, p) {
-            Place::Start => games::word(games::KIND_START, 0, 0, 0),
-            Place::Bad => games::word(games::KIND_BAD, 0, 0, 0),
-            Place::Parked => games::word(games::KIND_PARKED, 0, 0, 0),
-            Place::Shown(seen) => games::word(games::KIND_SHOWN, 0, seen.0, 0),
-            Place::Move(a, i) => games::word(games::KIND_MOVE, 0, i.0, a.0),
+            Place::Start => games::word(Kind::Start, 0, 0, 0),
+            Place::Bad => games::word(Kind::Bad, 0, 0, 0),
+            Place::Parked => games::word(Kind::Parked, 0, 0, 0),
+            Place::Shown(seen) => games::word(Kind::Shown, 0, seen.0, 0),
+            Place::Move(a, i) => games::word(Kind::Move, 0, i.0, a.0),
         }
     }
 }

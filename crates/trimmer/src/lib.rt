@@ -6,7 +6,8 @@
 ghost use Rattle.std.specs.Prelude.{◌≡◌, ◌++◌, ◌+◌, ◌<◌, ◌≤◌, length, drop};
 ghost use Rattle.games.specs.Answers.{leaves};
 ghost use Rattle.games.specs.Automaton.{no_cell};
-ghost use Rattle.games.specs.Format.{number_values, kind_values};
+ghost use Rattle.games.specs.Kinds.{kind_number};
+ghost use Rattle.games.specs.Format.{number_values};
 ghost use Rattle.cards.specs.Card.{card_cells, card_observations, automaton};
 ghost use Rattle.trimming.specs.Trim.{trimmed};
 ghost use Rattle.trimmer.specs.Halves.{half_values, lower_half, upper_half, put_lower, put_upper, marked};
@@ -15,7 +16,7 @@ ghost use Rattle.trimmer.specs.Numbering.{Numbered, Renumbering, numbered_as, ne
 ghost use Rattle.trimmer.specs.Trimmer.{kept_cells, by_room, buffers, trimmed_into, Trims};
 
 use cards::Card;
-use games::{Cell, Observation, Reason, Refusal};
+use games::{Cell, Kind, Observation, Reason, Refusal};
 
 // A trimmed card: its words and its cells.
 #[derive(Clone, Copy, PartialEq, Eq, Debug)]
@@ -207,10 +208,10 @@ fn new_name(work: &[u32], cell: Cell) -> Cell
 
 // The front or a part of the trimmed card: its own word, and behind it the card's first or next words (the kind says which) with new
 // numbers.
-fn write_row(names: &[u32], kind: u32, own: u32, work: &[u32], out: &mut [u32])
+fn write_row(names: &[u32], kind: Kind, own: u32, work: &[u32], out: &mut [u32])
     requires { Naming names.now 0 (length names.now) (length work.now) × (length names.now ≤ number_values)
-        × (kind < kind_values) × (length out.old ≡ 1 + length names.now) × (0 < length work.now) }
-    ensures { out.new ≡ row_words names.now 0 (length names.now) kind own work.now }
+        × (length out.old ≡ 1 + length names.now) × (0 < length work.now) }
+    ensures { out.new ≡ row_words names.now 0 (length names.now) (kind_number kind) own work.now }
 {
     for (j, name) in names.iter().enumerate() {
         let new = new_name(work, Cell(games::low_field(*name)));
@@ -232,7 +233,7 @@ fn write_trimmed(card: Card, work: &[u32], kept: u32, out: &mut [u32])
     let words = card.words;
     write_row(
         &words[1..front],
-        games::KIND_FIRST,
+        Kind::First,
         head,
         work,
         &mut out[..front],
@@ -242,7 +243,7 @@ fn write_trimmed(card: Card, work: &[u32], kept: u32, out: &mut [u32])
         let own = words[from];
         let at = cards::cell_place(o, Cell(i));
         let names = &words[from + 1..from + part];
-        write_row(names, games::KIND_NEXT, own, work, &mut out[at..at + part]);
+        write_row(names, Kind::Next, own, work, &mut out[at..at + part]);
     }
 }
 

@@ -7,7 +7,7 @@ ghost use Rattle.families.specs.Bits.{sets as sets_of};
 ghost use Rattle.index.specs.Index.{Noted};
 ghost use Rattle.writing.specs.Writing.{Listed, SettledSet, front_words, set_words};
 
-use games::{Action, Cell, NO_CELL, Observation};
+use games::{Action, Cell, Kind, NO_CELL, Observation};
 use index::Cells;
 use moves::Moves;
 
@@ -33,7 +33,7 @@ impl Settled<'_> {
             let j = Observation(j);
             let held = self.cells.holding(work, table.start_set(j));
             let first = held.unwrap_or(Cell(NO_CELL));
-            out[1 + j.0 as usize] = cards::naming(games::KIND_FIRST, first, j);
+            out[1 + j.0 as usize] = cards::naming(Kind::First, first, j);
         }
         out[0] = cards::heading(count, table.observations(), table.actions());
     }
@@ -57,7 +57,7 @@ impl Settled<'_> {
                 let Some(cell) = self.cells.holding(work, t) else {
                     continue 'actions;
                 };
-                out[1 + j as usize] = cards::naming(games::KIND_NEXT, cell, Observation(j));
+                out[1 + j as usize] = cards::naming(Kind::Next, cell, Observation(j));
             }
             out[0] = cards::picking(s, Action(a));
             return;

@@ -5,7 +5,7 @@ use Rattle.cards.proofs.Passing.{pass_none}
 use Rattle.cards.proofs.shape.Draft.check.Goals as goal
 
 pub right_from-named-requires : goal.right_from-named-requires
-right_from-named-requires c = (omega arith, firsts_in _ c.args.self.shaped, pass_none _ _)
+right_from-named-requires c = (firsts_in _ c.args.self.shaped, pass_none _ _)
 
 pub returns-then-named-observations : goal.returns-then-named-observations
 returns-then-named-observations c =

@@ -1,7 +1,8 @@
 -- Invariant: the words for the observations below j are right; those below the number given are at the start.
+use Rattle.games.specs.Kinds.{kind_number}
 use Rattle.cards.specs.Card.{card_observations}
 use Rattle.cards.specs.Checking.{names, Pass}
 use Rattle.cards.proofs.shape.Draft.right_from.Given as goal
 
 abbrev pub invariant-loop-j : goal.invariant-loop-j
-invariant-loop-j l = Pass (names l.self.words.now l.kind l.at) (card_observations l.self.words.now) l.j
+invariant-loop-j l = Pass (names l.self.words.now (kind_number l.kind) l.at) (card_observations l.self.words.now) l.j
