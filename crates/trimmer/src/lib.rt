@@ -231,13 +231,7 @@ fn write_trimmed(card: Card, work: &[u32], kept: u32, out: &mut [u32])
     let part = games::part_length(o);
     let head = cards::heading(kept, o, card.actions());
     let words = card.words;
-    write_row(
-        &words[1..front],
-        Kind::First,
-        head,
-        work,
-        &mut out[..front],
-    );
+    write_row(&words[1..front], Kind::First, head, work, &mut out[..front]);
     for i in 0..kept {
         let from = card.cell_place(Cell(upper(work, i as usize)));
         let own = words[from];

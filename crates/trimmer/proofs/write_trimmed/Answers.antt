@@ -84,7 +84,6 @@ write_row-requires c =
     let some_work : 0 < length c.args.work.now = omega (arith, c.requires.0.size, fits.some_cell) in (
       firsts_row words fine _ _ o_is work_long (front - 1) many_is,
       omega (arith, long_row, o_is, fits.observations),
-      omega arith,
       omega (arith, length-take-le front room front_fits, long_row, c.front_length-front.ensures),
       some_work,
     )
@@ -193,7 +192,6 @@ write_row-requires-in-loop-i c =
     let long_row = row_long words (from + 1) o (from + part - (from + 1)) many_is (nexts_naming words fine _ _ o_is work_long c.upper.result from inside place).within in (
       nexts_row words fine _ _ o_is work_long c.upper.result from inside place (from + part - (from + 1)) many_is,
       omega (arith, long_row, o_is, fits.observations),
-      omega arith,
       omega (arith, carded_part seen many parts _ c.loop-i.i c.loop-i.out c.loop-i.invariant more _ _ at_is part_length_is, long_row, o_is),
       some_work,
     )

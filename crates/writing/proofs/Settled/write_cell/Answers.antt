@@ -1,4 +1,3 @@
-use borrow.Author.Rules.{rules}
 use mathlib.Core.Bool.{true}
 use mathlib.Core.List.{List}
 use mathlib.Core.Path.{◌≡◌, refl, sym, ap, ◌∙◌, subst}
@@ -124,7 +123,7 @@ naming-requires c =
     ∙ settled_held played fine listed c.args.self.listed.are part below in
     let named : (settled played shows ≡ true) × (c.in-Some-holding.cell.0 ≡ holding listed part) = let w = by_holding listed part c.holding.result c.holding.ensures.0 c.in-Some-holding.cell c.in-Some-holding.is in
     (held ∙ w.0, w.1) in
-    (search rules, subst (λ (x : ℕ). x < low_values) (sym named.1) (holding_small _ _ c.args.self.cells.indexed.cells_few), omega (arith, there, c.actions.invariant.0.observations_are, c.actions.invariant.0.observations_few))
+    (subst (λ (x : ℕ). x < low_values) (sym named.1) (holding_small _ _ c.args.self.cells.indexed.cells_few), omega (arith, there, c.actions.invariant.0.observations_are, c.actions.invariant.0.observations_few))
 
 pub bounds-out-j : goal.bounds-out-j
 bounds-out-j c = omega (arith, c.loop-j.invariant.2.size, c.loop-j-test.true)

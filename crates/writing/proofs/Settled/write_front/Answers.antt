@@ -1,4 +1,3 @@
-use borrow.Author.Rules.{rules}
 use mathlib.Core.List.{List}
 use mathlib.Core.Path.{◌≡◌, refl, sym, ap, ◌∙◌, subst}
 use Prim.Native.Nat.{ℕ, ◌+◌, ◌<◌}
@@ -48,7 +47,7 @@ naming-requires c =
     let played : Game = game c.args.self.moves.accepted.table.words.now in
     let listed : List ℕ = sets_of c.args.self.cells.tops.now in
     let first_cell : c.unwrap_or-first.result.0 ≡ holding listed (start_set played c.loop-j.j) = ap (λ (x : Cell). x.0) c.unwrap_or-first.ensures ∙ ap named c.holding-held.ensures.0 ∙ named_holding listed c.start_set.result ∙ ap (holding listed) c.start_set.ensures in
-    (search rules, subst (λ (x : ℕ). x < low_values) (sym first_cell) (holding_small _ _ c.args.self.cells.indexed.cells_few), omega (arith, e, few_observations c.args.self.moves.accepted.table.words.now c.args.self.moves.accepted.table.sized, c.loop-j-test.true))
+    (subst (λ (x : ℕ). x < low_values) (sym first_cell) (holding_small _ _ c.args.self.cells.indexed.cells_few), omega (arith, e, few_observations c.args.self.moves.accepted.table.words.now c.args.self.moves.accepted.table.sized, c.loop-j-test.true))
 
 pub bounds-out-j : goal.bounds-out-j
 bounds-out-j c = omega (arith, c.loop-j.invariant.0.size)
