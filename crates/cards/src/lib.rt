@@ -2,7 +2,7 @@
 #![tactic(auto)]
 
 ghost use Rattle.std.specs.Prelude.{◌≡◌, ◌<◌};
-ghost use Rattle.games.specs.Format.{low_values, number_values, action_values, kind_values, kind_cell};
+ghost use Rattle.games.specs.Format.{low_values, number_values, action_values, kind_cell};
 ghost use Rattle.games.specs.Kinds.{kind_number};
 ghost use Rattle.games.specs.Fields.{word};
 ghost use Rattle.games.specs.Words.{card_head};

@@ -1,12 +1,12 @@
 // The settled cells as they are searched: the tightest cell that holds a set of states.
 #![tactic(auto)]
 
-ghost use Rattle.std.specs.Prelude.{◌≡◌, true, ℕ, ◌+◌, ◌/◌, ◌<◌, ◌≤◌, ◌^◌, length, get_or, replicate};
+ghost use Rattle.std.specs.Prelude.{◌≡◌, true, ℕ, ◌+◌, ◌/◌, ◌<◌, ◌^◌, length, get_or, replicate};
 ghost use Rattle.sets.specs.Mask.{member};
 ghost use Rattle.sets.specs.Family.{holds};
 ghost use Rattle.families.specs.Bits.{lane_sets, sets};
 ghost use Rattle.games.specs.Format.{max_states};
-ghost use Rattle.index.specs.Index.{held_by, mask_count, mask_has, Masks, Room, Noted, Layers, Fits, lowest_in, told, Searched, TightestSet, Index};
+ghost use Rattle.index.specs.Index.{held_by, mask_count, mask_has, Masks, Room, Noted, Layers, Fits, lowest_in, told, TightestSet, Index};
 
 use families::{LANE_SETS, LANE_STATES};
 use games::{Cell, MAX_STATES, NO_CELL};

@@ -4,7 +4,7 @@
 
 ghost use Rattle.std.specs.Prelude.{◌≡◌, ◌+◌, ◌*◌, ◌<◌, ◌≤◌, Ok, length, get_or};
 ghost use Rattle.games.specs.Answers.{leaves};
-ghost use Rattle.games.specs.Format.{max_actions, max_observations, max_cells, number_values};
+ghost use Rattle.games.specs.Format.{max_cells, number_values};
 ghost use Rattle.games.specs.Words.{card_length, card_words};
 ghost use Rattle.cards.specs.Card.{cell_place};
 ghost use Rattle.form.specs.Form.{byte_at};
@@ -290,7 +290,8 @@ fn blank_row(kind: Kind, own: u32, o: u32, row: &mut [u32])
     row[0] = own;
 }
 
-// The card of a machine of which nothing is said: no slot leads to a cell, and no cell is entered, so that its set is not empty.
+// The card of a machine of which nothing is said: no slot leads to a cell, and no cell is entered, so that its set is not empty. Sizes and
+// words stay two here and below: in a struct that lends the words each clause would have to say that the reference stays.
 fn write_blank(z: Sizes, words: &mut [u32])
     requires { length words.old ≡ card_length z.cells z.observations }
     ensures { words.new ≡ card_words (blank z.cells) z.actions z.observations }

@@ -1,5 +1,5 @@
 // The sizes of a machine that a card can hold.
-ghost use Rattle.std.specs.Prelude.{◌≡◌, ◌^◌, ◌≤◌};
+ghost use Rattle.std.specs.Prelude.{◌≡◌, ◌≤◌};
 ghost use Rattle.games.specs.Format.{max_actions, max_observations, max_cells};
 ghost use Rattle.kiss.specs.Text.{bits};
 ghost use Rattle.kiss_reader.specs.Sizing.{Sized};

@@ -19,7 +19,7 @@ const HALF_WORDS: usize = HALF_SETS as usize;
 // The words of one of the two tables: a half for each action.
 const SIDE_WORDS: usize = games::MAX_ACTIONS as usize * HALF_WORDS;
 
-// Above every mask: it stands for the successors where the action is not enabled.
+// Above every mask: it stands for the successors where the action is not enabled. A number, so that two table words are united at once.
 const BLOCKED: u32 = games::LOW_VALUES;
 
 // The first entries again behind them, united with the successors of one state more.

@@ -120,6 +120,7 @@ fn try_run(card: Card, seen: &[u32]) -> Ran
 {
     let mut cell: Option<Cell> = None;
     for (i, j) in seen.iter().enumerate() {
+        // `map_err` with `?` was tried: what its closure answers is then known by a name of the kit's own alone
         match move_from(card, cell, Observation(*j)) {
             Err(refusal) => return Err(Stopped { refusal, taken: i }),
             Ok(entered) => cell = Some(entered.cell),

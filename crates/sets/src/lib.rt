@@ -44,7 +44,7 @@ pub fn without(s: u32, i: u32) -> u32
     if member(s, i) { s - single(i) } else { s }
 }
 
-// Sets the first `end` places to v.
+// Sets the first `end` places to v. A name of its own for the slice's method, since what entries leave of their work is stated by it.
 pub fn fill(d: &mut [u32], end: usize, v: u32)
     requires { end ≤ length d.old }
     ensures { d.new ≡ filled end v d.old }

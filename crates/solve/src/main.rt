@@ -13,6 +13,7 @@ use cards::Card;
 use games::Reason;
 use solver::Verdict;
 use std::io::{self, Read};
+use tables::Table;
 use text::Writer;
 
 // The most bytes that are taken for a table.
@@ -53,7 +54,7 @@ fn report(table: &[u32], work: &mut [u32], card: &mut [u32], out: &mut Writer)
         Err(refusal) => printout::put_refused(out, refusal),
         Ok(Verdict::No(round)) => printout::put_no(out, round),
         Ok(Verdict::Yes(settled, cells)) => {
-            let length = games::card_length(cells, tables::observations(table));
+            let length = games::card_length(cells, Table { words: table }.observations());
             printout::put_yes(out, settled, cells);
             printout::put_card(
                 out,
@@ -102,7 +103,8 @@ fn with_read(done: usize, read: io::Result<usize>) -> io::Result<usize>
     Ok(done + read?)
 }
 
-// Reads until the buffer is full, the input ends or a read fails. The answer is how many bytes were read.
+// Reads until the buffer is full, the input ends or a read fails. The answer is how many bytes were read. A loop by hand: std's
+// `read_to_end` needs a heap, and `read_exact` fails where the input ends.
 fn read_input(reader: &mut impl Read, bytes: &mut [u8]) -> io::Result<usize>
     ensures { Counts (length bytes.new) result }
 {

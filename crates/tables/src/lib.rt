@@ -2,13 +2,11 @@
 #![tactic(auto)]
 
 ghost use Rattle.std.specs.Prelude.{◌≡◌, ◌<◌, ◌+◌, ◌*◌, ◌≤◌, length};
-ghost use Rattle.sets.specs.Bounded.{filled_by};
 ghost use Rattle.games.specs.Format.{max_observations};
-ghost use Rattle.games.specs.Places.{place_at, place_of, table_length, Within, Limited};
-ghost use Rattle.games.specs.Verdict.{start_sets, start_set};
-ghost use Rattle.games.specs.Words.{mask_at, game};
-ghost use Rattle.tables.specs.Layout.{shape_in, head_word, bare_word, Sized};
-ghost use Rattle.tables.specs.Fields.{fields_shape, masks_from, fields_of, game_of};
+ghost use Rattle.games.specs.Places.{place_at, place_of, table_length, Limited};
+ghost use Rattle.games.specs.Words.{game};
+ghost use Rattle.tables.specs.Layout.{head_word, bare_word};
+ghost use Rattle.tables.specs.Fields.{fields_shape, game_of};
 ghost use Rattle.tables.specs.Check.{limits_hold, head_right, size_checked, placed, faulty, words_checked, unseen, sets_checked, parked_checked, departs_from, parked_from, checked};
 
 mod words;
@@ -57,75 +55,6 @@ fn check_size(table: &[u32]) -> Result<(), Refusal>
         return Err(Reason::BadLength.at(words));
     }
     Ok(())
-}
-
-// Readers of words that are known to be sized: `Table` has them as methods.
-pub fn states(table: &[u32]) -> u32
-    requires { Sized table.now }
-    ensures { result ≡ (game table.now).states }
-{
-    Table { words: table }.states()
-}
-
-pub fn actions(table: &[u32]) -> u32
-    requires { Sized table.now }
-    ensures { result ≡ (game table.now).actions }
-{
-    Table { words: table }.actions()
-}
-
-pub fn observations(table: &[u32]) -> u32
-    requires { Sized table.now }
-    ensures { result ≡ (game table.now).observations }
-{
-    Table { words: table }.observations()
-}
-
-pub fn bad(table: &[u32]) -> u32
-    requires { Sized table.now }
-    ensures { result ≡ (game table.now).bad }
-{
-    Table { words: table }.bad()
-}
-
-// The parked states; none where the table doesn't mark them.
-pub fn parked(table: &[u32]) -> u32
-    requires { Sized table.now }
-    ensures { result ≡ (game table.now).parked }
-{
-    Table { words: table }.parked()
-}
-
-// The states that show the observation.
-pub fn shown(table: &[u32], seen: Observation) -> u32
-    requires { Sized table.now × (seen.0 < (game table.now).observations) }
-    ensures { result ≡ (game table.now).shown seen.0 }
-{
-    Table { words: table }.shown(seen)
-}
-
-// The successors that the action gives the state.
-pub fn successors(table: &[u32], a: Action, i: State) -> u32
-    requires { Sized table.now × (a.0 < (game table.now).actions) × (i.0 < (game table.now).states) }
-    ensures { result ≡ (game table.now).successors a.0 i.0 }
-{
-    Table { words: table }.successors(a, i)
-}
-
-// How many sets there are before the first action.
-pub fn start_sets(table: &[u32]) -> u32
-    requires { Sized table.now }
-    ensures { result ≡ start_sets (game table.now) }
-{
-    Table { words: table }.start_sets()
-}
-
-// One of these sets: the start states that show the observation.
-pub fn start_set(table: &[u32], seen: Observation) -> u32
-    requires { Sized table.now × (seen.0 < start_sets (game table.now)) }
-    ensures { result ≡ start_set (game table.now) seen.0 }
-{
-    Table { words: table }.start_set(seen)
 }
 
 // Numbers within the limits.

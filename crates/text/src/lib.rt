@@ -1,14 +1,14 @@
 // Text as bytes: a writer into a lent buffer, and readers that answer the place behind what they read.
 #![tactic(auto)]
 
-ghost use Rattle.std.specs.Prelude.{◌≡◌, [], ◌∷◌, ◌+◌, ◌≤◌, ◌<◌, length, drop, IfOk, IfSome, IfNone};
+ghost use Rattle.std.specs.Prelude.{◌≡◌, [], ◌∷◌, ◌+◌, ◌≤◌, ◌<◌, length, IfOk, IfSome, IfNone};
 ghost use Rattle.text.specs.Text.{room};
 ghost use Rattle.text.specs.Puts.{Puts};
 ghost use Rattle.text.specs.Decimal.{decimal, digit_at};
-ghost use Rattle.text.specs.Read.{matched, misplaced as is_misplaced, number_of, skipped, read_decimal};
+ghost use Rattle.text.specs.Read.{misplaced as is_misplaced, skipped, read_decimal};
 
 // A lent buffer, and the place where writing goes on. Past the buffer's end nothing is stored, but the place moves on all the same: a text is
-// measured by writing it into a buffer of one byte.
+// measured by writing it into a buffer of one byte. That the place stays a number (`room`) is asked at each call, of the bytes that it writes.
 #[derive(Drop)]
 pub struct Writer<'b> {
     out: &'b mut [u8],

@@ -162,6 +162,7 @@ pub fn mark_reached(card: Card, work: &mut [u32]) -> usize
     let o = card.observations() as usize;
     let mut waiting = mark_firsts(card, work);
     let mut taken: usize = 0;
+    // no index is counted: a cell that is taken up may let others wait
     while 0 < waiting.cells {
         let cell = waiting.next;
         let at = card.cell_place(cell) + 1;
@@ -241,7 +242,7 @@ fn write_trimmed(card: Card, work: &[u32], kept: u32, out: &mut [u32])
     }
 }
 
-// A card as it is, at the front of its room.
+// A card as it is, at the front of its room: the slice's method, with the clause that the answers are stated by.
 pub fn copy_card(card: &[u32], out: &mut [u32])
     requires { length card.now ≤ length out.old }
     ensures { out.new ≡ card.now ++ drop (length card.now) out.old }

@@ -25,8 +25,8 @@ returns-in-Ok-No c = (
   omega (arith, c.requires.1, c.put_no.ensures.1),
 )
 
-pub observations-requires : goal.observations-requires
-observations-requires c = sized c.args.table.now (given c.args.table.now _ _ _ _ _ c.solve.ensures.determined _ _ (rw c.in-Ok-Yes.field-0-is at c.in-Ok-Yes.is)).fine
+pub invariant_of-observations : goal.invariant_of-observations
+invariant_of-observations c = record { sized = sized c.args.table.now (given c.args.table.now _ _ _ _ _ c.solve.ensures.determined _ _ (rw c.in-Ok-Yes.field-0-is at c.in-Ok-Yes.is)).fine }
 
 pub card_length-length-requires : goal.card_length-length-requires
 card_length-length-requires c =
