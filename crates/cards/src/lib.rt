@@ -7,7 +7,7 @@ ghost use Rattle.games.specs.Kinds.{kind_number};
 ghost use Rattle.games.specs.Fields.{word};
 ghost use Rattle.games.specs.Words.{card_head};
 ghost use Rattle.cards.specs.Card.{head_fits, cell_named, cell_fits, checked};
-ghost use Rattle.cards.specs.Card.{card_cells, card_observations, cell_place};
+ghost use Rattle.cards.specs.Card.{cell_place};
 ghost use Rattle.cards.specs.Run.{opened, stepped, stands_after, starts, advances};
 
 mod shape;
@@ -113,21 +113,6 @@ pub fn cell_place(o: u32, cell: Cell) -> usize
     ensures { result ≡ cell_place o cell.0 }
 {
     games::card_length(cell.0, o)
-}
-
-// What the words of a checked card say: the numbers of its head,
-pub fn cells(card: &[u32]) -> u32
-    requires { checked card.now ≡ Ok tt }
-    ensures { result ≡ card_cells card.now }
-{
-    games::low_field(card[0])
-}
-
-pub fn observations(card: &[u32]) -> u32
-    requires { checked card.now ≡ Ok tt }
-    ensures { result ≡ card_observations card.now }
-{
-    games::number_field(card[0])
 }
 
 // Document 01's opening of a card with the first observation.
