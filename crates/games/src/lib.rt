@@ -12,6 +12,7 @@ ghost use Rattle.games.specs.Answers.{number_of};
 ghost use Rattle.games.specs.Kinds.{kind_number};
 
 // Document 01's four columns: state, action, reading and cell numbers. One can't be passed as another.
+// That a number lies below its table's or card's count is a fact on two values, so it stands in clauses and not in the type.
 #[derive(Clone, Copy, PartialEq, Eq, Debug)]
 pub struct State(pub u32);
 
