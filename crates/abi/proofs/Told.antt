@@ -17,9 +17,10 @@ use Rattle.fields.specs.RoundTrip.{ReadsBack}
 use Rattle.fields.proofs.RoundTrip.{read_then_write}
 use Rattle.solver.specs.declared.Verdict.{Verdict}
 use Rattle.solver.specs.declared.Verdict.TheVariants.{Yes, No}
+use Rattle.trimmer.specs.Trimmer.{Answer as TrimAnswer}
 use Rattle.trimmer.specs.declared.Trimmed.{Trimmed}
 use Rattle.kiss_reader.specs.declared.Extent.{Extent}
-use Rattle.answers.specs.Words.{done, refusal_words, words_of, length_words, verdict_words, trimmed_words, extent_words, written_words, check_words}
+use Rattle.answers.specs.Words.{done, refusal_words, words_of, length_words, verdict_words, trimmed_words, trim_words, extent_words, written_words, check_words}
 use Rattle.abi.specs.Calls.{told, written_again, rewritten, ComesBack, ReadsAs}
 
 -- the words of an answer, with what it left, tell the outcome
@@ -87,6 +88,10 @@ read_tells = record { one = one; done_first = λ x e h. let z : ◌≡◌ {A = �
       let words : x.words ≡ y.words = cc in
       let cells : x.cells ≡ y.cells = cc in
       ap₂ (λ (a b : ℕ). let t : Extent = record { words = a; cells = b } in t) words cells
+
+-- as of the trimmer's answers
+pub same_trim : (r s : TrimAnswer) → trim_words r ≡ trim_words s → r ≡ s
+same_trim = same_answer trimmed_words trimmed_tells
 
 -- ---- join, meet and write
 

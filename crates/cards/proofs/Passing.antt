@@ -1,8 +1,8 @@
 -- A test of n places in their order, for a loop over them and for a loop over a row of them.
 -- Assumes nothing.
-use Rattle.std.proofs.Common.{◌≡◌, ℕ, zero, suc, ◌+◌, ◌-◌, ◌<◌, ◌≤◌, Bool, true, false, not, ltb, ◌∙◌, subst, ⊎_elim, arith, ltb-false, ltb-true}
+use Rattle.std.proofs.Common.{◌≡◌, ℕ, zero, suc, ◌+◌, ◌-◌, ◌<◌, ◌≤◌, Bool, true, false, not, ◌&&◌, ltb, ◌∙◌, subst, ⊎_elim, arith, ltb-false, ltb-true}
 use Rattle.sets.specs.Bounded.{nothing, found, first}
-use Rattle.sets.proofs.Logic.{decided, true_not, false_not}
+use Rattle.sets.proofs.Logic.{decided, and_four, true_not, false_not}
 use Rattle.sets.proofs.Bounded.{first_is, first_none}
 use Rattle.cards.specs.Checking.{Pass, FirstWrong}
 
@@ -27,6 +27,15 @@ module _ (test : ℕ → Bool) (n : ℕ) where
   -- one more
   pub pass_more : (p : ℕ) → Pass test n p → p < n → test p ≡ true → Pass test n (p + 1)
   pass_more p h l e = pass_on p 1 h (omega arith) (λ i b. let z : p ≡ p + i = omega arith in subst (λ (q : ℕ). test q ≡ true) z e)
+
+  -- four more
+  pub pass_four : (p : ℕ) → Pass test n p → p + 4 ≤ n → (test p && test (p + 1) && test (p + 2) && test (p + 3)) ≡ true → Pass test n (p + 4)
+  pass_four p h room e =
+      let f = and_four (test p) (test (p + 1)) (test (p + 2)) (test (p + 3)) e in
+      let one = pass_more p h (omega arith) f.0 in
+      let two = subst (Pass test n) (let z : p + 1 + 1 ≡ p + 2 = omega arith in z) (pass_more (p + 1) one (omega arith) f.1) in
+      let three = subst (Pass test n) (let z : p + 2 + 1 ≡ p + 3 = omega arith in z) (pass_more (p + 2) two (omega arith) f.2) in
+      subst (Pass test n) (let z : p + 3 + 1 ≡ p + 4 = omega arith in z) (pass_more (p + 3) three (omega arith) f.3)
 
   -- the loop ends
   pub pass_end : (p : ℕ) → Pass test n p → (p < n → test p ≡ false) → FirstWrong test n p

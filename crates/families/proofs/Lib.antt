@@ -6,3 +6,4 @@ pub mod Words
 pub mod Inserting
 pub mod Lowering
 pub mod Closing
+pub mod HoldingSets

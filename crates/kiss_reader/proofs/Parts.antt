@@ -148,5 +148,8 @@ sized a o m i u sa la so lo sm lm bi wi bu wu =
       output_enough = omega (arith, pu, bits_enough a la);
     }
 
+pub kind_first_lem : (q : ℕ) → q ≡ 0 → kind_first ≡ slot_kind q
+kind_first_lem q e = sym (ap (λ (b : Bool). cond b kind_first kind_next) (eq-eqb q 0 e))
+
 pub kind_next_lem : (q : ℕ) → (q ≡ 0 → ⊥) → kind_next ≡ slot_kind q
 kind_next_lem q n = sym (ap (λ (b : Bool). cond b kind_first kind_next) (ne_eqb q 0 n))

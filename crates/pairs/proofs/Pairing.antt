@@ -16,11 +16,22 @@ use Rattle.cards.specs.Card.{card_cells, card_actions, card_observations, automa
 use Rattle.cards.proofs.Checked.{fitting}
 use Rattle.cards.proofs.Running.{size_of}
 use Rattle.pairs.specs.Pair.{agree, checked, Paired}
+use Rattle.games.specs.declared.Refusal.{Refusal}
 use Rattle.games.specs.declared.Reason.TheVariants as reason
 use Rattle.std.specs.Prelude.{Ok, Err}
 
 module _ (w k : List ℕ) where
+  -- the table checks come first
+  pub table_stops : (e : Refusal) → table_checked w ≡ Err e → Err e ≡ checked w k
+  unfolding checked
+  table_stops e h = rw h
+
   module _ (table : table_checked w ≡ Ok tt) where
+    -- then 13
+    pub card_stops : (e : Refusal) → card_checked k ≡ Err e → Err e ≡ checked w k
+    unfolding checked
+    card_stops e h = rw (table, h)
+
     -- then 16
     pub differ : card_checked k ≡ Ok tt → agree w k ≡ false → refused reason.Disagree 0 ≡ checked w k
     unfolding checked

@@ -31,6 +31,10 @@ use Rattle.std.specs.Prelude.{Ok, Err}
 
 module _ (w k : List ℕ) (c : ℕ) where
   -- the check of both comes first
+  pub pair_refused : (e : Refusal) → checked w k ≡ Err e → Err e ≡ found w k c
+  unfolding found
+  pair_refused e h = rw h
+
   pub pair_fine : checked w k ≡ Ok tt → located w k c ≡ found w k c
   unfolding found
   pair_fine e = rw e

@@ -22,6 +22,7 @@ use Rattle.words.specs.Bytes.{words_of}
 use Rattle.solve.specs.Program.{input_bytes, buffer_words, blank, card_in, table_text, program_text, Counts, reply_to, reply_text}
 use Rattle.solve.specs.declared.Stream.TheVariants.{Output, Errors}
 use Rattle.games.specs.declared.Refusal.{Refusal}
+use Rattle.solver.specs.declared.Verdict.TheVariants.{Yes, No}
 use Rattle.games.specs.Answers.{number_of}
 use Rattle.std.specs.Prelude.{Result, Ok, Err}
 
@@ -71,6 +72,12 @@ module _ (w work card : List ℕ) (r : Answer) (left d : List ℕ) (e : leaves r
 
 pub same_text : {v w work card : List ℕ} → v ≡ w → work ≡ blank → card ≡ blank → table_text v work card ≡ table_text w blank blank
 same_text e f g = rw (e, f, g)
+
+-- the answer is a yes, a no or a refusal
+pub no_fourth : (r : Answer) → ((t m : ℕ) → r ≡ says_yes t m → ⊥) → ((k : ℕ) → r ≡ says_no k → ⊥) → ((e : Refusal) → r ≡ Err e → ⊥) → ⊥
+no_fourth (Ok (Yes t m)) a b c = a t m refl
+no_fourth (Ok (No k)) a b c = b k refl
+no_fourth (Err e) a b c = c e refl
 
 -- a card in a room of so many words has numbers that its head can hold
 pub card_fits : (m o p n : ℕ) → p ≡ o → o ≤ max_observations → n ≡ buffer_words → card_length m o ≤ n → (m ≤ low_values) × (p < number_values)
