@@ -1,7 +1,7 @@
 // Families of sets of states as bits, 64 sets to a machine word (lane).
 #![tactic(auto)]
 
-ghost use Rattle.std.specs.Prelude.{◌≡◌, Bool, not, ◌++◌, ℕ, ◌+◌, ◌*◌, ◌/◌, ◌^◌, ◌≤◌, ◌<◌, eqb, length, get_or, take, drop, replicate};
+ghost use Rattle.std.specs.Prelude.{◌≡◌, Bool, not, ◌++◌, ℕ, ◌+◌, ◌*◌, ◌/◌, ◌^◌, ◌≤◌, ◌<◌, eqb, length, get_or, drop, replicate};
 ghost use Rattle.sets.specs.Mask.{member, union, subset};
 ghost use Rattle.sets.specs.Bounded.{any, count as count_of, select};
 ghost use Rattle.sets.specs.Family.{listed, holds, maximal};
@@ -145,7 +145,7 @@ pub fn larger(bits: &[u64], lane: usize) -> u64
 }
 
 // What this lane and the lanes with one state more have, united: no lane is tested for a state.
-pub fn own_or_larger(bits: &[u64], lane: usize) -> u64
+fn own_or_larger(bits: &[u64], lane: usize) -> u64
     requires { lane < length bits.now }
     ensures { (t : ℕ) → member result t ≡ own_or_larger bits.now lane t }
 {

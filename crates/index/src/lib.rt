@@ -18,6 +18,7 @@ pub const LAYERS: usize = MAX_STATES as usize + 1;
 pub const MASKS: usize = LANE_SETS as usize + LANE_STATES as usize + 1;
 
 // The cells in front of the work, and from `base` on a note for each set: at a cell's set one more than its number, else 0.
+// (No `Option<Cell>`: the lent work is fixed memory, of words; 0 is none.)
 pub fn note_cells(tops: &[u64], base: usize, work: &mut [u32]) -> usize
     requires { Room tops.now base work.old }
     ensures { (result ≡ length (sets tops.now)) × Noted tops.now base work.new }
@@ -77,6 +78,7 @@ pub struct Cells<'a> {
     pub layers: &'a [u64],
     pub masks: &'a [u64],
     // where the notes begin: there is one for each set of the game's states
+    // (No slice of their own: cells and notes share the lent work, whose length is the caller's.)
     pub base: usize,
     pub ghost indexed: { Index family.now tops.now layers.now masks.now },
 }
@@ -88,6 +90,7 @@ impl Cells<'_> {
         ensures { result ≡ told (lowest_in self.entry.tops.now lanes above k) }
     {
         let mut rest = lanes;
+        // (No range: each turn takes the lowest bit off, and no index is counted.)
         while rest != 0 {
             let x = u64::trailing_zeros(rest);
             let lane = x as usize;
@@ -122,6 +125,7 @@ impl Cells<'_> {
 
     // The cell that holds t, `NO_CELL` where t has no state; none where no cell's set holds it. What is found is noted, since few sets
     // are asked for often; a set that is not in the family is in no cell.
+    // (Two kinds of none: `None` is a set that no cell holds; `NO_CELL` is the empty set, which asks for no cell, as the card's word says so.)
     pub fn holding(self, work: &mut [u32], t: u32) -> Option<Cell>
         requires { Noted self.tops.now self.base work.old × (t / lane_sets < length self.tops.now)
             × (t < self.base) }

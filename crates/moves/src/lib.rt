@@ -49,6 +49,7 @@ fn fill_half(table: Table, a: Action, first: u32, count: u32, half: &mut [u32])
     let mut size: usize = 1;
     for i in 0..count {
         double(half, size, mark(table, a, State(first + i)));
+        // (No index: the filled front doubles with each state.)
         size = size + size;
     }
 }

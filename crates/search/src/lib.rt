@@ -19,23 +19,94 @@ use tables::{Accepted, Table};
 // The place of the last set of a lane.
 const LAST: u32 = LANE_SETS - 1;
 
-// For every observation, the states of u that show it form a set of the family. Where u itself is one, they do: they are its subsets.
-fn shown_in(accepted: Accepted, family: &[u64], u: u32) -> bool
-    requires { Stage (game accepted.table.words.now) family.now
-        × (u < 2 ^ (game accepted.table.words.now).states) }
-    ensures { result ≡ shown_in (game accepted.entry.table.words.now) (is_in family.now) u }
-{
-    let table = accepted.table;
-    if families::has(family, u) {
-        return true;
+// An accepted table's moves, and a family that the step is applied to.
+#[derive(Clone, Copy)]
+struct Round<'a> {
+    moves: Moves<'a>,
+    family: &'a [u64],
+    ghost stage: { Stage (game moves.accepted.table.words.now) family.now },
+}
+
+impl Round<'_> {
+    // For every observation, the states of u that show it form a set of the family. Where u itself is one, they do: they are its subsets.
+    fn shown_in(self, u: u32) -> bool
+        requires { u < 2 ^ (game self.moves.accepted.table.words.now).states }
+        ensures { result ≡ shown_in (game self.entry.moves.accepted.table.words.now) (is_in self.entry.family.now) u }
+    {
+        let table = self.moves.accepted.table;
+        if families::has(self.family, u) {
+            return true;
+        }
+        for j in 0..table.observations() {
+            let t = u & table.shown(Observation(j));
+            if !families::has(self.family, t) {
+                return false;
+            }
+        }
+        true
     }
-    for j in 0..table.observations() {
-        let t = u & table.shown(Observation(j));
-        if !families::has(family, t) {
+
+    // The action is enabled at all members of s, and leads to sets of the family.
+    fn action_meets(self, s: u32, a: Action) -> bool
+        requires { (s < 2 ^ (game self.moves.accepted.table.words.now).states)
+            × (a.0 < (game self.moves.accepted.table.words.now).actions) }
+        ensures { result ≡ meets (game self.entry.moves.accepted.table.words.now) (is_in self.entry.family.now) s a.0 }
+    {
+        let Some(u) = self.moves.post(s, a) else {
+            return false;
+        };
+        self.shown_in(u)
+    }
+
+    // The step: a set with no bad state for which one action meets it.
+    fn meets_step(self, s: u32) -> bool
+        requires { s < 2 ^ (game self.moves.accepted.table.words.now).states }
+        ensures { result ≡ step (game self.entry.moves.accepted.table.words.now) (is_in self.entry.family.now) s }
+    {
+        if s & self.moves.accepted.table.bad() != 0 {
             return false;
         }
+        for a in 0..self.moves.accepted.table.actions() {
+            if self.action_meets(s, Action(a)) {
+                return true;
+            }
+        }
+        false
     }
-    true
+
+    // The step on the sets of one lane, from the largest down: a set that meets it settles its subsets. `covered` are subsets of sets found in other lanes.
+    fn pass_lane(self, lane: u32, covered: u64) -> u64
+        requires { (lane < length self.family.now)
+            × Sound (game self.moves.accepted.table.words.now) (is_in self.family.now) lane covered }
+        ensures { Passed (game self.entry.moves.accepted.table.words.now) (is_in self.entry.family.now) lane result }
+    {
+        let mut found = covered;
+        let mut left = self.family[lane as usize] & !covered;
+        // (No range: the highest set that is left is taken off, with its subsets where it meets the step; no index is counted.)
+        while left != 0 {
+            let h = LAST - u64::leading_zeros(left);
+            if self.meets_step(lane * LANE_SETS + h) {
+                let below = families::subsets(h);
+                found = found | below;
+                left = left & !below;
+            } else {
+                left = left - (1u64 << h);
+            }
+        }
+        found
+    }
+
+    // One application of the step: the sets that meet it, into `next`.
+    fn pass(self, next: &mut [u64])
+        requires { length next.old ≡ length self.family.now }
+        ensures { Bits (game self.entry.moves.accepted.table.words.now).states
+            (step (game self.entry.moves.accepted.table.words.now) (is_in self.entry.family.now)) next.new }
+    {
+        for lane in (0..self.family.len()).rev() {
+            let covered = families::larger(next, lane);
+            next[lane] = self.pass_lane(lane as u32, covered);
+        }
+    }
 }
 
 // Every start set is in the family.
@@ -50,67 +121,6 @@ fn starts_in(accepted: Accepted, family: &[u64]) -> bool
         }
     }
     true
-}
-
-// The action is enabled at all members of s, and leads to sets of the family.
-fn action_meets(moves: Moves, family: &[u64], s: u32, a: Action) -> bool
-    requires { Stage (game moves.accepted.table.words.now) family.now × (s < 2 ^ (game moves.accepted.table.words.now).states)
-        × (a.0 < (game moves.accepted.table.words.now).actions) }
-    ensures { result ≡ meets (game moves.entry.accepted.table.words.now) (is_in family.now) s a.0 }
-{
-    let Some(u) = moves.post(s, a) else {
-        return false;
-    };
-    shown_in(moves.accepted, family, u)
-}
-
-// The step: a set with no bad state for which one action meets it.
-fn meets_step(moves: Moves, family: &[u64], s: u32) -> bool
-    requires { Stage (game moves.accepted.table.words.now) family.now × (s < 2 ^ (game moves.accepted.table.words.now).states) }
-    ensures { result ≡ step (game moves.entry.accepted.table.words.now) (is_in family.now) s }
-{
-    if s & moves.accepted.table.bad() != 0 {
-        return false;
-    }
-    for a in 0..moves.accepted.table.actions() {
-        if action_meets(moves, family, s, Action(a)) {
-            return true;
-        }
-    }
-    false
-}
-
-// The step on the sets of one lane, from the largest down: a set that meets it settles its subsets. `covered` are subsets of sets found in other lanes.
-fn pass_lane(moves: Moves, family: &[u64], lane: u32, covered: u64) -> u64
-    requires { Stage (game moves.accepted.table.words.now) family.now × (lane < length family.now)
-        × Sound (game moves.accepted.table.words.now) (is_in family.now) lane covered }
-    ensures { Passed (game moves.entry.accepted.table.words.now) (is_in family.now) lane result }
-{
-    let mut found = covered;
-    let mut left = family[lane as usize] & !covered;
-    while left != 0 {
-        let h = LAST - u64::leading_zeros(left);
-        if meets_step(moves, family, lane * LANE_SETS + h) {
-            let below = families::subsets(h);
-            found = found | below;
-            left = left & !below;
-        } else {
-            left = left - (1u64 << h);
-        }
-    }
-    found
-}
-
-// One application of the step: the sets that meet it, into `next`.
-fn pass(moves: Moves, family: &[u64], next: &mut [u64])
-    requires { Stage (game moves.accepted.table.words.now) family.now × (length next.old ≡ length family.now) }
-    ensures { Bits (game moves.entry.accepted.table.words.now).states
-        (step (game moves.entry.accepted.table.words.now) (is_in family.now)) next.new }
-{
-    for lane in (0..family.len()).rev() {
-        let covered = families::larger(next, lane);
-        next[lane] = pass_lane(moves, family, lane as u32, covered);
-    }
 }
 
 // The state is not bad, and the action is enabled in it.
@@ -167,7 +177,7 @@ fn settle(moves: Moves, family: &mut [u64], next: &mut [u64]) -> Ended
     // (No range: how many rounds there are is what is sought.)
     let mut k: u32 = 1;
     loop {
-        pass(moves, family, next);
+        Round { moves, family }.pass(next);
         let round = k + 1;
         if !starts_in(moves.accepted, next) {
             return Ended::Lost(round);

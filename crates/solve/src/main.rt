@@ -3,7 +3,7 @@
 #![tactic(auto)]
 
 ghost use Rattle.std.specs.Prelude.{◌≡◌, ◌+◌, ◌*◌, ◌/◌, ◌%◌, ◌^◌, ◌≤◌, ◌<◌, length, Ok, Err, IfOk, IfErr};
-ghost use Rattle.text.specs.Text.{room, Wrote};
+ghost use Rattle.text.specs.Text.{Wrote};
 ghost use Rattle.text.specs.Puts.{Puts};
 ghost use Rattle.words.specs.Bytes.{words_of};
 ghost use Rattle.solve.specs.Program.{input_bytes, buffer_words, blank, text_bytes, table_text, program_text};

@@ -27,6 +27,7 @@ fn set_count(n: u32) -> usize
 }
 
 // The verdict on a table: yes with the settling count and the number of cells, no with the round number.
+// (No Result: neither answer is an error, and no Option: both have numbers.)
 #[derive(Clone, Copy, PartialEq, Eq, Debug)]
 pub enum Verdict {
     Yes(u32, u32),

@@ -50,6 +50,7 @@ pub fn walk(table: Table, s: u32, a: Action) -> Walked
     let mut rest = s % sets::single(table.states());
     let mut u: u32 = 0;
     let mut looked: u32 = 0;
+    // (No range: each turn takes the lowest bit off, and no index is counted; `looked` counts members.)
     while rest != 0 {
         let i = State(u32::trailing_zeros(rest));
         let Some(v) = move_from(table, a, i) else {

@@ -17,11 +17,14 @@ use Rattle.search.proofs.settle.Goals as goal
 pub loop-k-init : goal.loop-k-init
 loop-k-init c = (few_sets c.args.moves.accepted.table.words.now c.args.moves.accepted.table.sized, c.requires.1, λ j. omega (arith, c.type_inv.family j), c.requires.0)
 
-pub pass-requires : goal.pass-requires
-pass-requires c =
+pub invariant_of-pass : goal.invariant_of-pass
+invariant_of-pass c =
     let played : Game = game c.args.moves.accepted.table.words.now in
     let fine : Accepted played = accepted c.args.moves.accepted.table.words.now c.args.moves.accepted.checked in
-    (good_stage played fine c.loop-k.k c.loop-k.family c.loop-k.invariant.3.family, c.loop-k.invariant.1)
+    record { stage = good_stage played fine c.loop-k.k c.loop-k.family c.loop-k.invariant.3.family }
+
+pub pass-requires : goal.pass-requires
+pass-requires c = c.loop-k.invariant.1
 
 pub overflow_add-round : goal.overflow_add-round
 overflow_add-round c =
