@@ -28,6 +28,7 @@ pub struct Entered {
 pub type Move = Result<Entered, Refusal>;
 
 // The cell that a runner is in, and its last answer.
+// Both stand there: a refused opening still leaves a runner, in no cell.
 #[derive(Clone, Copy)]
 pub struct Stood {
     pub cell: Cell,

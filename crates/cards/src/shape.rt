@@ -69,7 +69,8 @@ impl Draft<'_> {
         o - o % 4
     }
 
-    // How many of them are right before one that is wrong, where those below a number are.
+    // How many of them are right before one that is wrong, where those below a number are; all, where none is wrong. It is a count and
+    // no `Option`: the count is the place of the refusal.
     fn right_from(self, kind: Kind, at: usize, from: u32) -> u32
         requires { (at + card_observations self.words.now ≤ length self.words.now)
             × Pass (names self.words.now (kind_number kind) at) (card_observations self.words.now) from }
@@ -85,7 +86,7 @@ impl Draft<'_> {
         o
     }
 
-    // The same for the next words of a part, by fours first.
+    // The same count for the next words of a part, by fours first.
     fn right_nexts(self, at: usize) -> u32
         requires { at + card_observations self.words.now ≤ length self.words.now }
         ensures { RightNames self.entry.words.now kind_next at (card_observations self.entry.words.now) result }

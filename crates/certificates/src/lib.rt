@@ -31,7 +31,8 @@ fn lie(card: Card, s: u32, cell: Option<Cell>) -> bool
     }
 }
 
-// How many first words hold, in their order, before one that doesn't.
+// How many first words hold, in their order, before one that doesn't; all, where none is wrong. It is a count and no `Option`, here and
+// in the next two: the count is the place of the refusal.
 fn firsts_hold(pair: Pair) -> u32
     ensures { FirstWrong (first_holds (game pair.entry.table.table.words.now) (automaton pair.entry.card.words.now))
         (card_observations pair.entry.card.words.now) result }
@@ -54,7 +55,8 @@ fn set_fits(table: Table, s: u32) -> bool
     (s < sets::single(table.states())) & (sets::common(s, table.bad()) == 0)
 }
 
-// What a set comes to under an action: by the half tables where there are any, else by one walk over its members.
+// What a set comes to under an action: by the half tables where there are any, else by one walk over its members. That the moves, where
+// there are any, are the table's (`Halves`) is a fact on two values, so it is a clause.
 fn post(table: Table, moves: Option<Moves>, s: u32, a: Action) -> Option<u32>
     requires { Halves table.words.now moves
         × (s < 2 ^ (game table.words.now).states) × (a.0 < (game table.words.now).actions) }

@@ -17,14 +17,15 @@ pub struct Numeral {
     ghost few: { power ≤ 100000 },
 }
 
-// The least and the most that a number can be.
+// The least and the most that a number can be. The library's `RangeInclusive` is not Copy.
 #[derive(Clone, Copy)]
 pub struct Range {
     pub least: u32,
     pub most: u32,
 }
 
-// A place in a text: what comes next.
+// A place in a text: what comes next. Where reading is refused, the error is the place alone, a `usize`: why is always that the text
+// departs from its form.
 #[derive(Clone, Copy)]
 pub struct Reader<'t> {
     pub text: &'t [u8],
@@ -40,7 +41,7 @@ pub fn byte_at(text: &[u8], at: usize) -> Option<u8>
     text.get(at).copied()
 }
 
-// What a byte says as a digit.
+// What a byte says as a digit. By hand: its clause says which byte is which digit; the library's parsing says nothing of a byte.
 fn digit(b: u8, base: u32) -> Option<u32>
     requires { base ≤ 10 }
     ensures { Digit base b result }

@@ -42,7 +42,7 @@ pub struct Head {
     pub states: u32,
 }
 
-// A state and an observation.
+// A state and an observation. A state is a number, 0 for the reset state: states are ordered with it first, as in the text.
 #[derive(Clone, Copy)]
 pub struct Slot {
     pub state: u32,

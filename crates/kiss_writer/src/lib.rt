@@ -34,6 +34,7 @@ const HEAD_BYTES: usize = 57;
 const END_BYTES: usize = 3;
 
 // A number of so many digits; the first may be as high as 9, whatever the base.
+// By hand: its clause says each byte, also past the room, and the width is fixed; `Display` says nothing of these.
 fn put_digits<const BASE: u32, const WIDTH: u32>(out: &mut Writer, x: u32)
     requires base { (2 ≤ BASE) × (BASE ≤ 10) }
     requires width { (1 ≤ WIDTH) × (BASE ^ (WIDTH - 1) < 2 ^ 32) }
@@ -62,7 +63,8 @@ fn put_bits(out: &mut Writer, width: u32, x: u32)
     }
 }
 
-// The name of a cell; of a state, which is number 0 for the reset state and number 1 + c for cell c.
+// The name of a cell; of a state, which is number 0 for the reset state and number 1 + c for cell c. A state is a number and no
+// `Option<Cell>`: states are ordered with the reset state first, as in the text.
 fn put_cell(out: &mut Writer, cell: Cell)
     requires { (cell.0 < max_cells) × (out.old.at + cell_bytes < room) }
     ensures { Puts (cell_name cell.0) out.old out.new × (out.new.at ≤ out.old.at + cell_bytes) }

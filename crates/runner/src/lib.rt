@@ -10,7 +10,8 @@ ghost use Rattle.runner.specs.Runs.{standing, move_from, ran_up_to, with_actions
 use cards::{Card, Move, Stood};
 use games::{Cell, Observation, Reason, Refusal};
 
-// Its cell is a number, 65,535 for none: the C interface gives it, and a step from it is refused by it.
+// Its cell is a number, 65,535 for none: a refused opening still hands out a runner, whose words may be no card. A step from it is
+// refused by its number.
 #[derive(Clone, Copy)]
 pub struct Runner<'c> {
     pub card: &'c [u32],
@@ -18,6 +19,7 @@ pub struct Runner<'c> {
 }
 
 // A runner with the answer to its opening.
+// Both stand there: a refused opening still leaves a runner, in no cell.
 #[derive(Clone, Copy)]
 pub struct Opened<'c> {
     pub runner: Runner<'c>,
@@ -120,7 +122,7 @@ fn try_run(card: Card, seen: &[u32]) -> Ran
 {
     let mut cell: Option<Cell> = None;
     for (i, j) in seen.iter().enumerate() {
-        // `map_err` with `?` was tried: what its closure answers is then known by a name of the kit's own alone
+        // `map_err` with `?` was tried, and the proof did not close: what the closure answers is known by a name of the kit's own alone
         match move_from(card, cell, Observation(*j)) {
             Err(refusal) => return Err(Stopped { refusal, taken: i }),
             Ok(entered) => cell = Some(entered.cell),

@@ -8,7 +8,8 @@ ghost use Rattle.text.specs.Decimal.{decimal, digit_at};
 ghost use Rattle.text.specs.Read.{misplaced as is_misplaced, skipped, read_decimal};
 
 // A lent buffer, and the place where writing goes on. Past the buffer's end nothing is stored, but the place moves on all the same: a text is
-// measured by writing it into a buffer of one byte. That the place stays a number (`room`) is asked at each call, of the bytes that it writes.
+// measured by writing it into a buffer of one byte. That the place stays a number (`room`) is asked at each call, of the bytes that it writes:
+// no type has it, for each call writes another number of bytes.
 #[derive(Drop)]
 pub struct Writer<'b> {
     out: &'b mut [u8],
@@ -53,7 +54,8 @@ impl<'b> Writer<'b> {
         }
     }
 
-    // Writes n in decimal: at most 20 bytes.
+    // Writes n in decimal: at most 20 bytes. By hand, as is reading below: the clauses say each byte, also past the room; `Display` says
+    // nothing of these.
     pub fn put_decimal(&mut self, n: u64)
         requires { self.old.at + 20 < room }
         ensures { Puts (decimal n) self.old self.new × (self.new.at ≤ self.old.at + 20) }
@@ -85,7 +87,7 @@ pub fn skip(text: &[u8], at: usize, s: &[u8]) -> Result<usize, Wrong>
     Ok(at + s.len())
 }
 
-// The digit at a place.
+// The digit at a place. By hand, with `misplaced`: the clauses say which byte is wrong.
 fn digit_at(text: &[u8], i: usize) -> Option<u64>
     ensures some { IfSome result (λ d. (d ≡ digit_at text.now i) × (d ≤ 9)) }
     ensures none { IfNone result (9 < digit_at text.now i) }

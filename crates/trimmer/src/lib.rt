@@ -178,6 +178,7 @@ fn number(work: &mut [u32])
     requires { length work.old ≤ half_values }
     ensures { Numbered (length work.old) (marked work.old) work.new }
 {
+    // it counts what is marked, and is no index of the loop
     let mut kept: usize = 0;
     for c in 0..work.len() {
         if 0 < lower(work, c) {
@@ -188,7 +189,7 @@ fn number(work: &mut [u32])
     }
 }
 
-// A cell's new number; no cell stays none.
+// A cell's new number; no cell stays none. No `Option`, as in `named_or`: no branch.
 fn numbered(cell: Cell, number: u32) -> Cell
     ensures { result.0 ≡ numbered_as cell.0 number }
 {
