@@ -144,7 +144,6 @@ impl Narrow {
         let f = self.bounded.fields;
         let moves = MoveWords {
             words: &f.moves,
-            base: 0,
             sizes: self.bounded.sizes(),
             parked: f.parked,
         };

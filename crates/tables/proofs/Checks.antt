@@ -106,6 +106,10 @@ module _ (g : Game) where
 
 -- ---- 19
 
+-- the moves stand at the front of the words that are lent
+pub from_front : (p : ℕ) → 0 + p ≡ p
+from_front p = omega arith
+
 -- as the code asks it
 module _ (w : List ℕ) (base : ℕ) (s : Shape) (parked : ℕ) where
   module _ (i : ℕ) where

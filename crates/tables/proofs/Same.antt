@@ -3,9 +3,11 @@
 use mathlib.Core.Path.{◌≡◌, refl, sym, ap, ap₂, ◌∙◌, subst}
 use mathlib.Core.Bool.{Bool, cond, not, ◌&&◌}
 use mathlib.Core.List.{List}
-use Prim.Native.Nat.{ℕ, ◌+◌, ◌*◌, ◌/◌, ◌%◌, ◌<◌}
+use Prim.Native.Nat.{ℕ, ◌+◌, ◌-◌, ◌*◌, ◌/◌, ◌%◌, ◌<◌, ◌≤◌}
+use native.Mathlib.Omega.{arith}
 use lib.Dec.{eqb}
-use lib.ListN.{get_or, replicate}
+use lib.ListN.{length, take, drop, get_or, replicate}
+use Rattle.std.proofs.lemmas.List.{take_rest, length-drop, get_or-drop}
 use Rattle.sets.specs.Mask.{member}
 use Rattle.sets.specs.Bounded.{any, first, Found, at_found}
 use Rattle.sets.proofs.Bounded.{any_ext, first_ext}
@@ -20,12 +22,12 @@ use Rattle.games.specs.Answers.{refused}
 use Rattle.games.specs.declared.Place.{Place}
 use Rattle.games.specs.declared.Place.TheVariants.{Start, Bad, Parked, Shown, Move}
 use Rattle.games.proofs.Limits.{slot_below}
-use Rattle.games.proofs.Places.{move_slot, move_at}
+use Rattle.games.proofs.Places.{move_slot, move_at, moves_row}
 use Rattle.tables.specs.Layout.{shape_in, Sized}
 use Rattle.tables.specs.Check.{unseen, sets_checked, departs, parked_checked, parked_from}
 use Rattle.tables.specs.Fields.{fields_shape, fields_of, field_at, game_of}
 use Rattle.tables.specs.declared.Fields.{Fields}
-use Rattle.tables.proofs.Checks.{by_words}
+use Rattle.tables.proofs.Checks.{from_front, by_words}
 use Rattle.games.specs.declared.Reason.TheVariants as reason
 use Rattle.std.specs.Prelude.{Ok}
 
@@ -88,11 +90,26 @@ module _ (w : List ℕ) (f : Fields) (read : f ≡ fields_of w) where
   pub fields_sets : sets_checked (game_of f) ≡ sets_checked (game w)
   fields_sets = ap (λ (k : Fields). sets_checked (game_of k)) read ∙ sets_same w
 
--- the table's move words are its moves
-pub table_parked : (w : List ℕ) (base parked : ℕ) (s : Shape) → base ≡ place_of (shape_in w) (move 0 0) → s ≡ shape_in w → parked ≡ (game w).parked → parked_from w base s parked ≡ parked_checked (game w)
-unfolding game
-table_parked w base parked s at same ended =
-    ap₂ (λ (b : ℕ) (t : Shape). parked_from w b t parked) at same
-    ∙ ap (parked_from w (place_of (shape_in w) (move 0 0)) (shape_in w)) ended
-    ∙ by_words (game w) w (place_of (shape_in w) (move 0 0)) (shape_in w) refl refl
-    (λ a i l m. ap (λ (p : ℕ). low_field (get_or w p 0)) (move_at (shape_in w) a i))
+-- the table's move words are its moves; they are lent from the first on
+module _ (w : List ℕ) (at : ℕ) (s : Shape) (first_move : at ≡ place_of (shape_in w) (move 0 0)) (same : s ≡ shape_in w) where
+  abbrev lent : List ℕ
+  lent = take (length w - at) (drop at w)
+
+  -- they are all there
+  pub moves_lent : Sized w → s.actions * s.states ≤ length lent
+  moves_lent h =
+      let long : length lent ≡ length w - at = ap length (take_rest w at) ∙ length-drop at w in
+      rw (long, first_move, same) (omega (arith, moves_row (shape_in w), h.long))
+
+  move_lent : (p : ℕ) → low_field (get_or lent (0 + p) 0) ≡ low_field (get_or w (place_of (shape_in w) (move 0 0) + p) 0)
+  move_lent p =
+      ap (λ (l : List ℕ). low_field (get_or l (0 + p) 0)) (take_rest w at)
+      ∙ ap low_field (get_or-drop at w (0 + p) 0)
+      ∙ ap₂ (λ (b i : ℕ). low_field (get_or w (b + i) 0)) first_move (from_front p)
+
+  pub table_parked : (parked : ℕ) → parked ≡ (game w).parked → parked_from lent 0 s parked ≡ parked_checked (game w)
+  unfolding game
+  table_parked parked ended =
+      ap (parked_from lent 0 s) ended
+      ∙ by_words (game w) lent 0 s (ap (λ (t : Shape). t.states) same) (ap (λ (t : Shape). t.actions) same)
+      (λ a i l m. move_lent (a * s.states + i) ∙ ap (λ (t : Shape). low_field (get_or w (place_of (shape_in w) (move 0 0) + (a * t.states + i)) 0)) same ∙ ap (λ (p : ℕ). low_field (get_or w p 0)) (move_at (shape_in w) a i))

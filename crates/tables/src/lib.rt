@@ -11,7 +11,7 @@ ghost use Rattle.tables.specs.Check.{limits_hold, head_right, size_checked, plac
 
 mod words;
 
-use games::{Action, Kind, Observation, Place, Reason, Refusal, Shape, State};
+use games::{Action, Kind, Place, Reason, Refusal, Shape, State};
 pub use words::{Accepted, Table};
 
 // The head's kind in its place, and as it stands above the head's numbers, where the spare bits are 0.
@@ -130,8 +130,7 @@ fn check_departures(table: Table) -> Result<(), Refusal>
     ensures { result ≡ parked_checked (game table.entry.words.now) }
 {
     let moves = MoveWords {
-        words: table.words,
-        base: table.place_in(Place::Move(Action(0), State(0))),
+        words: &table.words[table.place_in(Place::Move(Action(0), State(0)))..],
         sizes: table.sizes(),
         parked: table.parked(),
     };
@@ -159,6 +158,7 @@ pub struct Fields {
     pub start: u32,
     pub bad: u32,
     pub marked: bool,
+    // two numbers and no `Option`: the exported writer is handed both, and refusal 11 is about the pair
     pub parked: u32,
     pub shown: [u32; SHOWN_SLOTS],
     // at action · states + state
@@ -208,28 +208,27 @@ impl Fields {
     }
 }
 
-// The moves of a table, as they stand in its words from a place on, and its parked states. The words may be masks without a kind.
+// The moves of a table, the first at the front of the words, and its parked states. The words may be masks without a kind.
 #[derive(Clone, Copy)]
 pub struct MoveWords<'w> {
     pub words: &'w [u32],
-    pub base: usize,
     pub sizes: Sizes,
     pub parked: u32,
-    pub ghost inside: { base + sizes.shape.actions * sizes.shape.states ≤ length words.now },
+    pub ghost inside: { sizes.shape.actions * sizes.shape.states ≤ length words.now },
 }
 
 impl MoveWords<'_> {
     // State i is parked, and has a successor under some action.
     fn departs(self, i: State) -> bool
         requires { i.0 < self.sizes.shape.states }
-        ensures { let m = self.entry in result ≡ departs_from m.words.now m.base m.sizes.shape m.parked i.0 }
+        ensures { let m = self.entry in result ≡ departs_from m.words.now 0 m.sizes.shape m.parked i.0 }
     {
         if !sets::member(self.parked, i.0) {
             return false;
         }
         let s = self.sizes.shape;
         for a in 0..s.actions {
-            if games::low_field(self.words[self.base + (a * s.states + i.0) as usize]) != 0 {
+            if games::low_field(self.words[(a * s.states + i.0) as usize]) != 0 {
                 return true;
             }
         }
@@ -238,7 +237,7 @@ impl MoveWords<'_> {
 
     // Refusal 19: no parked state has a successor.
     pub fn check(self) -> Result<(), Refusal>
-        ensures { let m = self.entry in result ≡ parked_from m.words.now m.base m.sizes.shape m.parked }
+        ensures { let m = self.entry in result ≡ parked_from m.words.now 0 m.sizes.shape m.parked }
     {
         for i in 0..self.sizes.shape.states {
             if self.departs(State(i)) {

@@ -9,4 +9,4 @@ use Rattle.games.specs.Fields.{low_field}
 use Rattle.tables.proofs.MoveWords.departs.Given as goal
 
 abbrev pub invariant-loop-a : goal.invariant-loop-a
-invariant-loop-a l = any l.a (λ b. not (eqb (low_field (get_or l.self.words.now (l.self.base + (b * l.self.sizes.shape.states + l.i.0)) 0)) 0)) ≡ false
+invariant-loop-a l = any l.a (λ b. not (eqb (low_field (get_or l.self.words.now (0 + (b * l.self.sizes.shape.states + l.i.0)) 0)) 0)) ≡ false
