@@ -76,8 +76,8 @@ head_within c r x go =
     let k = taken (head three) (byte_at c.text.now) c.at (x.actions ∷ x.observations ∷ x.states ∷ []) (go three) in
     head_limited k.text x k.has
 
-pub head_read : (c r : Reader) (x : Head) → ((next : ℕ → ℕ → ℕ → Form) → runs (head next) c ≡ runs (next x.actions x.observations x.states) r) → HeadRead c r (Ok x)
-head_read c r x go = record { limited = head_within c r x go; goes = go }
+pub head_read : (c r : Reader) (x : Head) → r.text.now ≡ c.text.now → ((next : ℕ → ℕ → ℕ → Form) → runs (head next) c ≡ runs (next x.actions x.observations x.states) r) → HeadRead c r (Ok x)
+head_read c r x same go = record { same = same; limited = head_within c r x go; goes = go }
 
 -- ---- the name of a state
 

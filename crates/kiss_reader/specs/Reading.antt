@@ -24,10 +24,12 @@ use Rattle.kiss_reader.specs.declared.Line.{Line}
 
 -- from c to r a part is read that says nothing
 pub record Passed (c r : Reader) (part : Form → Form) (e : Result (Unit {0}) ℕ) : Type 0 where
+  pub same : r.text.now ≡ c.text.now
   pub goes : (next : Form) → runs (part next) c ≡ behind e (λ _. runs next r)
 
 -- from c to r a part is read that says a number
 pub record Told (c r : Reader) (part : (ℕ → Form) → Form) (most : ℕ) (e : Result ℕ ℕ) : Type 0 where
+  pub same : r.text.now ≡ c.text.now
   pub bounded : IfOk e (λ v. v ≤ most)
   pub goes : (next : ℕ → Form) → runs (part next) c ≡ behind e (λ v. runs (next v) r)
 
@@ -43,6 +45,7 @@ unfoldable pub states : (ℕ → Form) → Form
 states next = word (bytes "\n.s ") (number 10 5 2 (max_cells + 1) (λ s. word (bytes "\n.r reset\n") (next s)))
 
 pub record CountsRead (c r : Reader) (e : Result Counts ℕ) : Type 0 where
+  pub same : r.text.now ≡ c.text.now
   pub actions : IfOk e (λ x. x.actions ≤ max_actions)
   pub observations : IfOk e (λ x. x.observations ≤ max_observations)
   pub goes : (next : ℕ → ℕ → Form) → runs (counts next) c ≡ behind e (λ x. runs (next x.actions x.observations) r)
@@ -57,6 +60,7 @@ pub record Limited (r : Head) : Type 0 where
   pub states : r.states ≤ max_cells + 1
 
 pub record HeadRead (c r : Reader) (e : Result Head ℕ) : Type 0 where
+  pub same : r.text.now ≡ c.text.now
   pub limited : IfOk e Limited
   pub goes : (next : ℕ → ℕ → ℕ → Form) → runs (head next) c ≡ behind e (λ x. runs (next x.actions x.observations x.states) r)
 
@@ -104,6 +108,7 @@ outputs_by a x = cond (eqb (low_field x) 0) (record { least = action_field x; mo
 
 -- a line is read, from the lowest free slot on
 pub record LineRead (c r : Reader) (z : Sizes) (free : Slot) (w : List ℕ) (e : Result Line ℕ) : Type 0 where
+  pub same : r.text.now ≡ c.text.now
   pub bounded : IfOk e (Bounded z)
   pub goes : (B : Automaton) → Says z B w → (next : ℕ → ℕ → ℕ → ℕ → Form)
       → runs (line z.actions z.observations B free.state free.observation next) c

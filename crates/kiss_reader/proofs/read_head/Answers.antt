@@ -14,20 +14,20 @@ pub returns-in_err-counts : goal.returns-in_err-counts
 unfolding head counts widths states
 returns-in_err-counts c =
     let p = err_from_is_err_and c.from_residual.result c.from_residual.ensures.1 in
-    rw (p.1, p.2) (record { limited = tt; goes = λ next. c.in_err-counts.ensures.goes _ })
+    rw (p.1, p.2) (record { same = c.in_err-counts.ensures.same; limited = tt; goes = λ next. c.in_err-counts.ensures.goes _ })
 
 pub returns-in_err-read_widths : goal.returns-in_err-read_widths
 unfolding head counts widths states
 returns-in_err-read_widths c =
     let p = err_from_is_err_and c.from_residual-in_err-read_widths.result c.from_residual-in_err-read_widths.ensures.1 in
-    rw (p.1, p.2) (record { limited = tt; goes = λ next. c.in_ok-counts.ensures.goes _ ∙ (rw (c.bits.ensures, c.bits-2.ensures) at c.in_err-read_widths.ensures.goes) _ })
+    rw (p.1, p.2) (record { same = c.in_err-read_widths.ensures.same ∙ c.in_ok-counts.ensures.same; limited = tt; goes = λ next. c.in_ok-counts.ensures.goes _ ∙ (rw (c.bits.ensures, c.bits-2.ensures) at c.in_err-read_widths.ensures.goes) _ })
 
 pub returns-in_err-states : goal.returns-in_err-states
 unfolding head counts widths states
 returns-in_err-states c =
     let p = err_from_is_err_and c.from_residual-in_err-states.result c.from_residual-in_err-states.ensures.1 in
-    rw (p.1, p.2) (record { limited = tt; goes = λ next. c.in_ok-counts.ensures.goes _ ∙ (rw (c.bits.ensures, c.bits-2.ensures) at c.in_ok-read_widths.ensures.goes) _ ∙ c.in_err-states.ensures.goes _ })
+    rw (p.1, p.2) (record { same = c.in_err-states.ensures.same ∙ c.in_ok-read_widths.ensures.same ∙ c.in_ok-counts.ensures.same; limited = tt; goes = λ next. c.in_ok-counts.ensures.goes _ ∙ (rw (c.bits.ensures, c.bits-2.ensures) at c.in_ok-read_widths.ensures.goes) _ ∙ c.in_err-states.ensures.goes _ })
 
 pub returns : goal.returns
 unfolding head counts widths states
-returns c = head_read _ _ _ (λ next. c.in_ok-counts.ensures.goes _ ∙ (rw (c.bits.ensures, c.bits-2.ensures) at c.in_ok-read_widths.ensures.goes) _ ∙ c.in_ok-states.ensures.goes _)
+returns c = head_read _ _ _ (c.in_ok-states.ensures.same ∙ c.in_ok-read_widths.ensures.same ∙ c.in_ok-counts.ensures.same) (λ next. c.in_ok-counts.ensures.goes _ ∙ (rw (c.bits.ensures, c.bits-2.ensures) at c.in_ok-read_widths.ensures.goes) _ ∙ c.in_ok-states.ensures.goes _)
