@@ -417,6 +417,7 @@ pub fn read(text: &[u8], out: &mut [u32]) -> Result<Extent, Refusal>
     ensures promised { Reads text.now result out.new }
 {
     let mut words = [0u32; MOST_WORDS];
+    // `map_err` with `?` was tried, and its proof did not close in the time it had: the closure's answer is told by a name of the kit's own
     match read_card(text, &mut words) {
         Ok(need) => {
             let words = &words[..need];
