@@ -2,7 +2,7 @@
 use cards::{Entered, Stood};
 use games::{Cell, Observation};
 use rows::print::{self, Told};
-use rows::stations::{A_CARD, C_CARD, Change, changed};
+use rows::stations::{A_CARD, C_CARD, Change, changed, each_changed};
 use std::fmt::{self, Display};
 use std::io;
 
@@ -62,18 +62,14 @@ fn whole(rt: &impl Print) -> io::Result<()> {
     check(rt, "A and a word", &long)
 }
 
-// A's card with one word changed.
-fn check_changed(rt: &impl Print, changes: &[Change]) -> io::Result<()> {
-    for change in changes {
-        let card = changed(A_CARD, &[*change]);
-        check(rt, format_args!("A with {change}"), &card)?;
-    }
-    Ok(())
+// A's card with each of the words changed alone.
+fn check_each_changed(rt: &impl Print, changes: &[Change]) -> io::Result<()> {
+    each_changed("A", A_CARD, changes, |name, card| check(rt, name, card))
 }
 
 // The head's numbers just inside and just outside; where the head is right, the length or a word may be wrong.
 fn heads(rt: &impl Print) -> io::Result<()> {
-    check_changed(
+    check_each_changed(
         rt,
         &[
             Change(0, 0x80210003),
@@ -97,7 +93,7 @@ fn heads(rt: &impl Print) -> io::Result<()> {
 }
 
 fn words(rt: &impl Print) -> io::Result<()> {
-    check_changed(
+    check_each_changed(
         rt,
         &[
             Change(1, 0x9000FFFF),

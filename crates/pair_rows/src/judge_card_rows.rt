@@ -2,7 +2,7 @@
 // cell 1 is {1} and doses.
 use rows::print::{self, Word};
 use rows::stations::{self, A, A_CARD, C, C_CARD, Change, F_CARD, GUARD, STATES_12_CARD, changed};
-use std::fmt::Display;
+use std::fmt::{self, Display};
 use std::io;
 
 pub fn judge(
@@ -15,51 +15,43 @@ pub fn judge(
     println!(rt; "judge card {name}: {answer}")
 }
 
-// One word of the card changed.
+// The name of a table and a card, and the words that are changed in the card: A with its card, 9000FFFF at 1.
+#[derive(Clone, Copy)]
+struct Pair<'a>(&'a str, &'a [Change]);
+
+impl Display for Pair<'_> {
+    fn fmt<W: fmt::Write>(&self, f: &mut fmt::Formatter<W>) -> fmt::Result {
+        f.write_str(self.0)?;
+        for change in self.1 {
+            write!(f, ", {change}")?;
+        }
+        Ok(())
+    }
+}
+
+// Some words of the card changed.
 pub fn judge_changed<const N: usize>(
     rt: &impl Print,
     name: &str,
     table: &[u32],
     card: [u32; N],
-    change: Change,
+    changes: &[Change],
 ) -> io::Result<()> {
-    let card = changed(card, &[change]);
-    judge(rt, format_args!("{name}, {change}"), table, &card)
+    judge(rt, Pair(name, changes), table, &changed(card, changes))
 }
 
-// Two words of the card changed.
-fn judge_twice<const N: usize>(
+// Each of the words of the card changed alone.
+fn judge_each_changed<const N: usize>(
     rt: &impl Print,
     name: &str,
     table: &[u32],
     card: [u32; N],
-    first: Change,
-    second: Change,
+    changes: &[Change],
 ) -> io::Result<()> {
-    let card = changed(card, &[first, second]);
-    judge(rt, format_args!("{name}, {first}, {second}"), table, &card)
-}
-
-fn judge_a(rt: &impl Print, changes: &[Change]) -> io::Result<()> {
     for change in changes {
-        judge_changed(rt, "A with its card", &A, A_CARD, *change)?;
+        judge_changed(rt, name, table, card, &[*change])?;
     }
     Ok(())
-}
-
-fn judge_c(rt: &impl Print, changes: &[Change]) -> io::Result<()> {
-    for change in changes {
-        judge_changed(rt, "C with its card", &C, C_CARD, *change)?;
-    }
-    Ok(())
-}
-
-fn judge_a_twice(rt: &impl Print, first: Change, second: Change) -> io::Result<()> {
-    judge_twice(rt, "A with its card", &A, A_CARD, first, second)
-}
-
-fn judge_c_twice(rt: &impl Print, first: Change, second: Change) -> io::Result<()> {
-    judge_twice(rt, "C with its card", &C, C_CARD, first, second)
 }
 
 fn accepted(rt: &impl Print) -> io::Result<()> {
@@ -82,7 +74,7 @@ fn limits(rt: &impl Print) -> io::Result<()> {
     let table = stations::OBSERVATIONS_8;
     let unseen = Change(17, 0xB007FFFF);
     judge(rt, "o 8 with one cell", &table, &card)?;
-    judge_changed(rt, "o 8 with one cell", &table, card, unseen)
+    judge_changed(rt, "o 8 with one cell", &table, card, &[unseen])
 }
 
 // A card of 64 equal cells.
@@ -105,7 +97,7 @@ fn many(rt: &impl Print) -> io::Result<()> {
     let card = repeated(0xA0000FFF, 0xB0000000);
     let table = stations::STATES_12;
     judge(rt, name, &table, &card)?;
-    judge_changed(rt, name, &table, card, Change(129, 0xB000FFFF))?;
+    judge_changed(rt, name, &table, card, &[Change(129, 0xB000FFFF)])?;
     let blocked = Change(15, 0x500B0000);
     let table = changed(table, &[blocked]);
     let name = format_args!("n 12, {blocked}, with 64 cells");
@@ -129,16 +121,22 @@ fn highest(rt: &impl Print) -> io::Result<()> {
     let harmless = changed(A, &[Change(2, 0x30000000)]);
     let card: [u32; 4] = [0x80210001, 0x90000000, 0xA0100007, 0xB0000000];
     judge(rt, name, &harmless, &card)?;
-    judge_changed(rt, name, &harmless, card, Change(2, 0xA010000F))
+    judge_changed(rt, name, &harmless, card, &[Change(2, 0xA010000F)])
 }
 
 // A cell may be named where nothing is in question: no successor of {0} shows 0, none of {1} shows 1, and no start state shows 1.
 fn wider(rt: &impl Print) -> io::Result<()> {
-    judge_c(rt, &[Change(4, 0xB0000000), Change(8, 0xB0010001)])?;
+    judge_each_changed(
+        rt,
+        "C with its card",
+        &C,
+        C_CARD,
+        &[Change(4, 0xB0000000), Change(8, 0xB0010001)],
+    )?;
     let name = "C, 20000001 at 1, with its card";
     let table = changed(C, &[Change(1, 0x20000001)]);
     judge(rt, name, &table, &C_CARD)?;
-    judge_changed(rt, name, &table, C_CARD, Change(2, 0x9001FFFF))
+    judge_changed(rt, name, &table, C_CARD, &[Change(2, 0x9001FFFF)])
 }
 
 // A third cell, which no play reaches.
@@ -171,14 +169,29 @@ fn unreached(rt: &impl Print) -> io::Result<()> {
 // The start states are not in the first cell; "cannot occur" where a start state shows it.
 fn first_words(rt: &impl Print) -> io::Result<()> {
     judge(rt, "B with A's card", &stations::B, &A_CARD)?;
-    judge_a(rt, &[Change(1, 0x90000001), Change(1, 0x9000FFFF)])?;
-    judge_c(rt, &[Change(2, 0x90010000), Change(2, 0x9001FFFF)])
+    judge_each_changed(
+        rt,
+        "A with its card",
+        &A,
+        A_CARD,
+        &[Change(1, 0x90000001), Change(1, 0x9000FFFF)],
+    )?;
+    judge_each_changed(
+        rt,
+        "C with its card",
+        &C,
+        C_CARD,
+        &[Change(2, 0x90010000), Change(2, 0x9001FFFF)],
+    )
 }
 
 // A bad state in cell 0; states 3 and 11, which are from n up; waiting is blocked in state 1, of {0, 1} and of {1}.
 fn cell_words(rt: &impl Print) -> io::Result<()> {
-    judge_a(
+    judge_each_changed(
         rt,
+        "A with its card",
+        &A,
+        A_CARD,
         &[
             Change(2, 0xA0000005),
             Change(2, 0xA0000009),
@@ -192,8 +205,11 @@ fn cell_words(rt: &impl Print) -> io::Result<()> {
 // The successors are not in the next cell: dosing in {0}; another cell; an empty set, which says too little though the card is safe.
 // "Cannot occur" where a successor shows it.
 fn next_words(rt: &impl Print) -> io::Result<()> {
-    judge_a(
+    judge_each_changed(
         rt,
+        "A with its card",
+        &A,
+        A_CARD,
         &[
             Change(2, 0xA0100001),
             Change(3, 0xB0000000),
@@ -202,13 +218,19 @@ fn next_words(rt: &impl Print) -> io::Result<()> {
             Change(3, 0xB000FFFF),
         ],
     )?;
-    judge_c(rt, &[Change(5, 0xB001FFFF), Change(7, 0xB000FFFF)])
+    judge_each_changed(
+        rt,
+        "C with its card",
+        &C,
+        C_CARD,
+        &[Change(5, 0xB001FFFF), Change(7, 0xB000FFFF)],
+    )
 }
 
 // A blocked action has no successors, and loses all the same; in G it comes to that in the last cell. D's state is bad.
 fn blocked(rt: &impl Print) -> io::Result<()> {
     let ended = Change(3, 0xB000FFFF);
-    judge_changed(rt, "E with F's card", &stations::E, F_CARD, ended)?;
+    judge_changed(rt, "E with F's card", &stations::E, F_CARD, &[ended])?;
     judge(rt, "D with F's card", &stations::D, &F_CARD)?;
     let chain: [u32; 10] = [
         0x80110004, 0x90000000, 0xA0000001, 0xB0000001, 0xA0000002, 0xB0000002, 0xA0000004,
@@ -224,8 +246,8 @@ fn overlapping(rt: &impl Print) -> io::Result<()> {
     judge(rt, "H with C's card", &stations::H, &C_CARD)?;
     let table = changed(stations::H, &[Change(1, 0x20000001)]);
     judge(rt, name, &table, &C_CARD)?;
-    judge_changed(rt, name, &table, C_CARD, Change(4, 0xB0000001))?;
-    judge_changed(rt, name, &table, C_CARD, Change(5, 0xB001FFFF))
+    judge_changed(rt, name, &table, C_CARD, &[Change(4, 0xB0000001)])?;
+    judge_changed(rt, name, &table, C_CARD, &[Change(5, 0xB001FFFF)])
 }
 
 // With no card: 13 where the table is right.
@@ -253,9 +275,21 @@ fn refused_tables(rt: &impl Print) -> io::Result<()> {
 // for F.
 fn order(rt: &impl Print) -> io::Result<()> {
     let more = Change(0, 0x80210003);
-    judge_a(rt, &[more, Change(2, 0xA0001000)])?;
-    judge_a_twice(rt, Change(1, 0x9000FFFF), Change(4, 0xA0200002))?;
-    judge_changed(rt, "C with A's card", &C, A_CARD, more)?;
+    judge_each_changed(
+        rt,
+        "A with its card",
+        &A,
+        A_CARD,
+        &[more, Change(2, 0xA0001000)],
+    )?;
+    judge_changed(
+        rt,
+        "A with its card",
+        &A,
+        A_CARD,
+        &[Change(1, 0x9000FFFF), Change(4, 0xA0200002)],
+    )?;
+    judge_changed(rt, "C with A's card", &C, A_CARD, &[more])?;
     judge(rt, "C with A's card", &C, &A_CARD)?;
     judge(rt, "A with C's card", &A, &C_CARD)?;
     judge(rt, "F with A's card", &stations::F, &A_CARD)
@@ -263,11 +297,41 @@ fn order(rt: &impl Print) -> io::Result<()> {
 
 // First words before cells, a cell's own word before its next words, these before the next cell, cells and observations in order.
 fn lowest(rt: &impl Print) -> io::Result<()> {
-    judge_a_twice(rt, Change(1, 0x9000FFFF), Change(2, 0xA0000005))?;
-    judge_a_twice(rt, Change(2, 0xA0000005), Change(3, 0xB000FFFF))?;
-    judge_a_twice(rt, Change(3, 0xB000FFFF), Change(4, 0xA0100006))?;
-    judge_a_twice(rt, Change(2, 0xA0000005), Change(4, 0xA0100006))?;
-    judge_c_twice(rt, Change(1, 0x9000FFFF), Change(2, 0x9001FFFF))
+    judge_changed(
+        rt,
+        "A with its card",
+        &A,
+        A_CARD,
+        &[Change(1, 0x9000FFFF), Change(2, 0xA0000005)],
+    )?;
+    judge_changed(
+        rt,
+        "A with its card",
+        &A,
+        A_CARD,
+        &[Change(2, 0xA0000005), Change(3, 0xB000FFFF)],
+    )?;
+    judge_changed(
+        rt,
+        "A with its card",
+        &A,
+        A_CARD,
+        &[Change(3, 0xB000FFFF), Change(4, 0xA0100006)],
+    )?;
+    judge_changed(
+        rt,
+        "A with its card",
+        &A,
+        A_CARD,
+        &[Change(2, 0xA0000005), Change(4, 0xA0100006)],
+    )?;
+    judge_changed(
+        rt,
+        "C with its card",
+        &C,
+        C_CARD,
+        &[Change(1, 0x9000FFFF), Change(2, 0x9001FFFF)],
+    )
 }
 
 pub fn rows(rt: &impl Print) -> io::Result<()> {

@@ -70,7 +70,7 @@ fn cards(rt: &impl Print) -> io::Result<()> {
         judge_card_rows::judge(rt, name, &table, &MIXED_CARD)?;
     }
     for change in [Change(2, 0xA0000003), Change(2, 0xA0000002)] {
-        judge_card_rows::judge_changed(rt, "mixed with its card", &MIXED, MIXED_CARD, change)?;
+        judge_card_rows::judge_changed(rt, "mixed with its card", &MIXED, MIXED_CARD, &[change])?;
     }
     Ok(())
 }

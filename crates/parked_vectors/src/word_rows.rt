@@ -1,7 +1,7 @@
 // The bit, its word and 19: the table checks, reading and writing.
-use rows::check_rows::{check, check_each, check_heads};
+use rows::check_rows::{check_changed, check_each, check_each_changed, check_heads};
 use rows::field_rows::{fields_of, read, widest, with_shown, write};
-use rows::stations::{self, A, Change, GUARD, MARKED_A, MIXED, PARKED_E, changed};
+use rows::stations::{self, A, Change, GUARD, MARKED_A, MIXED, PARKED_E};
 use std::fmt::{self, Display};
 use std::io;
 use tables::Fields;
@@ -29,28 +29,13 @@ fn heads(rt: &impl Print) -> io::Result<()> {
     )
 }
 
-// Marked A with one word changed.
-fn check_changed(rt: &impl Print, changes: &[Change]) -> io::Result<()> {
-    for change in changes {
-        let table = changed(MARKED_A, &[*change]);
-        check(rt, format_args!("marked A with {change}"), &table)?;
-    }
-    Ok(())
-}
-
-// Marked A with two words changed.
-fn check_twice(rt: &impl Print, first: Change, second: Change) -> io::Result<()> {
-    let table = changed(MARKED_A, &[first, second]);
-    let name = format_args!("marked A with {first} with {second}");
-    check(rt, name, &table)
-}
-
 // 3 with the bit alone and with the word alone; 4 and 5.
 fn words(rt: &impl Print) -> io::Result<()> {
-    let short = Change(0, 0x11010203);
-    check(rt, format_args!("A with {short}"), &changed(A, &[short]))?;
-    check_changed(
+    check_changed(rt, "A", A, &[Change(0, 0x11010203)])?;
+    check_each_changed(
         rt,
+        "marked A",
+        MARKED_A,
         &[
             Change(0, 0x10010203),
             Change(3, 0x70000000),
@@ -70,8 +55,10 @@ fn words(rt: &impl Print) -> io::Result<()> {
 
 // 19: state 1 has a successor under the second action alone.
 fn departing(rt: &impl Print) -> io::Result<()> {
-    check_changed(
+    check_each_changed(
         rt,
+        "marked A",
+        MARKED_A,
         &[
             Change(3, 0x60000001),
             Change(3, 0x60000002),
@@ -84,14 +71,19 @@ fn departing(rt: &impl Print) -> io::Result<()> {
 
 // 5, 6 and 7 before 19.
 fn order(rt: &impl Print) -> io::Result<()> {
-    check_twice(rt, Change(3, 0x60000001), Change(10, 0x50120008))?;
-    check_twice(rt, Change(1, 0x20000000), Change(3, 0x60000001))?;
-    check_twice(rt, Change(3, 0x60000001), Change(4, 0x40000003))?;
-    for change in [Change(3, 0x60001000), Change(3, 0x60000C00)] {
-        let table = changed(stations::PARKED_12, &[change]);
-        check(rt, format_args!("n 12 parked with {change}"), &table)?;
+    for changes in [
+        [Change(3, 0x60000001), Change(10, 0x50120008)],
+        [Change(1, 0x20000000), Change(3, 0x60000001)],
+        [Change(3, 0x60000001), Change(4, 0x40000003)],
+    ] {
+        check_changed(rt, "marked A", MARKED_A, &changes)?;
     }
-    Ok(())
+    check_each_changed(
+        rt,
+        "n 12 parked",
+        stations::PARKED_12,
+        &[Change(3, 0x60001000), Change(3, 0x60000C00)],
+    )
 }
 
 fn read_and_written(rt: &impl Print) -> io::Result<()> {

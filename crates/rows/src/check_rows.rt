@@ -1,6 +1,6 @@
 // Table checks: refusals 1 to 7, and tables at the limits.
 use crate::print::{self, Word};
-use crate::stations::{self, A, Change, changed};
+use crate::stations::{self, A, Change, With, changed, each_changed};
 use std::fmt::Display;
 use std::io;
 
@@ -65,19 +65,32 @@ fn lengths(rt: &impl Print) -> io::Result<()> {
     check(rt, "10010200 00000000", &[0x10010200, 0])
 }
 
-// A with one word changed.
-fn check_changed(rt: &impl Print, changes: &[Change]) -> io::Result<()> {
-    for change in changes {
-        let table = changed(A, &[*change]);
-        check(rt, format_args!("A with {change}"), &table)?;
-    }
-    Ok(())
+// A table with some words changed.
+pub fn check_changed<const N: usize>(
+    rt: &impl Print,
+    name: &str,
+    table: [u32; N],
+    changes: &[Change],
+) -> io::Result<()> {
+    check(rt, With(name, changes), &changed(table, changes))
+}
+
+// A table with each of the words changed alone.
+pub fn check_each_changed<const N: usize>(
+    rt: &impl Print,
+    name: &str,
+    table: [u32; N],
+    changes: &[Change],
+) -> io::Result<()> {
+    each_changed(name, table, changes, |name, table| check(rt, name, table))
 }
 
 // Refusal 4 (another kind, spare bits, another index); 5, with the masks just inside; 6 and 7.
 fn changes(rt: &impl Print) -> io::Result<()> {
-    check_changed(
+    check_each_changed(
         rt,
+        "A",
+        A,
         &[
             Change(1, 0x30000001),
             Change(1, 0x00000001),
@@ -111,19 +124,19 @@ fn changes(rt: &impl Print) -> io::Result<()> {
     )
 }
 
-// A with two words changed.
-fn check_twice(rt: &impl Print, first: Change, second: Change) -> io::Result<()> {
-    let table = changed(A, &[first, second]);
-    check(rt, format_args!("A with {first} with {second}"), &table)
-}
-
 // 4 before 5 within a word; the words in order; 5 before 6; 6 before 7; 2 before 3 is above.
 fn order(rt: &impl Print) -> io::Result<()> {
-    check_changed(rt, &[Change(1, 0x30000008)])?;
-    check_twice(rt, Change(1, 0x20000008), Change(2, 0x20000004))?;
-    check_twice(rt, Change(1, 0x20000000), Change(9, 0x50120008))?;
-    check_twice(rt, Change(1, 0x20000000), Change(3, 0x40000003))?;
-    check_twice(rt, Change(3, 0x40000003), Change(9, 0x50130004))
+    let rows: [&[Change]; 5] = [
+        &[Change(1, 0x30000008)],
+        &[Change(1, 0x20000008), Change(2, 0x20000004)],
+        &[Change(1, 0x20000000), Change(9, 0x50120008)],
+        &[Change(1, 0x20000000), Change(3, 0x40000003)],
+        &[Change(3, 0x40000003), Change(9, 0x50130004)],
+    ];
+    for changes in rows {
+        check_changed(rt, "A", A, changes)?;
+    }
+    Ok(())
 }
 
 pub fn rows(rt: &impl Print) -> io::Result<()> {

@@ -54,7 +54,7 @@ pub fn write(
     println!(rt; "write {name} into {room}: {answer} {words}")
 }
 
-// Beside a refused read all fields are 0.
+// What a row shows where a read is refused.
 const NO_FIELDS: Fields = Fields {
     states: 0,
     actions: 0,
@@ -131,7 +131,7 @@ fn different(difference: Difference) -> Fields {
     }
 }
 
-// Read and written again. Last, the fields beside a refused read.
+// Read and written again. Last, what is shown where a read is refused.
 fn written(rt: &impl Print) -> io::Result<()> {
     let fields = fields_of(&A);
     write(rt, "A", fields, &mut [GUARD; 10])?;

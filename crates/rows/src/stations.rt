@@ -1,6 +1,7 @@
 // The stations of document 01, their cards, stations with parked states, and tables at the limits.
 use crate::print::Word;
 use std::fmt::{self, Display};
+use std::io;
 
 // What a lent buffer holds before a call.
 pub const GUARD: u32 = 0xEEEEEEEE;
@@ -169,4 +170,34 @@ pub fn changed<const N: usize>(words: [u32; N], changes: &[Change]) -> [u32; N] 
         change.make(&mut result);
     }
     result
+}
+
+// The name of a table or a card, and the words that are changed in it: A with 30000001 at 1.
+#[derive(Clone, Copy)]
+pub struct With<'a>(pub &'a str, pub &'a [Change]);
+
+impl Display for With<'_> {
+    fn fmt<W: fmt::Write>(&self, f: &mut fmt::Formatter<W>) -> fmt::Result {
+        f.write_str(self.0)?;
+        for change in self.1 {
+            write!(f, " with {change}")?;
+        }
+        Ok(())
+    }
+}
+
+// A row for each change alone.
+pub fn each_changed<const N: usize, F: Fn(With, &[u32]) -> io::Result<()>>(
+    name: &str,
+    words: [u32; N],
+    changes: &[Change],
+    row: F,
+) -> io::Result<()>
+    requires { F.IsAlwaysCallable row }
+{
+    for change in changes {
+        let alone = [*change];
+        row(With(name, &alone), &changed(words, &alone))?;
+    }
+    Ok(())
 }

@@ -1,21 +1,19 @@
 // Refusals 13, 8 and 9 in their order, what is just inside, and what each leaves in the buffers.
 use crate::kept_rows::TIGHTEST_CARD;
 use crate::print_trim::{trim, trim_2};
-use rows::stations::{A_CARD, Change, GUARD, changed};
+use rows::stations::{A_CARD, Change, GUARD, changed, each_changed};
 use std::io;
 
-// A's card with one word changed.
-fn trim_changed(rt: &impl Print, changes: &[Change]) -> io::Result<()> {
-    for change in changes {
-        let card = changed(A_CARD, &[*change]);
-        trim_2(rt, format_args!("A's card with {change}"), &card)?;
-    }
-    Ok(())
+// A's card with each of the words changed alone.
+fn trim_each_changed(rt: &impl Print, changes: &[Change]) -> io::Result<()> {
+    each_changed("A's card", A_CARD, changes, |name, card| {
+        trim_2(rt, name, card)
+    })
 }
 
 // m, o and a at their limits; a spare bit; another kind. With a right head the length is wrong, unless only a changed.
 fn heads(rt: &impl Print) -> io::Result<()> {
-    trim_changed(
+    trim_each_changed(
         rt,
         &[
             Change(0, 0x80210000),
@@ -40,12 +38,12 @@ fn lengths(rt: &impl Print) -> io::Result<()> {
         0x80210002, 0x90000000, 0xA0000001, 0xB0000001, 0xA0100002, 0xB0000000, 0xA0000000,
     ];
     trim_2(rt, "A's card and a word", &long)?;
-    trim_changed(rt, &[Change(0, 0x80210001), Change(0, 0x80210003)])
+    trim_each_changed(rt, &[Change(0, 0x80210001), Change(0, 0x80210003)])
 }
 
 // Cell m - 1, cell m, the number below "cannot occur", and that; another observation; another kind.
 fn first_words(rt: &impl Print) -> io::Result<()> {
-    trim_changed(
+    trim_each_changed(
         rt,
         &[
             Change(1, 0x90000001),
@@ -60,7 +58,7 @@ fn first_words(rt: &impl Print) -> io::Result<()> {
 
 // The mask and the action at their limits, and a spare bit.
 fn cell_words(rt: &impl Print) -> io::Result<()> {
-    trim_changed(
+    trim_each_changed(
         rt,
         &[
             Change(2, 0xA0000FFF),
@@ -74,7 +72,7 @@ fn cell_words(rt: &impl Print) -> io::Result<()> {
 
 // As for the first words. In the first row nothing names cell 1 any more.
 fn next_words(rt: &impl Print) -> io::Result<()> {
-    trim_changed(
+    trim_each_changed(
         rt,
         &[
             Change(3, 0xB000FFFF),
