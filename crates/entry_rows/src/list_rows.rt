@@ -78,34 +78,41 @@ fn unordered(rt: &impl Print) -> io::Result<()> {
     meet_3(rt, Lists(3, &[6, 3, 3], &[5, 7]))
 }
 
-// Widths and masks just inside and just outside, with a mask in each list.
-fn join_limits(rt: &impl Print) -> io::Result<()> {
-    for (n, x, y) in [
-        (1, 1, 0),
-        (1, 2, 0),
-        (12, 4095, 1),
-        (12, 4096, 1),
-        (0, 0, 0),
-        (13, 1, 2),
-        (4294967295, 1, 2),
-    ] {
-        join_3(rt, Lists(n, &[x], &[y]))?;
+// A row for each two lists of one mask, over so many states.
+fn each_masks<F: Fn(Lists) -> io::Result<()>>(masks: &[(u32, u32, u32)], row: F) -> io::Result<()>
+    requires { F.IsAlwaysCallable row }
+{
+    for (n, first, second) in masks {
+        row(Lists(*n, &[*first], &[*second]))?;
     }
     Ok(())
 }
 
-fn meet_limits(rt: &impl Print) -> io::Result<()> {
-    for (n, x, y) in [
-        (1, 1, 1),
-        (1, 1, 2),
-        (12, 4095, 2048),
-        (12, 4095, 4294967295),
-        (0, 0, 0),
-        (13, 1, 2),
-    ] {
-        meet_3(rt, Lists(n, &[x], &[y]))?;
-    }
-    Ok(())
+// Widths and masks just inside and just outside, with a mask in each list.
+fn limits(rt: &impl Print) -> io::Result<()> {
+    each_masks(
+        &[
+            (1, 1, 0),
+            (1, 2, 0),
+            (12, 4095, 1),
+            (12, 4096, 1),
+            (0, 0, 0),
+            (13, 1, 2),
+            (4294967295, 1, 2),
+        ],
+        |lists| join_3(rt, lists),
+    )?;
+    each_masks(
+        &[
+            (1, 1, 1),
+            (1, 1, 2),
+            (12, 4095, 2048),
+            (12, 4095, 4294967295),
+            (0, 0, 0),
+            (13, 1, 2),
+        ],
+        |lists| meet_3(rt, lists),
+    )
 }
 
 // 2 before 5; the second list is counted on after the first.
@@ -127,8 +134,7 @@ pub fn rows(rt: &impl Print) -> io::Result<()> {
     rooms(rt)?;
     empty(rt)?;
     unordered(rt)?;
-    join_limits(rt)?;
-    meet_limits(rt)?;
+    limits(rt)?;
     order(rt)?;
     short(rt)
 }

@@ -22,7 +22,7 @@ pub fn fill<T: Copy, I: Iterator<Item = T> + Drop>(room: &mut [T], items: I) -> 
     let mut count: usize = 0;
     for (place, item) in room.iter_mut().zip(items) {
         *place = item;
-        // what an iterator of any type has is not bounded by the room, as far as the check sees
+        // counted, as an iterator of any type has no length; saturating, as the check doesn't see that the room bounds the count
         count = count.saturating_add(1);
     }
     front(room, count)

@@ -297,34 +297,14 @@ fn order(rt: &impl Print) -> io::Result<()> {
 
 // First words before cells, a cell's own word before its next words, these before the next cell, cells and observations in order.
 fn lowest(rt: &impl Print) -> io::Result<()> {
-    judge_changed(
-        rt,
-        "A with its card",
-        &A,
-        A_CARD,
-        &[Change(1, 0x9000FFFF), Change(2, 0xA0000005)],
-    )?;
-    judge_changed(
-        rt,
-        "A with its card",
-        &A,
-        A_CARD,
-        &[Change(2, 0xA0000005), Change(3, 0xB000FFFF)],
-    )?;
-    judge_changed(
-        rt,
-        "A with its card",
-        &A,
-        A_CARD,
-        &[Change(3, 0xB000FFFF), Change(4, 0xA0100006)],
-    )?;
-    judge_changed(
-        rt,
-        "A with its card",
-        &A,
-        A_CARD,
-        &[Change(2, 0xA0000005), Change(4, 0xA0100006)],
-    )?;
+    for changes in [
+        [Change(1, 0x9000FFFF), Change(2, 0xA0000005)],
+        [Change(2, 0xA0000005), Change(3, 0xB000FFFF)],
+        [Change(3, 0xB000FFFF), Change(4, 0xA0100006)],
+        [Change(2, 0xA0000005), Change(4, 0xA0100006)],
+    ] {
+        judge_changed(rt, "A with its card", &A, A_CARD, &changes)?;
+    }
     judge_changed(
         rt,
         "C with its card",

@@ -1,5 +1,5 @@
 // Which cells are kept, in which order and with which numbers.
-use crate::print_trim::{trim, trim_2};
+use crate::print_trim::{trim, trim_within};
 use rows::stations::{A_CARD, C_CARD, GUARD, STATES_12_CARD};
 use std::io;
 
@@ -27,29 +27,20 @@ const WIDEST_CARD: [u32; 27] = [
     0xB0050001, 0xB0060001, 0xB007FFFF,
 ];
 
-// Four cells, and two cells with two observations.
-fn trim_4(rt: &impl Print, name: &str, card: &[u32]) -> io::Result<()> {
-    trim(rt, name, card, &mut [GUARD; 5], &mut [GUARD; 11])
-}
-
-fn trim_both(rt: &impl Print, name: &str, card: &[u32]) -> io::Result<()> {
-    trim(rt, name, card, &mut [GUARD; 3], &mut [GUARD; 10])
-}
-
 // Cards without idle cells stay as they are.
 fn unchanged(rt: &impl Print) -> io::Result<()> {
-    trim_2(rt, "A's card", &A_CARD)?;
-    trim_both(rt, "C's card", &C_CARD)?;
-    trim_2(rt, "n 12's card", &STATES_12_CARD)
+    trim_within::<3, 7>(rt, "A's card", &A_CARD)?;
+    trim_within::<3, 10>(rt, "C's card", &C_CARD)?;
+    trim_within::<3, 7>(rt, "n 12's card", &STATES_12_CARD)
 }
 
 fn idle(rt: &impl Print) -> io::Result<()> {
-    trim_2(rt, "tightest's card", &TIGHTEST_CARD)?;
-    trim_4(rt, "tied's card", &TIED_CARD)?;
+    trim_within::<3, 7>(rt, "tightest's card", &TIGHTEST_CARD)?;
+    trim_within::<5, 11>(rt, "tied's card", &TIED_CARD)?;
     let own: [u32; 6] = [
         0x80210002, 0x90000000, 0xA0000001, 0xB0000000, 0xA0100002, 0xB0000001,
     ];
-    trim_2(rt, "a cell that only itself names", &own)
+    trim_within::<3, 7>(rt, "a cell that only itself names", &own)
 }
 
 // To be named is not enough: the cell that names must be reached.
@@ -58,17 +49,17 @@ fn named_by_idle(rt: &impl Print) -> io::Result<()> {
         0x80210003, 0x90000000, 0xA0000001, 0xB0000000, 0xA0000002, 0xB0000002, 0xA0100004,
         0xB0000000,
     ];
-    trim_4(rt, "a cell that only an idle one names", &behind)?;
+    trim_within::<5, 11>(rt, "a cell that only an idle one names", &behind)?;
     let pair: [u32; 10] = [
         0x80210004, 0x90000000, 0xA0000001, 0xB0000003, 0xA0000002, 0xB0000002, 0xA0000004,
         0xB0000001, 0xA0100008, 0xB0000000,
     ];
-    trim_4(rt, "two idle cells that name each other", &pair)
+    trim_within::<5, 11>(rt, "two idle cells that name each other", &pair)
 }
 
 // The card's order, whichever cell is found first.
 fn ordered(rt: &impl Print) -> io::Result<()> {
-    trim_4(rt, "cells found as 3, 1, 2", &TURNED_CARD)
+    trim_within::<5, 11>(rt, "cells found as 3, 1, 2", &TURNED_CARD)
 }
 
 // Cell 0 is kept where no first word names a cell, and only there.
@@ -76,12 +67,12 @@ fn no_first(rt: &impl Print) -> io::Result<()> {
     let alone: [u32; 6] = [
         0x80210002, 0x9000FFFF, 0xA0000001, 0xB000FFFF, 0xA0100002, 0xB0000000,
     ];
-    trim_2(rt, "no first cell", &alone)?;
+    trim_within::<3, 7>(rt, "no first cell", &alone)?;
     let followed: [u32; 8] = [
         0x80210003, 0x9000FFFF, 0xA0000001, 0xB0000002, 0xA0000002, 0xB0000000, 0xA0100004,
         0xB000FFFF,
     ];
-    trim_4(rt, "no first cell, cell 2 behind cell 0", &followed)
+    trim_within::<5, 11>(rt, "no first cell, cell 2 behind cell 0", &followed)
 }
 
 fn one_first(rt: &impl Print) -> io::Result<()> {
@@ -89,18 +80,12 @@ fn one_first(rt: &impl Print) -> io::Result<()> {
         0x80220002, 0x9000FFFF, 0x90010001, 0xA0000001, 0xB0000000, 0xB0010000, 0xA0100002,
         0xB0000001, 0xB001FFFF,
     ];
-    trim_both(rt, "one first cell for two observations", &card)
+    trim_within::<3, 10>(rt, "one first cell for two observations", &card)
 }
 
 // The head keeps a and o.
 fn widest(rt: &impl Print) -> io::Result<()> {
-    trim(
-        rt,
-        "a 8 o 8",
-        &WIDEST_CARD,
-        &mut [GUARD; 3],
-        &mut [GUARD; 19],
-    )
+    trim_within::<3, 19>(rt, "a 8 o 8", &WIDEST_CARD)
 }
 
 // With just enough work and room; then the trimmed card once more.

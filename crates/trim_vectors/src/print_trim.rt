@@ -30,7 +30,14 @@ pub fn trim(
     println!(rt; "trim {name}: {answer}, work {work}, out {out}")
 }
 
-// With work and room for two cells and one observation, and a word behind each.
-pub fn trim_2(rt: &impl Print, name: impl Display + Drop, card: &[u32]) -> io::Result<()> {
-    trim(rt, name, card, &mut [GUARD; 3], &mut [GUARD; 7])
+// With so many words of work and of room: a word behind each is 3 and 7 for two cells and one observation, 3 and 10 for two cells and
+// two observations, 5 and 11 for four cells and one observation.
+pub fn trim_within<const WORK: usize, const ROOM: usize>(
+    rt: &impl Print,
+    name: impl Display + Drop,
+    card: &[u32],
+) -> io::Result<()>
+    requires { WORK < 4096 × ROOM < 4096 }
+{
+    trim(rt, name, card, &mut [GUARD; WORK], &mut [GUARD; ROOM])
 }

@@ -1,13 +1,13 @@
 // Refusals 13, 8 and 9 in their order, what is just inside, and what each leaves in the buffers.
 use crate::kept_rows::TIGHTEST_CARD;
-use crate::print_trim::{trim, trim_2};
+use crate::print_trim::{trim, trim_within};
 use rows::stations::{A_CARD, Change, GUARD, changed, each_changed};
 use std::io;
 
 // A's card with each of the words changed alone.
 fn trim_each_changed(rt: &impl Print, changes: &[Change]) -> io::Result<()> {
     each_changed("A's card", A_CARD, changes, |name, card| {
-        trim_2(rt, name, card)
+        trim_within::<3, 7>(rt, name, card)
     })
 }
 
@@ -32,12 +32,12 @@ fn heads(rt: &impl Print) -> io::Result<()> {
 }
 
 fn lengths(rt: &impl Print) -> io::Result<()> {
-    trim_2(rt, "no words", &[])?;
-    trim_2(rt, "A's card without its last word", &A_CARD[..5])?;
+    trim_within::<3, 7>(rt, "no words", &[])?;
+    trim_within::<3, 7>(rt, "A's card without its last word", &A_CARD[..5])?;
     let long: [u32; 7] = [
         0x80210002, 0x90000000, 0xA0000001, 0xB0000001, 0xA0100002, 0xB0000000, 0xA0000000,
     ];
-    trim_2(rt, "A's card and a word", &long)?;
+    trim_within::<3, 7>(rt, "A's card and a word", &long)?;
     trim_each_changed(rt, &[Change(0, 0x80210001), Change(0, 0x80210003)])
 }
 
@@ -90,34 +90,28 @@ fn idle_words(rt: &impl Print) -> io::Result<()> {
     let first = Change(3, 0xB0000002);
     let second = Change(5, 0xB0000002);
     let card = changed(TIGHTEST_CARD, &[first]);
-    trim_2(rt, format_args!("tightest's card with {first}"), &card)?;
+    trim_within::<3, 7>(rt, format_args!("tightest's card with {first}"), &card)?;
     let card = changed(card, &[second]);
     let name = format_args!("tightest's card with {first}, {second}");
-    trim_2(rt, name, &card)
-}
-
-fn trim_a(rt: &impl Print, work: &mut [u32], out: &mut [u32]) -> io::Result<()> {
-    trim(rt, "A's card", &A_CARD, work, out)
-}
-
-fn trim_tightest(rt: &impl Print, work: &mut [u32], out: &mut [u32]) -> io::Result<()> {
-    trim(rt, "tightest's card", &TIGHTEST_CARD, work, out)
+    trim_within::<3, 7>(rt, name, &card)
 }
 
 // Refusal 8: a word for each cell of the card, kept or not.
 fn work_rooms(rt: &impl Print) -> io::Result<()> {
-    trim_a(rt, &mut [], &mut [GUARD; 6])?;
-    trim_a(rt, &mut [GUARD; 1], &mut [GUARD; 6])?;
-    trim_a(rt, &mut [GUARD; 2], &mut [GUARD; 6])?;
-    trim_tightest(rt, &mut [GUARD; 1], &mut [GUARD; 4])
+    let name = "tightest's card";
+    trim(rt, "A's card", &A_CARD, &mut [], &mut [GUARD; 6])?;
+    trim(rt, "A's card", &A_CARD, &mut [GUARD; 1], &mut [GUARD; 6])?;
+    trim(rt, "A's card", &A_CARD, &mut [GUARD; 2], &mut [GUARD; 6])?;
+    trim(rt, name, &TIGHTEST_CARD, &mut [GUARD; 1], &mut [GUARD; 4])
 }
 
 // Refusal 9, which zeroes the work: the trimmed card may be shorter than the card.
 fn out_rooms(rt: &impl Print) -> io::Result<()> {
-    trim_a(rt, &mut [GUARD; 3], &mut [])?;
-    trim_a(rt, &mut [GUARD; 3], &mut [GUARD; 5])?;
-    trim_tightest(rt, &mut [GUARD; 3], &mut [GUARD; 3])?;
-    trim_tightest(rt, &mut [GUARD; 3], &mut [GUARD; 4])
+    let name = "tightest's card";
+    trim(rt, "A's card", &A_CARD, &mut [GUARD; 3], &mut [])?;
+    trim(rt, "A's card", &A_CARD, &mut [GUARD; 3], &mut [GUARD; 5])?;
+    trim(rt, name, &TIGHTEST_CARD, &mut [GUARD; 3], &mut [GUARD; 3])?;
+    trim(rt, name, &TIGHTEST_CARD, &mut [GUARD; 3], &mut [GUARD; 4])
 }
 
 // 13 before 8 and 9, 8 before 9.
@@ -131,8 +125,8 @@ fn order(rt: &impl Print) -> io::Result<()> {
     let card = changed(A_CARD, &[next]);
     let name = format_args!("A's card with {next}");
     trim(rt, name, &card, &mut [GUARD; 1], &mut [GUARD; 5])?;
-    trim_a(rt, &mut [], &mut [])?;
-    trim_a(rt, &mut [GUARD; 1], &mut [GUARD; 5])
+    trim(rt, "A's card", &A_CARD, &mut [], &mut [])?;
+    trim(rt, "A's card", &A_CARD, &mut [GUARD; 1], &mut [GUARD; 5])
 }
 
 pub fn rows(rt: &impl Print) -> io::Result<()> {
