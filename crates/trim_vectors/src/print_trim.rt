@@ -1,4 +1,6 @@
 // The row of one trimming.
+ghost use Rattle.std.specs.Prelude.{◌<◌};
+
 use rows::print::{Numbers, Told, Words};
 use rows::stations::GUARD;
 use std::fmt::{self, Display};
