@@ -1,6 +1,6 @@
 -- Laws of the answers: what a text reads as, and each return of the reader as the outcome that the definition gives.
 -- Assumes nothing.
-use mathlib.Core.Path.{◌≡◌, sym, ap, ap₂, ◌∙◌}
+use mathlib.Core.Path.{◌≡◌, sym, ap, ap₂, ◌∙◌, subst}
 use mathlib.Core.List.{List, ◌++◌}
 use Prim.Native.Nat.{ℕ, ◌+◌, ◌*◌, ◌-◌, ◌≤◌, ◌<◌}
 use native.Mathlib.Omega.{arith}
@@ -8,7 +8,10 @@ use lib.ListN.{length, take, drop, length-append}
 use lib.Seq.{take_at}
 use borrow.Author.Tests.{lt-ltb, le-ltb}
 use Rattle.sets.specs.Bounded.{Found, found, nothing, at_found}
-use Rattle.std.proofs.Common.{Result, Ok}
+use Rattle.std.proofs.Common.{Result, Ok, Err}
+use Rattle.std.specs.Prelude.{MatchResult}
+use Rattle.std.specs.Result.{IsErrAnd}
+use Rattle.games.specs.declared.Refusal.{Refusal}
 use Rattle.games.specs.Answers.{Leaves, leaves}
 use Rattle.games.specs.Words.{card_length}
 use Rattle.cards.specs.Card.{card_cells, checked}
@@ -94,3 +97,18 @@ module _ (t d : List ℕ) where
   pub read_told : (w : List ℕ) → reading t ≡ read w → (x : Leaves Answer (List ℕ)) → x ≡ of_card w d → x ≡ read_into t d
   unfolding read_into told
   read_told w e x f = f ∙ sym (ap (λ (y : Outcome). told y d) e)
+
+-- ---- with the refusal's reason
+
+abbrev ok_of : Result ℕ Refusal → ℕ
+ok_of (Ok x) = x
+ok_of (Err q) = 0
+
+module _ (P : ℕ → Refusal → Type 0) where
+  pub card_told : (t w : List ℕ) (e : Result ℕ ℕ) (m : Result ℕ Refusal) (n : ℕ) → m ≡ Ok n → MatchResult e (λ x. m ≡ Ok x) (λ p. IsErrAnd m (P p)) → CardRead t e w → CardRead t (Ok n) w
+  card_told t w (Ok x) m n is k r = subst (λ (y : ℕ). CardRead t (Ok y) w) (ap ok_of (sym k ∙ is)) r
+  card_told t w (Err p) m n is k r = absurd (subst (λ (y : Result ℕ Refusal). IsErrAnd y (P p)) is k)
+
+  pub card_departs : (t w d : List ℕ) (e : Result ℕ ℕ) (m : Result ℕ Refusal) (q : Refusal) → m ≡ Err q → MatchResult e (λ x. m ≡ Ok x) (λ p. IsErrAnd m (P p)) → CardRead t e w → ((p : ℕ) → P p q → q ≡ record { reason = reason.Departs; place = p }) → leaves (Err q) d ≡ read_into t d
+  card_departs t w d (Ok x) m q is k r f = absurd (subst (λ (y : Result ℕ Refusal). MatchResult y (λ _. Unit {0}) (λ _. ⊥)) (sym k ∙ is) tt)
+  card_departs t w d (Err p) m q is k r f = ap (λ (y : Refusal). leaves (Err y) d) (f p (subst (λ (y : Result ℕ Refusal). IsErrAnd y (P p)) is k)) ∙ read_departs t d p r.reads

@@ -4,6 +4,7 @@
 
 ghost use Rattle.std.specs.Prelude.{◌≡◌, ◌+◌, ◌*◌, ◌<◌, ◌≤◌, Ok, length, get_or};
 ghost use Rattle.games.specs.Answers.{leaves};
+ghost use Rattle.games.specs.declared.Reason.TheVariants.{Departs};
 ghost use Rattle.games.specs.Format.{max_cells, number_values};
 ghost use Rattle.games.specs.Words.{card_length, card_words};
 ghost use Rattle.cards.specs.Card.{cell_place};
@@ -411,18 +412,20 @@ fn tell(card: Card, out: &mut [u32]) -> Result<Extent, Refusal>
     })
 }
 
+// The refusal of a text that departs at a place.
+fn departing(at: usize) -> Refusal
+    ensures { result ≡ record { reason = Departs; place = at } }
+{
+    Reason::Departs.at(at)
+}
+
 // Reading KISS2 text: the card that it says.
 pub fn read(text: &[u8], out: &mut [u32]) -> Result<Extent, Refusal>
     ensures determined { leaves result out.new ≡ read_into text.now out.old }
     ensures promised { Reads text.now result out.new }
 {
     let mut words = [0u32; MOST_WORDS];
-    // `map_err` with `?` was tried, and its proof did not close in the time it had: the closure's answer is told by a name of the kit's own
-    match read_card(text, &mut words) {
-        Ok(need) => {
-            let words = &words[..need];
-            tell(Card { words }, out)
-        }
-        Err(at) => Err(Reason::Departs.at(at)),
-    }
+    let need = read_card(text, &mut words).map_err(departing)?;
+    let words = &words[..need];
+    tell(Card { words }, out)
 }
