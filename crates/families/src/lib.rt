@@ -198,13 +198,23 @@ fn unpack(word: u64, base: u32, out: &mut [u32]) -> usize
     at
 }
 
+// A family's words, copied. A loop: the slice's method is compiled to `memmove`, and the archive needs `memcpy` and `memset` alone.
+fn copy(from: &[u64], out: &mut [u64])
+    requires { length from.now ≡ length out.old }
+    ensures { out.new ≡ from.now }
+{
+    for i in 0..from.len() {
+        out[i] = from[i];
+    }
+}
+
 // The maximal sets, as bits in `found`. The lanes are done from the lowest: those above a lane are then still the family's.
 pub fn maximal_bits(bits: &[u64], n: u32, found: &mut [u64])
     requires { Closed n bits.now × (length found.old ≡ length bits.now) }
     ensures { (length found.new ≡ length found.old)
         × (sets found.new ≡ maximal n (is_in bits.now)) }
 {
-    found.copy_from_slice(bits);
+    copy(bits, found);
     for lane in 0..found.len() {
         keep_tops(found, lane);
     }

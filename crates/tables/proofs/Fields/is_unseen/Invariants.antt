@@ -7,4 +7,4 @@ use Rattle.sets.specs.Mask.{member}
 use Rattle.tables.proofs.Fields.is_unseen.Given as goal
 
 abbrev pub invariant-loop-j : goal.invariant-loop-j
-invariant-loop-j l = any l.j (λ k. member (get_or l.self.shown k 0) l.i.0) ≡ false
+invariant-loop-j l = any l.j (λ k. member (get_or l.fn.self.shown k 0) l.i.0) ≡ false
