@@ -227,13 +227,11 @@ const BAD_PLACE: usize = 2;
 const PARKED_PLACE: usize = 3;
 
 // The words of the parked set, which is also the bit of the head.
+#[tactic(auto, unfolding(crate::specs::Places::parked_words))]
 pub fn parked_words(s: Shape) -> u32
     ensures { result ≡ parked_words s }
 {
-    if s.marked {
-        return 1;
-    }
-    0
+    u32::from(s.marked)
 }
 
 // Where the observations' sets begin.

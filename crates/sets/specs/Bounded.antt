@@ -1,6 +1,6 @@
 -- Tests on the numbers below a bound, in the order in which a loop counts up.
 -- Assumes nothing.
-use Rattle.std.specs.Prelude.{Bool, true, false, cond, ◌&&◌, ◌||◌, List, [], ◌∷◌, ◌++◌, ℕ, zero, suc, leb, length, get_or, drop, replicate}
+use Rattle.std.specs.Prelude.{Bool, true, false, cond, ◌&&◌, ◌||◌, List, [], ◌∷◌, ◌++◌, ℕ, zero, suc, leb, get_or, drop, replicate}
 
 -- every number below the bound passes
 unfoldable pub all : ℕ → (ℕ → Bool) → Bool

@@ -1,7 +1,7 @@
 // Sets of states as masks: bit i is state i.
 #![tactic(auto)]
 
-ghost use Rattle.std.specs.Prelude.{◌≡◌, ◌<◌, ◌≤◌, length};
+ghost use Rattle.std.specs.Prelude.{◌≡◌, ◌++◌, ◌<◌, ◌≤◌, length, drop, replicate};
 ghost use Rattle.sets.specs.Bounded.{fill as filled};
 ghost use Rattle.sets.specs.Mask.{member as is_member, common as common_part, union as united, subset as is_subset, single as one, without as lacking};
 
@@ -50,4 +50,22 @@ pub fn fill(d: &mut [u32], end: usize, v: u32)
     ensures { d.new ≡ filled end v d.old }
 {
     d[..end].fill(v);
+}
+
+// A copy at the front of its room. A loop: the slice's method is compiled to `memmove`, and the archive needs `memcpy` and `memset`
+// alone.
+pub fn copy<T: Copy>(from: &[T], out: &mut [T])
+    requires { length from.now ≤ length out.old }
+    ensures { out.new ≡ from.now ++ drop (length from.now) out.old }
+{
+    for i in 0..from.len() {
+        out[i] = from[i];
+    }
+}
+
+// Room for N values, each of them v. Its name keeps the checker from counting the places of a long array.
+pub fn filled<T: Copy, const N: usize>(v: T) -> [T; N]
+    ensures { result ≡ replicate N v }
+{
+    [v; N]
 }
