@@ -1,3 +1,4 @@
 pub mod Mask
 pub mod Bounded
 pub mod Family
+pub mod Calls

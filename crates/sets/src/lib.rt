@@ -1,8 +1,9 @@
 // Sets of states as masks: bit i is state i.
 #![tactic(auto)]
 
-ghost use Rattle.std.specs.Prelude.{◌≡◌, ◌++◌, ◌<◌, ◌≤◌, length, drop, replicate};
-ghost use Rattle.sets.specs.Bounded.{fill as filled};
+ghost use Rattle.std.specs.Prelude.{◌≡◌, ◌++◌, ◌<◌, ◌≤◌, Bool, ℕ, length, drop, replicate};
+ghost use Rattle.sets.specs.Bounded.{all as is_all, any as is_any, fill as filled};
+ghost use Rattle.sets.specs.Calls.{Answers};
 ghost use Rattle.sets.specs.Mask.{member as is_member, common as common_part, union as united, subset as is_subset, single as one, without as lacking};
 
 pub fn member(s: u32, i: u32) -> bool
@@ -68,4 +69,30 @@ pub fn filled<T: Copy, const N: usize>(v: T) -> [T; N]
     ensures { result ≡ replicate N v }
 {
     [v; N]
+}
+
+// Some number below n passes.
+pub fn any<F: Fn(u32) -> bool>(n: u32, test: F) -> bool
+    requires { (i : ℕ) → i < n → F.pre test i }
+    ensures { (said : ℕ → Bool) → Answers (F.post test) n said → result ≡ is_any n said }
+{
+    for i in 0..n {
+        if test(i) {
+            return true;
+        }
+    }
+    false
+}
+
+// Each number below n passes.
+pub fn all<F: Fn(u32) -> bool>(n: u32, test: F) -> bool
+    requires { (i : ℕ) → i < n → F.pre test i }
+    ensures { (said : ℕ → Bool) → Answers (F.post test) n said → result ≡ is_all n said }
+{
+    for i in 0..n {
+        if !test(i) {
+            return false;
+        }
+    }
+    true
 }
