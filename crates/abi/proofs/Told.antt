@@ -18,9 +18,8 @@ use Rattle.fields.proofs.RoundTrip.{read_then_write}
 use Rattle.solver.specs.declared.Verdict.{Verdict}
 use Rattle.solver.specs.declared.Verdict.TheVariants.{Yes, No}
 use Rattle.trimmer.specs.Trimmer.{Answer as TrimAnswer}
-use Rattle.trimmer.specs.declared.Trimmed.{Trimmed}
-use Rattle.kiss_reader.specs.declared.Extent.{Extent}
-use Rattle.answers.specs.Words.{done, refusal_words, words_of, length_words, verdict_words, trimmed_words, trim_words, extent_words, written_words, check_words}
+use Rattle.cards.specs.declared.Extent.{Extent}
+use Rattle.answers.specs.Words.{done, refusal_words, words_of, length_words, verdict_words, trim_words, extent_words, written_words, check_words}
 use Rattle.abi.specs.Calls.{told, written_again, rewritten, ComesBack, ReadsAs}
 
 -- the words of an answer, with what it left, tell the outcome
@@ -73,16 +72,8 @@ verdict_tells = record { one = one; done_first = apart } where
 pub length_tells : Telling length_words
 length_tells = record { one = λ x y h. cc; done_first = λ x e h. let z : ◌≡◌ {A = ℕ} 0 2 = cc in omega arith }
 
-pub trimmed_tells : Telling trimmed_words
-trimmed_tells = record { one = one; done_first = λ x e h. let z : ◌≡◌ {A = ℕ} 0 2 = cc in omega arith } where
-  one : (x y : Trimmed) → trimmed_words x ≡ trimmed_words y → x ≡ y
-  one x y h =
-      let words : x.words ≡ y.words = cc in
-      let cells : x.cells ≡ y.cells = cc in
-      ap₂ (λ (a b : ℕ). let t : Trimmed = record { words = a; cells = b } in t) words cells
-
-pub read_tells : Telling extent_words
-read_tells = record { one = one; done_first = λ x e h. let z : ◌≡◌ {A = ℕ} 0 2 = cc in omega arith } where
+pub extent_tells : Telling extent_words
+extent_tells = record { one = one; done_first = λ x e h. let z : ◌≡◌ {A = ℕ} 0 2 = cc in omega arith } where
   one : (x y : Extent) → extent_words x ≡ extent_words y → x ≡ y
   one x y h =
       let words : x.words ≡ y.words = cc in
@@ -91,7 +82,7 @@ read_tells = record { one = one; done_first = λ x e h. let z : ◌≡◌ {A = �
 
 -- as of the trimmer's answers
 pub same_trim : (r s : TrimAnswer) → trim_words r ≡ trim_words s → r ≡ s
-same_trim = same_answer trimmed_words trimmed_tells
+same_trim = same_answer extent_words extent_tells
 
 -- ---- join, meet and write
 

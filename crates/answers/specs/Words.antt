@@ -6,6 +6,7 @@ use Rattle.games.specs.declared.Refusal.{Refusal}
 use Rattle.judge.specs.Judge.{Judged}
 use Rattle.cards.specs.Run.{Move}
 use Rattle.cards.specs.declared.Entered.{Entered}
+use Rattle.cards.specs.declared.Extent.{Extent}
 use Rattle.runner.specs.Runs.{Ran}
 use Rattle.show.specs.Show.{Shown}
 use Rattle.show.specs.declared.Part.{Part}
@@ -13,10 +14,8 @@ use Rattle.solver.specs.Solve.{Answer}
 use Rattle.solver.specs.declared.Verdict.{Verdict}
 use Rattle.solver.specs.declared.Verdict.TheVariants.{Yes, No}
 use Rattle.trimmer.specs.Trimmer.{Answer as TrimAnswer}
-use Rattle.trimmer.specs.declared.Trimmed.{Trimmed}
 use Rattle.kiss_writer.specs.Write.{Answer as WriteAnswer}
 use Rattle.kiss_reader.specs.Read.{Answer as ReadAnswer}
-use Rattle.kiss_reader.specs.declared.Extent.{Extent}
 
 -- done, with two values
 abbrev pub done : (x y : ℕ) → List ℕ
@@ -67,11 +66,7 @@ entered_words m = done m.cell.0 m.action.0
 abbrev pub part_words : Part → List ℕ
 part_words p = done p.offset p.length
 
--- the words of the trimmed card, and its cells
-abbrev pub trimmed_words : Trimmed → List ℕ
-trimmed_words t = done t.words t.cells
-
--- the words of the card that was read, and its cells
+-- the words and the cells of a card that was trimmed or read
 abbrev pub extent_words : Extent → List ℕ
 extent_words r = done r.words r.cells
 
@@ -104,7 +99,7 @@ abbrev pub show_words : Shown → List ℕ
 show_words = words_of part_words
 
 abbrev pub trim_words : TrimAnswer → List ℕ
-trim_words = words_of trimmed_words
+trim_words = words_of extent_words
 
 -- write_kiss: the bytes of the text
 abbrev pub text_words : WriteAnswer → List ℕ

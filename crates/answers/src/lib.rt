@@ -3,15 +3,13 @@
 #![tactic(auto)]
 
 ghost use Rattle.std.specs.Prelude.{◌≡◌, ℕ, List};
-ghost use Rattle.answers.specs.Words.{words_of, unit_words, pair_words, bool_words, length_words, verdict_words, entered_words, part_words, trimmed_words, extent_words, ran_words};
+ghost use Rattle.answers.specs.Words.{words_of, unit_words, pair_words, bool_words, length_words, verdict_words, entered_words, part_words, extent_words, ran_words};
 
-use cards::Entered;
+use cards::{Entered, Extent};
 use games::Refusal;
-use kiss_reader::Extent;
 use runner::Ran;
 use show::Part;
 use solver::Verdict;
-use trimmer::Trimmed;
 
 // A value that an entry answers.
 pub trait Told {
@@ -82,15 +80,6 @@ impl Told for Part {
 
     fn told(self) -> [u64; 3] {
         [0, self.offset as u64, self.length as u64]
-    }
-}
-
-impl Told for Trimmed {
-    ghost told = { trimmed_words };
-
-    fn told(self) -> [u64; 3] {
-        let Trimmed { words, cells } = self;
-        [0, words as u64, cells as u64]
     }
 }
 

@@ -35,6 +35,13 @@ pub struct Stood {
     pub answer: Move,
 }
 
+// The words and the cells of a card that stands in front of a room.
+#[derive(Clone, Copy, PartialEq, Eq, Debug)]
+pub struct Extent {
+    pub words: usize,
+    pub cells: u32,
+}
+
 // The word of a kind that names the cell to go to on an observation.
 pub fn naming(kind: Kind, cell: Cell, seen: Observation) -> u32
     requires { (cell.0 < low_values) × (seen.0 < number_values) }

@@ -9,7 +9,7 @@ use Rattle.kiss.specs.Profile.{reading}
 use Rattle.kiss.specs.Idle.{idle, LowestIdle}
 use Rattle.kiss.specs.Promise.{OfText}
 use Rattle.games.specs.declared.Refusal.{Refusal}
-use Rattle.kiss_reader.specs.declared.Extent.{Extent}
+use Rattle.cards.specs.declared.Extent.{Extent}
 use Rattle.std.specs.Prelude.{Result, Ok}
 use Rattle.games.specs.declared.Reason.TheVariants as reason
 use Rattle.games.specs.Answers.{refused}

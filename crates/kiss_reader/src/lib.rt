@@ -17,17 +17,10 @@ ghost use Rattle.kiss_reader.specs.Read.{of_card, read_into, Reads};
 
 mod sizes;
 
-use cards::Card;
+use cards::{Card, Extent};
 use form::{Numeral, Range, Reader};
 use games::{Action, Cell, Kind, Observation, Reason, Refusal};
 pub use sizes::Sizes;
-
-// A card that was read: its words and its cells.
-#[derive(Clone, Copy, PartialEq, Eq, Debug)]
-pub struct Extent {
-    pub words: usize,
-    pub cells: u32,
-}
 
 #[derive(Clone, Copy)]
 pub struct Counts {
@@ -405,7 +398,7 @@ fn tell(card: Card, out: &mut [u32]) -> Result<Extent, Refusal>
     if out.len() < need {
         return Err(Reason::ShortRoom.at(need));
     }
-    trimmer::copy_card(card.words, out);
+    sets::copy(card.words, out);
     Ok(Extent {
         words: need,
         cells: card.cells(),

@@ -1,4 +1,5 @@
 // One writing and one reading: the answer, and what stands in the room.
+use cards::Extent;
 use rows::print::{Told, Words, Wrote};
 use rows::stations::GUARD;
 use std::fmt::{self, Display};
@@ -55,11 +56,11 @@ fn shown_words(room: &[u32]) -> Words<'_> {
 
 // The words and the cells of a card that was read.
 #[derive(Clone, Copy)]
-struct Got(kiss_reader::Extent);
+struct Got(Extent);
 
 impl Display for Got {
     fn fmt<W: fmt::Write>(&self, f: &mut fmt::Formatter<W>) -> fmt::Result {
-        let kiss_reader::Extent { words, cells } = self.0;
+        let Extent { words, cells } = self.0;
         write!(f, "read {words} {cells}")
     }
 }

@@ -1,19 +1,19 @@
 // The row of one trimming.
 ghost use Rattle.std.specs.Prelude.{◌<◌};
 
+use cards::Extent;
 use rows::print::{Numbers, Told, Words};
 use rows::stations::GUARD;
 use std::fmt::{self, Display};
 use std::io;
-use trimmer::Trimmed;
 
 // The words and the cells of the trimmed card.
 #[derive(Clone, Copy)]
-pub struct Kept(pub Trimmed);
+pub struct Kept(pub Extent);
 
 impl Display for Kept {
     fn fmt<W: fmt::Write>(&self, f: &mut fmt::Formatter<W>) -> fmt::Result {
-        let Trimmed { words, cells } = self.0;
+        let Extent { words, cells } = self.0;
         write!(f, "trimmed {words} {cells}")
     }
 }

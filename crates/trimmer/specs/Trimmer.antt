@@ -7,14 +7,14 @@ use Rattle.cards.specs.Card.{card_cells, card_observations, automaton, checked}
 use Rattle.trimming.specs.Trim.{kept, trimmed}
 use Rattle.trimming.specs.Promise.{Promise}
 use Rattle.games.specs.declared.Refusal.{Refusal}
-use Rattle.trimmer.specs.declared.Trimmed.{Trimmed}
+use Rattle.cards.specs.declared.Extent.{Extent}
 use Rattle.games.specs.declared.Reason.TheVariants as reason
 use Rattle.games.specs.Answers.{refused}
 use Rattle.std.specs.Prelude.{Result, Ok, Err}
 
 -- what trimming answers: the words of the trimmed card and its cells, or a refusal
 abbrev pub Answer : Type 0
-Answer = Result Trimmed Refusal
+Answer = Result Extent Refusal
 
 abbrev pub done_with : (words cells : ℕ) → Answer
 done_with words cells = Ok (record { words = words; cells = cells })

@@ -15,15 +15,8 @@ ghost use Rattle.trimmer.specs.Marking.{Listing, Added, named_from, named_or, Na
 ghost use Rattle.trimmer.specs.Numbering.{Numbered, Renumbering, numbered_as, new_name, row_words};
 ghost use Rattle.trimmer.specs.Trimmer.{kept_cells, by_room, buffers, trimmed_into, Trims};
 
-use cards::Card;
+use cards::{Card, Extent};
 use games::{Cell, Kind, Observation, Reason, Refusal};
-
-// A trimmed card: its words and its cells.
-#[derive(Clone, Copy, PartialEq, Eq, Debug)]
-pub struct Trimmed {
-    pub words: usize,
-    pub cells: u32,
-}
 
 // The numbers that a half of a word can hold. Two share a word: the work that is lent has one for each cell, and there is no heap.
 const HALF_VALUES: u32 = 1 << 16;
@@ -243,17 +236,6 @@ fn write_trimmed(card: Card, work: &[u32], kept: u32, out: &mut [u32])
     }
 }
 
-// A card as it is, at the front of its room. A loop: the slice's method is compiled to `memmove`, and the archive needs `memcpy` and
-// `memset` alone.
-pub fn copy_card(card: &[u32], out: &mut [u32])
-    requires { length card.now ≤ length out.old }
-    ensures { out.new ≡ card.now ++ drop (length card.now) out.old }
-{
-    for i in 0..card.len() {
-        out[i] = card[i];
-    }
-}
-
 // The trimmed card at the front of its room, from the marks. A card without idle cells stays as it is.
 fn write_marked(card: Card, work: &mut [u32], kept: u32, out: &mut [u32])
     requires { Marked (automaton card.words.now) (card_observations card.words.now) work.old kept
@@ -261,7 +243,7 @@ fn write_marked(card: Card, work: &mut [u32], kept: u32, out: &mut [u32])
     ensures { out.new ≡ trimmed card.entry.words.now ++ drop (length (trimmed card.entry.words.now)) out.old }
 {
     if kept == card.cells() {
-        copy_card(card.words, out);
+        sets::copy(card.words, out);
         return;
     }
     number(work);
@@ -269,7 +251,7 @@ fn write_marked(card: Card, work: &mut [u32], kept: u32, out: &mut [u32])
 }
 
 // For a card with work for its cells: the reached cells, then 9 or the trimmed card.
-fn trim_into(card: Card, work: &mut [u32], out: &mut [u32]) -> Result<Trimmed, Refusal>
+fn trim_into(card: Card, work: &mut [u32], out: &mut [u32]) -> Result<Extent, Refusal>
     requires { length work.old ≡ card_cells card.words.now }
     ensures { leaves result out.new ≡ by_room card.entry.words.now out.old }
 {
@@ -279,14 +261,14 @@ fn trim_into(card: Card, work: &mut [u32], out: &mut [u32]) -> Result<Trimmed, R
         return Err(Reason::ShortRoom.at(need));
     }
     write_marked(card, work, kept, out);
-    Ok(Trimmed {
+    Ok(Extent {
         words: need,
         cells: kept,
     })
 }
 
 // Trimming a card: its idle cells are dropped.
-pub fn trim(card: &[u32], work: &mut [u32], out: &mut [u32]) -> Result<Trimmed, Refusal>
+pub fn trim(card: &[u32], work: &mut [u32], out: &mut [u32]) -> Result<Extent, Refusal>
     ensures determined { leaves result (buffers work.new out.new)
         ≡ trimmed_into card.now work.old out.old }
     ensures promised { Trims card.now result out.new }

@@ -11,4 +11,4 @@ pub returns-then-out-need : goal.returns-then-out-need
 returns-then-out-need c = rw (c.at-then-out-need.ensures) (tell_short c.args.card.words.now c.args.out.now (cell_none _ (sym c.in_default.is ∙ c.lowest_idle.ensures)) c.if-out-need.true)
 
 pub returns : goal.returns
-returns c = tell_card c.args.card.words.now c.args.out.now (cell_none _ (sym c.in_default.is ∙ c.lowest_idle.ensures)) c.if-out-need.false _ _ c.cells.ensures c.copy_card.ensures
+returns c = tell_card c.args.card.words.now c.args.out.now (cell_none _ (sym c.in_default.is ∙ c.lowest_idle.ensures)) c.if-out-need.false _ _ c.cells.ensures c.copy.ensures

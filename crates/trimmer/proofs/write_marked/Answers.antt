@@ -12,8 +12,8 @@ use Rattle.trimming.proofs.Twice.{full_trimmed}
 use Rattle.trimmer.proofs.Numbering.{numbered_new}
 use Rattle.trimmer.proofs.write_marked.Goals as goal
 
-pub copy_card-requires : goal.copy_card-requires
-copy_card-requires c =
+pub copy-requires : goal.copy-requires
+copy-requires c =
     let words : List ℕ = c.args.card.words.now in
     let same : trimmed words ≡ words = let w = words in
     full_trimmed w c.args.card.checked (sym c.requires.0.many ∙ c.if-kept-cells.true ∙ c.cells.ensures ∙ sym (size_of w)) in
@@ -24,7 +24,7 @@ returns-then-kept-cells c =
     let words : List ℕ = c.args.card.words.now in
     let same : trimmed words ≡ words = let w = words in
     full_trimmed w c.args.card.checked (sym c.requires.0.many ∙ c.if-kept-cells.true ∙ c.cells.ensures ∙ sym (size_of w)) in
-    c.copy_card.ensures ∙ ap (λ (w : List ℕ). w ++ drop (length w) c.args.out.now) (sym same)
+    c.copy.ensures ∙ ap (λ (w : List ℕ). w ++ drop (length w) c.args.out.now) (sym same)
 
 pub number-requires : goal.number-requires
 number-requires c = omega (arith, c.requires.0.size, (fitting c.args.card.words.now c.args.card.checked).cells)
