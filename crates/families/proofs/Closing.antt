@@ -2,7 +2,7 @@
 -- Assumes nothing.
 use mathlib.Core.Path.{◌≡◌, refl, sym, ap, ◌∙◌, subst}
 use mathlib.Core.Logic.{⊎_elim}
-use mathlib.Core.Bool.{Bool, true, false, not, ◌&&◌, ◌||◌}
+use mathlib.Core.Bool.{true, false, not, ◌&&◌, ◌||◌}
 use mathlib.Core.List.{List, Memᴰ}
 use Prim.Native.Nat.{ℕ, ◌+◌, ◌*◌, ◌/◌, ◌%◌, ◌^◌, ◌≤◌, ◌<◌}
 use native.Mathlib.Nat.{lt_of_lt_of_le}
@@ -13,10 +13,9 @@ use lib.Seq.{get_or-set_same, get_or-set_other}
 use lib.Pow.{pow_pos, high, low}
 use borrow.Author.Tests.{eqb-true, eqb-false, ltb-true, ltb-false, not-true}
 use Rattle.sets.specs.Mask.{member, subset}
-use Rattle.sets.specs.Bounded.{any}
 use Rattle.sets.specs.Family.{Family, listed, holds}
 use Rattle.sets.proofs.Logic.{decided, refuted, same_truth, and_left, and_right, and_intro, and_false_left, and_false_right, or_cases, or_left, or_right, false_not}
-use Rattle.sets.proofs.Bounded.{any_found, any_intro, any_refuted, any_ext}
+use Rattle.sets.proofs.Bounded.{any_found, any_intro, any_refuted}
 use Rattle.sets.proofs.Mask.{member_zero, subset_refl, subset_trans, subset_le, subset_lt, subset_witness, subset_antisym, subset_add, add_subset}
 use Rattle.sets.proofs.Family.{DownBelow, listed_mem, mem_listed, holds_found, holds_intro}
 use Rattle.games.specs.Format.{max_states}
@@ -40,12 +39,6 @@ low_end old bits e f lane t h =
     (λ b. let l : length old ≤ lane = ltb-false lane (length old) b in
     ap (λ (x : ℕ). member x t) (get_or-eq_default bits 0 (omega (arith, e))) ∙ no_low t ∙ ap (λ (x : ℕ). low_has x t) (sym (get_or-eq_default old 0 l)))
     (decided (ltb lane (length old)))
-
--- what the lanes above have of them
-pub up_low : (old bits : List ℕ) → length bits ≡ length old → ((lane : ℕ) → Low old lane (get_or bits lane 0)) → (lane t : ℕ) → t < lane_sets → up_has bits lane t ≡ above_has old lane t
-up_low old bits e f lane t h =
-    ap (λ (n : ℕ). any n (λ m. subset lane m && member (get_or bits m 0) t)) e
-    ∙ any_ext (length old) (λ m. subset lane m && member (get_or bits m 0) t) (λ m. subset lane m && low_has (get_or old m 0) t) (λ m l. ap (λ (b : Bool). subset lane m && b) (f m t h))
 
 -- ---- the lanes above
 
@@ -111,9 +104,9 @@ pub spreading_none : (bits : List ℕ) → Spreading bits bits (length bits)
 spreading_none bits = record { within = omega arith; long = refl; kept = λ m l. refl; done = λ m t l b. up_none bits m t l }
 
 -- one turn
-pub spreading_more : (old bits : List ℕ) (lane word : ℕ) → length old ≤ 2 ^ high_states → Spreading old bits (lane + 1)
+pub spreading_more : (old bits : List ℕ) (next lane word : ℕ) → Spreading old bits next → next ≡ lane + 1 → length old ≤ 2 ^ high_states
     → ((t : ℕ) → member word t ≡ own_or_larger bits lane t) → Spreading old (set bits lane word) lane
-spreading_more old bits lane word few c f =
+spreading_more old bits next lane word c up few f =
     record {
       within = omega (arith, c.within);
       long = length-set bits lane word ∙ c.long;

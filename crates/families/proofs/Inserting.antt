@@ -15,17 +15,11 @@ use Rattle.sets.proofs.Logic.{decided}
 use Rattle.sets.proofs.Mask.{member_zero, member_or, member_single, member_single_other}
 use Rattle.sets.proofs.Family.{at_mem, listed_none, listed_more}
 use Rattle.families.specs.Bits.{lane_sets, has, Holding}
-use Rattle.families.proofs.Lanes.{lane_there, has_stored, has_kept}
+use Rattle.families.proofs.Lanes.{shift_one, lane_there, has_stored, has_kept}
 
 -- a family cleared has as many words
 pub cleared_length : (n : ℕ) (bits : List ℕ) → bits ≡ replicate n 0 → length bits ≡ n
 cleared_length n bits e = ap length e ∙ length-replicate n 0
-
--- and as many hold the same list
-pub holding_cleared : (n : ℕ) (list entry bits : List ℕ) → Holding n list entry → bits ≡ replicate (length entry) 0 → Holding n list bits × (bits ≡ replicate (length bits) 0)
-holding_cleared n list entry bits h e =
-    let l : length bits ≡ length entry = cleared_length (length entry) bits e in
-    (record { states = h.states; masks = h.masks; size = l ∙ h.size }, e ∙ ap (λ (x : ℕ). replicate x 0) (sym l))
 
 -- no lane of it has a set
 pub cleared_at : (n : ℕ) (bits : List ℕ) → bits ≡ replicate n 0 → (m : ℕ) → get_or bits m 0 ≡ 0
@@ -66,7 +60,10 @@ has_insert bits m s h =
     (decided (eqb (m / lane_sets) (s / lane_sets)))
 
 -- one mask more
-pub insert_more : (list bits : List ℕ) (i : ℕ) → i < length list → get_or list i 0 / lane_sets < length bits → ((s : ℕ) → has bits s ≡ listed (take i list) s) →
-    (s : ℕ) → has (set bits (get_or list i 0 / lane_sets) (union (get_or bits (get_or list i 0 / lane_sets) 0) (2 ^ (get_or list i 0 % lane_sets)))) s ≡ listed (take (i + 1) list) s
-insert_more list bits i l h f s =
-    has_insert bits (get_or list i 0) s h ∙ ap (λ (b : Bool). b || eqb (get_or list i 0) s) (f s) ∙ sym (listed_more list s i l)
+pub insert_more : (list bits : List ℕ) (i one : ℕ) → one ≡ 2 ^ (get_or list i 0 % lane_sets) → i < length list → get_or list i 0 / lane_sets < length bits → ((s : ℕ) → has bits s ≡ listed (take i list) s) →
+    (s : ℕ) → has (set bits (get_or list i 0 / lane_sets) (union (get_or bits (get_or list i 0 / lane_sets) 0) one)) s ≡ listed (take (i + 1) list) s
+insert_more list bits i one e l h f s =
+    rw e (has_insert bits (get_or list i 0) s h ∙ ap (λ (b : Bool). b || eqb (get_or list i 0) s) (f s) ∙ sym (listed_more list s i l))
+
+-- what the loop's steps go by
+pub ruleset inserting = (mask_lane, shift_one, none_inserted)

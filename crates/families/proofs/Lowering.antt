@@ -89,7 +89,8 @@ module _ (word cur more i : ℕ) (h : i < lane_states) (f : (t : ℕ) → t < la
       (λ e. let w = reached_found word (i + 1) t e in to_either w.0 w.1 w.2 w.3 w.4)
 
 -- all states are done
-pub reached_end : (word t : ℕ) → t < lane_sets → reached word lane_states t ≡ low_has word t
-reached_end word t l =
-    any_ext lane_sets (λ u. (subset t u && eqb (t / lane_sets) (u / lane_sets)) && member word u) (λ u. subset t u && member word u)
+pub reached_end : (word i t : ℕ) → i ≡ lane_states → t < lane_sets → reached word i t ≡ low_has word t
+reached_end word i t e l =
+    ap (λ (n : ℕ). reached word n t) e
+    ∙ any_ext lane_sets (λ u. (subset t u && eqb (t / lane_sets) (u / lane_sets)) && member word u) (λ u. subset t u && member word u)
     (λ u h. ap (λ (b : Bool). b && member word u) (ap (λ (b : Bool). subset t u && b) (eq-eqb (t / lane_sets) (u / lane_sets) (omega arith)) ∙ and-true (subset t u)))

@@ -1,6 +1,6 @@
 -- A loop that stores a word at each place, from the first up.
 -- Assumes nothing.
-use mathlib.Core.Path.{◌≡◌, refl, sym, ◌∙◌, subst}
+use mathlib.Core.Path.{◌≡◌, sym, ◌∙◌, subst}
 use mathlib.Core.Logic.{⊎_elim}
 use mathlib.Core.List.{List}
 use Prim.Native.Nat.{ℕ, ◌+◌, ◌≤◌, ◌<◌}
@@ -17,10 +17,6 @@ pub record Mapping (P : ℕ → ℕ → Type 0) (old bits : List ℕ) (i : ℕ) 
   pub long : length bits ≡ length old
   pub done : (m : ℕ) → m < i → P m (get_or bits m 0)
   pub kept : (m : ℕ) → i ≤ m → get_or bits m 0 ≡ get_or old m 0
-
--- before the first turn
-pub mapping_none : (P : ℕ → ℕ → Type 0) (bits : List ℕ) → Mapping P bits bits 0
-mapping_none P bits = record { within = omega arith; long = refl; done = λ m l. absurd (omega arith); kept = λ m l. refl }
 
 -- one turn, however the word was stored
 module _ (P : ℕ → ℕ → Type 0) (old bits : List ℕ) (i : ℕ) (w : Mapping P old bits i) (l : i < length old) where

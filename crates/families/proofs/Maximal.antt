@@ -1,6 +1,6 @@
 -- The maximal sets of a family, lane by lane.
 -- Assumes nothing.
-use mathlib.Core.Path.{◌≡◌, refl, sym, ap, ap₂, ◌∙◌, subst}
+use mathlib.Core.Path.{◌≡◌, sym, ap, ap₂, ◌∙◌, subst}
 use mathlib.Core.Logic.{⊎_elim}
 use mathlib.Core.Bool.{Bool, true, false, not, ◌&&◌, ◌||◌}
 use mathlib.Core.List.{List}
@@ -15,9 +15,9 @@ use lib.Bits.{or_lt}
 use borrow.Author.Tests.{ltb-true, ltb-false, not-true}
 use Rattle.sets.specs.Mask.{member, common, union}
 use Rattle.sets.specs.Family.{is_maximal, maximal}
-use Rattle.sets.proofs.Logic.{decided, clash, refuted, same_truth, and_left, and_right, and_intro, and_false_left, or_left, or_right, or_false_left, or_false_right, or_false_intro, false_not}
+use Rattle.sets.proofs.Logic.{decided, clash, refuted, same_truth, and_left, and_right, and_intro, or_left, or_right, or_false_left, or_false_right, or_false_intro, false_not}
 use Rattle.sets.proofs.Bounded.{all_intro, select_ext, select_gap}
-use Rattle.sets.proofs.Mask.{member_zero, member_and, member_or, member_rest, subset_add}
+use Rattle.sets.proofs.Mask.{member_and, member_or, member_rest, subset_add}
 use Rattle.sets.proofs.Family.{is_maximal_in, is_maximal_only, maximal_by_states}
 use Rattle.families.specs.Bits.{lane_states, lane_sets, high_states, has, sets, Closed, larger_has, own_or_larger, covered_by, Topped}
 use Rattle.families.proofs.Lanes.{lanes_room, by_lane, has_at, state_low, state_high, larger_found, larger_intro, larger_same, emptied, covered_found, covered_intro}
@@ -97,17 +97,7 @@ tops_of n bits found new lane c same p t l =
     ∙ ap₂ (λ (word : ℕ) (larger : Bool). member word t && not (larger || covered_by word t)) (same lane (le_refl lane)) (larger_same found bits lane t (λ m k. same m (omega arith)))
     ∙ top_is n bits c lane t l
 
--- how a lane is topped: it has no set, or it was emptied, and then has those of its sets that neither word has
-pub topped_none : (bits : List ℕ) (lane : ℕ) → get_or bits lane 0 ≡ 0 → Topped bits lane bits
-topped_none bits lane e =
-    record {
-      size = refl;
-      tops = λ t l.
-          let none : member (get_or bits lane 0) t ≡ false = ap (λ (x : ℕ). member x t) e ∙ member_zero t in
-          none ∙ sym (and_false_left (not (larger_has bits lane t || covered_by (get_or bits lane 0) t)) none);
-      kept = λ m d. refl;
-    }
-
+-- how a lane is topped: it was emptied, and then has those of its sets that neither word has
 pub topped_some : (bits : List ℕ) (lane above covered : ℕ) → lane < length bits → above < 2 ^ 64 → covered < 2 ^ 64
     → ((t : ℕ) → member above t ≡ own_or_larger (set bits lane 0) lane t)
     → ((t : ℕ) → t < lane_sets → member covered t ≡ covered_by (get_or bits lane 0) t)

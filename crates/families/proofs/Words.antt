@@ -23,7 +23,7 @@ use Rattle.sets.proofs.Logic.{decided}
 use Rattle.sets.proofs.Mask.{member_zero, member_first, member_half, lowest, member_sub_same, member_sub_other, sub_less, single_le}
 use Rattle.sets.proofs.Bounded.{select_lowest, select_none, select_length, select_hit_suc, select_skip_suc, count_zero, count_hit_suc, count_skip_suc, count_none, select_ext, count_ext}
 use Rattle.families.specs.Bits.{lane_sets, has, sets, raised}
-use Rattle.families.proofs.Lanes.{has_at}
+use Rattle.families.proofs.Lanes.{shift_one, has_at}
 
 -- ---- a list raised
 
@@ -143,9 +143,10 @@ module _ (word base : ℕ) (out₀ : List ℕ) (rest at : ℕ) (out : List ℕ) 
   writing_room z l = omega (arith, taken_size rest w.small z, w.places, w.long)
 
   -- and the lowest member is written
-  pub writing_more : (rest ≡ 0 → ⊥) → size word ≤ length out₀ → Writing word base out₀ (rest - 2 ^ count_trailing_zeros lane_sets rest) (at + 1) (set out at (base + count_trailing_zeros lane_sets rest))
-  writing_more z l =
-      let v : ℕ = base + count_trailing_zeros lane_sets rest in
+  pub writing_more : (rest ≡ 0 → ⊥) → size word ≤ length out₀ → (single : ℕ) → single ≡ 2 ^ count_trailing_zeros lane_sets rest → Writing word base out₀ (rest - single) (at + 1) (set out at (base + count_trailing_zeros lane_sets rest))
+  writing_more z l single is =
+      rw is
+      (let v : ℕ = base + count_trailing_zeros lane_sets rest in
       let left : ℕ = rest - 2 ^ count_trailing_zeros lane_sets rest in
       record {
         small = omega (arith, taken_less rest w.small z, w.small);
@@ -158,7 +159,7 @@ module _ (word base : ℕ) (out₀ : List ℕ) (rest at : ℕ) (out : List ℕ) 
             ∙ ap (λ (x : List ℕ). take at out ++ x) (sym (taken_written rest w.small z base))
             ∙ w.front;
         back = behind out out₀ at v w.back;
-      }
+      })
 
   -- nothing is left
   pub writing_end : rest ≡ 0 → (at ≡ size word) × (out ≡ written base word ++ drop at out₀)
@@ -169,6 +170,9 @@ module _ (word base : ℕ) (out₀ : List ℕ) (rest at : ℕ) (out : List ℕ) 
         sym (take-append-drop at out)
             ∙ ap₂ ◌++◌ (sym (append-nil (take at out)) ∙ ap (λ (x : List ℕ). take at out ++ raised base x) (sym (select_none lane_sets (member rest) none)) ∙ w.front) w.back,
       )
+
+-- what the loop's steps go by
+pub ruleset unpacking = (taken_lt, taken_le, taken_less, shift_one, writing_none, writing_room)
 
 -- ---- the words of a family, one after the other
 
@@ -203,7 +207,7 @@ module _ (bits : List ℕ) (lane k : ℕ) (e : k ≡ count (lane * lane_sets) (h
       )
 
   -- a lane's part written behind the first k places
-  pub put_behind : (out part new : List ℕ) (r : ℕ) → k ≤ length out → new ≡ part ++ drop r (mid_of k (length out - k) out) → put_mid k (length out - k) out new ≡ (take k out ++ part) ++ drop (k + r) out
+  put_behind : (out part new : List ℕ) (r : ℕ) → k ≤ length out → new ≡ part ++ drop r (mid_of k (length out - k) out) → put_mid k (length out - k) out new ≡ (take k out ++ part) ++ drop (k + r) out
   put_behind out part new r h f =
       let whole : mid_of k (length out - k) out ≡ drop k out = take_all (length out - k) (drop k out) (omega (arith, length-drop k out)) in
       let none : post_of k (length out - k) out ≡ [] = drop_all (length out - k) (drop k out) (omega (arith, length-drop k out)) in
@@ -211,11 +215,12 @@ module _ (bits : List ℕ) (lane k : ℕ) (e : k ≡ count (lane * lane_sets) (h
       ∙ ap (λ (x : List ℕ). take k out ++ x) (append-nil (part ++ drop (k + r) out))
       ∙ sym (append_assoc (take k out) part (drop (k + r) out))
 
-  pub lane_written : (out₀ out : List ℕ) → out ≡ select (lane * lane_sets) (has bits) ++ drop k out₀ → (r : ℕ) (out' : List ℕ) → r ≡ k + size (get_or bits lane 0) → out' ≡ (take k out ++ written (lane * lane_sets) (get_or bits lane 0)) ++ drop r out →
-      out' ≡ select ((lane + 1) * lane_sets) (has bits) ++ drop r out₀
-  lane_written out₀ out f r out' d g =
+  pub lane_written : (out₀ out new : List ℕ) (m : ℕ) → k ≤ length out → out ≡ select (lane * lane_sets) (has bits) ++ drop k out₀ → m ≡ size (get_or bits lane 0) →
+      new ≡ written (lane * lane_sets) (get_or bits lane 0) ++ drop m (mid_of k (length out - k) out) → put_mid k (length out - k) out new ≡ select ((lane + 1) * lane_sets) (has bits) ++ drop (k + m) out₀
+  lane_written out₀ out new m here_k f q g =
+      let d : k + m ≡ k + size (get_or bits lane 0) = ap (λ (x : ℕ). k + x) q in
       let n : length (select (lane * lane_sets) (has bits)) ≡ k = select_length (lane * lane_sets) (has bits) ∙ sym e in
-      g
+      put_behind out (written (lane * lane_sets) (get_or bits lane 0)) new m here_k g
       ∙ ap₂ ◌++◌
       (ap₂ ◌++◌ (ap (take k) f ∙ take_at (select (lane * lane_sets) (has bits)) (drop k out₀) k n) (ap (raised (lane * lane_sets)) (select_ext lane_sets (member (get_or bits lane 0)) (λ t. has bits (lane * lane_sets + t)) here))
       ∙ sym (select_raised (lane * lane_sets) lane_sets (has bits)) ∙ ap (λ (x : ℕ). select x (has bits)) (sym next))
@@ -248,6 +253,7 @@ pub ones_sets : (bits : List ℕ) → ((i : ℕ) → get_or bits i 0 < 2 ^ lane_
 ones_sets bits h = sum-map ones bits ∙ ones_below bits h ∙ sym (sets_count bits)
 
 -- all lanes are done
-pub sets_written : (bits out₀ : List ℕ) (k : ℕ) (out : List ℕ) → k ≡ count (length bits * lane_sets) (has bits) → out ≡ select (length bits * lane_sets) (has bits) ++ drop k out₀ → (k ≡ length (sets bits)) × (out ≡ sets bits ++ drop k out₀)
+pub sets_written : (bits out₀ : List ℕ) (lane k : ℕ) (out : List ℕ) → lane ≡ length bits → k ≡ count (lane * lane_sets) (has bits) → out ≡ select (lane * lane_sets) (has bits) ++ drop k out₀ → (k ≡ length (sets bits)) × (out ≡ sets bits ++ drop k out₀)
 unfolding sets
-sets_written bits out₀ k out e f = (e ∙ sym (sets_count bits), f)
+sets_written bits out₀ lane k out all e f =
+    (e ∙ ap (λ (x : ℕ). count (x * lane_sets) (has bits)) all ∙ sym (sets_count bits), f ∙ ap (λ (x : ℕ). select (x * lane_sets) (has bits) ++ drop k out₀) all)

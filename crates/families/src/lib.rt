@@ -43,6 +43,7 @@ const SIZED: [u64; 7] = [
 ];
 
 // How many lanes the sets of n states take.
+#[tactic(auto, using(crate::proofs::Lanes::shift_one), unfolding(crate::specs::Bits::lanes))]
 pub fn lane_count(n: u32) -> usize
     requires { n ≤ max_states }
     ensures { result ≡ lanes n }
@@ -77,6 +78,7 @@ fn having(i: u32) -> u64
 }
 
 // The union of the words that `word` gives for the numbers below n.
+#[tactic(auto, using(crate::proofs::Lanes::unite_none, crate::proofs::Lanes::unite_more))]
 fn united<F: Fn(u32) -> u64>(n: u32, word: F) -> u64
     requires { (i : ℕ) → i < n → F.pre word i }
     ensures { (t : ℕ) (test : ℕ → Bool) → Tells (F.post word) n t test
@@ -120,36 +122,46 @@ pub fn sized(j: u32) -> u64
     SIZED[at]
 }
 
-// The lane with the state i of the lanes put in, which is this lane where it has it; no set where there is no such lane.
-fn lane_with(bits: &[u64], lane: usize, i: u32) -> u64
-    requires { i < high_states }
-    ensures { result ≡ get_or bits.now (union lane (2 ^ i)) 0 }
-{
-    bits.get(lane | (1 << i)).copied().unwrap_or(0)
+// A lane of a family, beside the others.
+#[derive(Clone, Copy)]
+pub struct Lane<'b> {
+    pub bits: &'b [u64],
+    pub index: usize,
 }
 
-// The same, but no set where this lane has the state.
-fn other_with(bits: &[u64], lane: usize, i: u32) -> u64
-    requires { i < high_states }
-    ensures { (t : ℕ) → member result t ≡ has_with bits.now lane i t }
-{
-    let has = (lane >> i) % 2 == 1;
-    if has { 0 } else { lane_with(bits, lane, i) }
-}
+impl Lane<'_> {
+    // The lane with the state i of the lanes put in, which is this lane where it has it; no set where there is no such lane.
+    fn with(self, i: u32) -> u64
+        requires { i < high_states }
+        ensures { result ≡ get_or self.entry.bits.now (union self.entry.index (2 ^ i)) 0 }
+    {
+        self.bits.get(self.index | (1 << i)).copied().unwrap_or(0)
+    }
 
-// What the lanes with one state more have, united.
-pub fn larger(bits: &[u64], lane: usize) -> u64
-    ensures { (t : ℕ) → member result t ≡ larger_has bits.now lane t }
-{
-    united(HIGH_STATES, |i| other_with(bits, lane, i))
-}
+    // The same, but no set where this lane has the state.
+    #[tactic(auto, using(crate::proofs::Lanes::other_lane))]
+    fn other_with(self, i: u32) -> u64
+        requires { i < high_states }
+        ensures { (t : ℕ) → member result t ≡ has_with self.entry.bits.now self.entry.index i t }
+    {
+        let has = (self.index >> i) % 2 == 1;
+        if has { 0 } else { self.with(i) }
+    }
 
-// What this lane and the lanes with one state more have, united: no lane is tested for a state.
-fn own_or_larger(bits: &[u64], lane: usize) -> u64
-    requires { lane < length bits.now }
-    ensures { (t : ℕ) → member result t ≡ own_or_larger bits.now lane t }
-{
-    bits[lane] | united(HIGH_STATES, |i| lane_with(bits, lane, i))
+    // What the lanes with one state more have, united.
+    pub fn larger(self) -> u64
+        ensures { (t : ℕ) → member result t ≡ larger_has self.entry.bits.now self.entry.index t }
+    {
+        united(HIGH_STATES, |i| self.other_with(i))
+    }
+
+    // What this lane and the lanes with one state more have, united: no lane is tested for a state.
+    fn own_or_larger(self) -> u64
+        requires { self.index < length self.bits.now }
+        ensures { (t : ℕ) → member result t ≡ own_or_larger self.entry.bits.now self.entry.index t }
+    {
+        self.bits[self.index] | united(HIGH_STATES, |i| self.with(i))
+    }
 }
 
 // The sets of the word that lie in another of it with one state more.
@@ -176,11 +188,12 @@ fn keep_tops(bits: &mut [u64], lane: usize)
     let word = bits[lane];
     if word != 0 {
         bits[lane] = 0; // so that its own sets don't count
-        bits[lane] = word & !(own_or_larger(bits, lane) | covered(word));
+        bits[lane] = word & !(Lane { bits, index: lane }.own_or_larger() | covered(word));
     }
 }
 
 // Writes the sets of a word in front, each with `base` added; how many.
+#[tactic(auto, using(crate::proofs::Words::unpacking))]
 fn unpack(word: u64, base: u32, out: &mut [u32]) -> usize
     requires { count_of lane_sets (member word) ≤ length out.old × base < 65536 }
     ensures { (result ≡ count_of lane_sets (member word))
@@ -198,23 +211,14 @@ fn unpack(word: u64, base: u32, out: &mut [u32]) -> usize
     at
 }
 
-// A family's words, copied. A loop: the slice's method is compiled to `memmove`, and the archive needs `memcpy` and `memset` alone.
-fn copy(from: &[u64], out: &mut [u64])
-    requires { length from.now ≡ length out.old }
-    ensures { out.new ≡ from.now }
-{
-    for i in 0..from.len() {
-        out[i] = from[i];
-    }
-}
-
 // The maximal sets, as bits in `found`. The lanes are done from the lowest: those above a lane are then still the family's.
+#[tactic(auto, using(crate::proofs::Maximal::found_maximal))]
 pub fn maximal_bits(bits: &[u64], n: u32, found: &mut [u64])
     requires { Closed n bits.now × (length found.old ≡ length bits.now) }
     ensures { (length found.new ≡ length found.old)
         × (sets found.new ≡ maximal n (is_in bits.now)) }
 {
-    copy(bits, found);
+    sets::copy(bits, found);
     for lane in 0..found.len() {
         keep_tops(found, lane);
     }
@@ -229,6 +233,7 @@ pub fn size(bits: &[u64]) -> usize
 }
 
 // Writes the sets, ascending, in front of `out`; how many.
+#[tactic(auto, using(crate::proofs::Words::lane_room), unfolding(sets::specs::Bounded::count, sets::specs::Bounded::select))]
 pub fn write(bits: &[u64], out: &mut [u32]) -> usize
     requires { (length bits.now ≤ max_lanes) × (length (sets bits.now) ≤ length out.old) }
     ensures { (result ≡ length (sets bits.now)) × (out.new ≡ sets bits.now ++ drop result out.old) }
@@ -241,6 +246,7 @@ pub fn write(bits: &[u64], out: &mut [u32]) -> usize
 }
 
 // The list's sets.
+#[tactic(auto, using(crate::proofs::Inserting::inserting))]
 fn insert(list: &[u32], n: u32, bits: &mut [u64])
     requires { Holding n list.now bits.old × (bits.old ≡ replicate (length bits.old) 0) }
     ensures { (length bits.new ≡ length bits.old)
@@ -253,6 +259,7 @@ fn insert(list: &[u32], n: u32, bits: &mut [u64])
 }
 
 // The word's sets and their subsets.
+#[tactic(auto, using(crate::proofs::Lowering::reached_none, crate::proofs::Lowering::reached_more))]
 fn lower(word: u64) -> u64
     ensures { (t : ℕ) → t < lane_sets → member result t ≡ low_has word t }
 {
@@ -264,6 +271,7 @@ fn lower(word: u64) -> u64
 }
 
 // The subsets within each word. (A loop of its own, over words that are independent.)
+#[tactic(auto, using(crate::proofs::Closing::low_end))]
 fn lower_all(bits: &mut [u64])
     ensures { ByLane (λ lane t. low_has (get_or bits.old lane 0) t) bits.old bits.new }
 {
@@ -273,12 +281,13 @@ fn lower_all(bits: &mut [u64])
 }
 
 // What the lanes that hold a lane have, from the highest lane down.
+#[tactic(auto, using(crate::proofs::Closing::spreading_none))]
 fn spread(bits: &mut [u64])
     requires { length bits.old ≤ 2 ^ high_states }
     ensures { ByLane (up_has bits.old) bits.old bits.new }
 {
     for lane in (0..bits.len()).rev() {
-        bits[lane] = own_or_larger(bits, lane);
+        bits[lane] = Lane { bits, index: lane }.own_or_larger();
     }
 }
 
@@ -292,6 +301,7 @@ fn close(bits: &mut [u64])
 }
 
 // The subsets of the list's sets.
+#[tactic(auto, using(crate::proofs::Lanes::few_lanes))]
 pub fn below(list: &[u32], n: u32, bits: &mut [u64])
     requires { Holding n list.now bits.old }
     ensures { Bits n (holds list.now) bits.new }

@@ -102,6 +102,7 @@ fn merge<C: Combination>(a: &mut [u64], b: &[u64])
     requires { length b.now ≡ length a.old }
     ensures { Merged C.keeps a.old b.now a.new }
 {
+    // (No `zip`: after an adapter of `iter_mut` other than `enumerate` no proof knows what stands in the slice; tried.)
     for (i, word) in a.iter_mut().enumerate() {
         *word = C::word(*word, b[i]);
     }

@@ -11,7 +11,7 @@ ghost use Rattle.moves.specs.Halves.{shown_in};
 ghost use Rattle.search.specs.Stages.{Stage, Sound, Passed, safely_enabled, EnabledStates};
 ghost use Rattle.search.specs.Found.{Reached, Searched};
 
-use families::LANE_SETS;
+use families::{LANE_SETS, Lane};
 use games::{Action, MAX_ACTIONS, Observation, State};
 use moves::Moves;
 use tables::{Accepted, Table};
@@ -103,7 +103,7 @@ impl Round<'_> {
             (step (game self.entry.moves.accepted.table.words.now) (is_in self.entry.family.now)) next.new }
     {
         for lane in (0..self.family.len()).rev() {
-            let covered = families::larger(next, lane);
+            let covered = Lane { bits: next, index: lane }.larger();
             next[lane] = self.pass_lane(lane as u32, covered);
         }
     }

@@ -1,10 +1,7 @@
 -- `families::keep_tops` meets its contract: a lane without a set stays; another is emptied, and then has what neither word has.
 use native.Mathlib.Omega.{arith}
-use Rattle.families.proofs.Maximal.{topped_none, topped_some}
+use Rattle.families.proofs.Maximal.{topped_some}
 use Rattle.families.proofs.keep_tops.Goals as goal
-
-pub returns-else-word-ne0 : goal.returns-else-word-ne0
-returns-else-word-ne0 c = topped_none c.args.bits.now c.args.lane c.if-word-ne0.false
 
 pub returns-then-word-ne0 : goal.returns-then-word-ne0
 returns-then-word-ne0 c =
