@@ -1,18 +1,22 @@
 -- What read and write answer, as the code has it.
 -- Assumes nothing.
 use mathlib.Core.Path.{◌≡◌, refl, sym, ap, subst, ◌∙◌}
-use mathlib.Core.Bool.{true, false, cond, not, ◌&&◌}
+use mathlib.Core.Logic.{⊎_elim}
+use mathlib.Core.Bool.{Bool, true, false, cond, not, ◌&&◌}
 use mathlib.Core.List.{List}
-use Prim.Native.Nat.{ℕ, ◌+◌, ◌*◌, ◌^◌, ◌≤◌, ◌<◌}
+use Prim.Native.Nat.{ℕ, ◌+◌, ◌-◌, ◌*◌, ◌^◌, ◌≤◌, ◌<◌, zero-le}
 use native.Mathlib.Nat.{mod-eq_of_lt}
 use native.Mathlib.Omega.{arith}
 use borrow.Author.Tests.{leb-false, eq-eqb, ne_eqb, lt-ltb, le-ltb, le-leb, lt-leb, not-false}
-use lib.Dec.{ltb}
-use lib.ListN.{length, get_or}
+use lib.Dec.{eqb, ltb}
+use lib.ListN.{length, get_or, drop, length-drop}
 use lib.Pow.{pow_mono}
-use Rattle.sets.specs.Bounded.{all, first, nothing, filled_by}
-use Rattle.sets.proofs.Logic.{and_intro, and_false_right}
-use Rattle.sets.proofs.Bounded.{all_refuted, first_zero, first_skip, first_stop, first_nothing}
+use Rattle.sets.specs.Bounded.{first, nothing, filled_by}
+use Rattle.std.specs.Bool.{MatchBool}
+use Rattle.std.specs.List.{AllWithin, HoldsAt}
+use Rattle.std.proofs.lemmas.List.{get_or-drop}
+use Rattle.sets.proofs.Logic.{lt_or_le, and_intro, and_false_right, or_left, or_right, or_false_intro}
+use Rattle.sets.proofs.Bounded.{all_intro, all_refuted, first_zero, first_skip, first_stop, first_nothing}
 use Rattle.games.specs.Answers.{Checked, unless, leaves}
 use Rattle.games.specs.Format.{max_states, max_observations, max_moves}
 use Rattle.games.specs.Fields.{low_field}
@@ -71,14 +75,21 @@ few_moves f e = let l = limits_hold_lem (fields_shape f) e in moves_below f.acti
 
 -- ---- 11
 
-module _ (used : ℕ) (l : List ℕ) where
-  pub unused_dirty : (j : ℕ) → j < length l → slot_clean used l j ≡ false → unused_zero used l ≡ false
-  unfolding unused_zero
-  unused_dirty j k e = all_refuted (length l) (slot_clean used l) j k e
-
-  pub unused_clean : all (length l) (slot_clean used l) ≡ true → unused_zero used l ≡ true
-  unfolding unused_zero
-  unused_clean e = e
+-- what a search from `used` up for a slot that is not 0 finds
+pub unused_is : (used : ℕ) (l : List ℕ) (r : Bool)
+    → MatchBool r (AllWithin (λ x. x ≡ 0) (drop used l) 0 (length (drop used l))) ((j : ℕ) × (j < length (drop used l)) × HoldsAt (λ x. x ≡ 0 → ⊥) (drop used l) j)
+    → r ≡ unused_zero used l
+unfolding unused_zero
+unused_is used l true f =
+    sym (all_intro (length l) (slot_clean used l)
+    (λ j k.
+    ⊎_elim (λ m. or_left (eqb (get_or l j 0) 0) (lt-ltb j used m))
+    (λ m. let e : used + (j - used) ≡ j = omega arith in
+    or_right (ltb j used) (eq-eqb (get_or l j 0) 0 (ap (λ (i : ℕ). get_or l i 0) (sym e) ∙ sym (get_or-drop used l (j - used) 0) ∙ f (j - used) 0 zero-le (omega (arith, length-drop used l)))))
+    (lt_or_le j used)))
+unused_is used l false w =
+    sym (all_refuted (length l) (slot_clean used l) (used + w.0) (omega (arith, length-drop used l, w.1))
+    (or_false_intro (le-ltb (used + w.0) used (omega arith)) (ne_eqb (get_or l (used + w.0) 0) 0 (λ e. w.2 0 (get_or-drop used l w.0 0 ∙ e)))))
 
 module _ (f : Fields) where
   -- ---- 5

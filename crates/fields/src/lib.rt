@@ -27,13 +27,7 @@ pub fn read(table: &[u32]) -> Result<Fields, Refusal>
 fn unused_zero(slots: &[u32], used: usize) -> bool
     ensures { result ≡ unused_zero used slots.now }
 {
-    for (j, slot) in slots.iter().enumerate() {
-        let clean = (j < used) | (*slot == 0);
-        if !clean {
-            return false;
-        }
-    }
-    true
+    slots.iter().skip(used).all(|slot| *slot == 0)
 }
 
 // Refusals 2 and 11.

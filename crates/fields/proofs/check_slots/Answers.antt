@@ -7,6 +7,3 @@ use Rattle.fields.proofs.check_slots.Goals as goal
 
 pub overflow_mul-f : goal.overflow_mul-f
 overflow_mul-f c = omega (arith, few_moves c.args.f (ap limits_hold (sym c.shape.ensures) ∙ sym c.limits_hold.ensures ∙ c.if-not-limits_hold.false))
-
-pub overflow_cast-f-2 : goal.overflow_cast-f-2
-overflow_cast-f-2 c = omega (arith, few_moves c.args.f (ap limits_hold (sym c.shape.ensures) ∙ sym c.limits_hold.ensures ∙ c.if-not-limits_hold.false))

@@ -9,10 +9,6 @@ pub loop-p-init : goal.loop-p-init
 loop-p-init c =
     masks_none c.args.self.fields
 
-pub mask_at-requires : goal.mask_at-requires
-mask_at-requires c =
-    ((omega arith), omega (arith, c.loop-p-test.true))
-
 pub returns-then-full-mask_at : goal.returns-then-full-mask_at
 returns-then-full-mask_at c =
     rw c.at.ensures

@@ -16,16 +16,6 @@ use Rattle.fields.proofs.Narrow.word_at.Goals as goal
 pub returns-then-p-eq0 : goal.returns-then-p-eq0
 returns-then-p-eq0 c = c.head_word.ensures ∙ ap head_word c.sizes-sizes.ensures ∙ sym (word_head c.args.self.bounded.fields c.args.p c.if-p-eq0.true)
 
-pub bare_word-requires : goal.bare_word-requires
-bare_word-requires c =
-    let from_one : 1 ≤ c.args.p = omega arith in
-    rw c.sizes-sizes.ensures (from_one, c.requires)
-
-pub mask_at-requires : goal.mask_at-requires
-mask_at-requires c =
-    let from_one : 1 ≤ c.args.p = omega arith in
-    (from_one, c.requires)
-
 pub overflow_add-result : goal.overflow_add-result
 overflow_add-result c =
     let from_one : 1 ≤ c.args.p = omega arith in

@@ -13,9 +13,6 @@ returns-then-out-words c =
 pub loop-p-init : goal.loop-p-init
 loop-p-init c = (search rules, filled_none (word_at c.args.self.bounded.fields) c.args.out.now)
 
-pub word_at-requires : goal.word_at-requires
-word_at-requires c = omega arith
-
 pub loop-p-preserved : goal.loop-p-preserved
 loop-p-preserved c = (search rules, rw (c.loop-p.invariant.1, c.word_at.ensures) (filled_more (word_at c.args.self.bounded.fields) c.loop-p.p c.args.out.now (omega arith)))
 
