@@ -9,8 +9,7 @@ use lib.Pow.{pow_mono}
 use lib.Dec.{leb}
 use borrow.Author.Tests.{leb-true, le-leb}
 use Rattle.sets.proofs.Logic.{and_intro, and_left, and_right}
-use Rattle.games.specs.Format.{within, max_states, max_actions, max_sets, max_moves, low_values, number_values, head_values}
-use Rattle.games.specs.Words.{front_length, part_length, card_length}
+use Rattle.games.specs.Format.{within, max_states, max_actions, max_sets, max_moves, low_values, number_values}
 
 module _ (x most : ℕ) where
   pub within_low : within x most ≡ true → 1 ≤ x
@@ -36,13 +35,6 @@ moves_below a n p q = mul-le-mul {n₂ = max_actions} {m₂ = max_states} p q
 pub sets_below : (n : ℕ) → n ≤ max_states → 2 ^ n ≤ max_sets
 sets_below n l = pow_mono l
 
--- a number of 32 bits times one of a head
-pub product_below : (a n : ℕ) → a < 2 ^ 32 → n < head_values → a * n ≤ 2 ^ 32 * head_values
-product_below a n p q = mul-le-mul {n₂ = 2 ^ 32} {m₂ = head_values} (omega arith) (omega arith)
-
 -- the words of all parts of a card
 pub parts_below : (m part : ℕ) → m ≤ low_values → part ≤ number_values → m * part ≤ low_values * number_values
 parts_below m part p q = mul-le-mul {n₂ = low_values} {m₂ = number_values} p q
-
-pub length_told : (m o front part : ℕ) → front ≡ front_length o → part ≡ part_length o → front + m * part ≡ card_length m o
-length_told m o front part e f = rw (e, f)

@@ -11,9 +11,6 @@ use lib.Dec.{eqb, ltb}
 use Rattle.sets.proofs.Logic.{decided}
 use Rattle.games.specs.Places.{shown, move, start_place, bad_place, parked_place, parked_words, shown_place, moves_place, table_length, place_of, place_at, Within}
 use Rattle.games.proofs.Limits.{slot_below}
-use Rattle.games.specs.declared.State.{State}
-use Rattle.games.specs.declared.Action.{Action}
-use Rattle.games.specs.declared.Observation.{Observation}
 use Rattle.games.specs.declared.Shape.{Shape}
 use Rattle.games.specs.declared.Place.{Place}
 use Rattle.games.specs.declared.Place.TheVariants.{Start, Bad, Parked, Shown, Move}
@@ -103,13 +100,6 @@ place_below s Bad h = omega arith
 place_below s Parked h = omega (arith, marked_word s h)
 place_below s (Shown j) h = omega arith
 place_below s (Move a i) h = omega (arith, slot_below a.0 s.actions s.states i.0 h.0 h.1)
-
--- where it stands, as the code has the parts
-pub shown_told : (s : Shape) (x : Place) (j : Observation) (from : ℕ) → x ≡ Shown j → from ≡ shown_place s → from + j.0 ≡ place_of s x
-shown_told s x j from e f = rw (e, f)
-
-pub move_told : (s : Shape) (x : Place) (a : Action) (i : State) (from : ℕ) → x ≡ Move a i → from ≡ moves_place s → from + a.0 * s.states + i.0 ≡ place_of s x
-move_told s x a i from e f = rw (e, f)
 
 -- what stands where a set of the table stands is this set
 pub place_there : (s : Shape) (x : Place) → Within s x → place_at s (place_of s x) ≡ x

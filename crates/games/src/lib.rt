@@ -160,7 +160,7 @@ impl Kind {
 pub fn within(x: u32, most: u32) -> bool
     ensures { result ≡ is_within x most }
 {
-    (1 <= x) & (x <= most)
+    (1..=most).contains(&x)
 }
 
 pub fn low_field(w: u32) -> u32
@@ -242,6 +242,7 @@ fn shown_place(s: Shape) -> usize
 }
 
 // Where the moves begin.
+#[tactic(auto, using(crate::proofs::Places::parked_words_lem))]
 fn moves_place(s: Shape) -> usize
     ensures { result ≡ moves_place s }
 {
@@ -249,29 +250,27 @@ fn moves_place(s: Shape) -> usize
 }
 
 // What stands at a place.
+#[tactic(auto, unfolding(crate::specs::Places::place_at))]
 pub fn place_at(s: Shape, p: usize) -> Place
     requires { (1 ≤ s.states) × (1 ≤ p) × (p < max_place) }
     ensures { result ≡ place_at s p }
 {
-    if p == START_PLACE {
-        return Place::Start;
-    }
-    if p == BAD_PLACE {
-        return Place::Bad;
-    }
     let seen = shown_place(s);
-    if p < seen {
-        return Place::Parked;
-    }
     let from = moves_place(s);
-    if p < from {
-        return Place::Shown(Observation((p - seen) as u32));
+    match p {
+        START_PLACE => Place::Start,
+        BAD_PLACE => Place::Bad,
+        _ if p < seen => Place::Parked,
+        _ if p < from => Place::Shown(Observation((p - seen) as u32)),
+        _ => {
+            let slot = (p - from) as u32;
+            Place::Move(Action(slot / s.states), State(slot % s.states))
+        }
     }
-    let slot = (p - from) as u32;
-    Place::Move(Action(slot / s.states), State(slot % s.states))
 }
 
 // Where it stands.
+#[tactic(auto, using(crate::proofs::Places::parked_words_lem))]
 pub fn place_of(s: Shape, x: Place) -> usize
     requires { s.states < head_values }
     ensures { result ≡ place_of s x }
@@ -286,6 +285,7 @@ pub fn place_of(s: Shape, x: Place) -> usize
 }
 
 // The words of a table.
+#[tactic(auto, using(crate::proofs::Places::parked_words_lem))]
 pub fn table_length(s: Shape) -> usize
     requires { s.states < head_values }
     ensures { result ≡ table_length s }
