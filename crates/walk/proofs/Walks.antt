@@ -12,6 +12,7 @@ use Rattle.sets.specs.Mask.{member, common, union}
 use Rattle.sets.specs.Bounded.{count}
 use Rattle.sets.proofs.Bounded.{Lowest, count_le, select_ext, select_length, select_lowest, select_none}
 use Rattle.sets.proofs.Mask.{member_zero, member_below, member_low, lowest, common_lt_left, member_sub_same, member_sub_other, lowest_off}
+use Rattle.games.specs.Format.{max_states}
 use Rattle.games.specs.Game.{Game}
 use Rattle.std.specs.Prelude.{Some, None}
 use Rattle.walk.specs.Walk.{passed, stopped, moved, members, along, walked}
@@ -60,15 +61,17 @@ module _ (g : Game) (a : ℕ) where
       pub small : rest < 2 ^ g.states
       pub answer : along g a (members g.states rest) u looked ≡ walked g s a
       pub few : looked + length (members g.states rest) ≤ g.states
+      pub wide : g.states ≤ max_states
 
-    pub walking_none : Walking (s % 2 ^ g.states) 0 0
+    pub walking_none : g.states ≤ max_states → Walking (s % 2 ^ g.states) 0 0
     unfolding walked
-    walking_none =
+    walking_none wide =
         let e = members_low g.states s in
         record {
           small = mod-lt s (pow_pos g.states);
           answer = ap (λ (l : List ℕ). along g a l 0 0) e;
           few = omega (arith, ap length e, members_count g.states s, count_le g.states (member s));
+          wide = wide;
         }
 
     module _ (rest u looked : ℕ) (h : Walking rest u looked) where
@@ -78,9 +81,9 @@ module _ (g : Game) (a : ℕ) where
           sym (along_none u looked) ∙ ap (λ (l : List ℕ). along g a l u looked) (sym (ap (members g.states) z ∙ members_none g.states)) ∙ h.answer
 
       -- the lowest member of what is left
-      module _ (wide : g.states ≤ 32) (z : rest ≡ 0 → ⊥) where
+      module _ (z : rest ≡ 0 → ⊥) where
         next_is : Lowest 32 (member rest) (count_trailing_zeros 32 rest)
-        next_is = lowest 32 rest (lt_of_lt_of_le h.small (pow_mono wide)) z
+        next_is = lowest 32 rest (lt_of_lt_of_le h.small (pow_mono {j = 32} (omega (arith, h.wide)))) z
 
         -- is a state
         pub next_below : count_trailing_zeros 32 rest < g.states
@@ -97,8 +100,8 @@ module _ (g : Game) (a : ℕ) where
         next_less = omega (arith, ap length next_members)
 
         -- it can be counted
-        pub next_counted : looked + 1 ≤ g.states
-        next_counted = omega (arith, next_less, h.few)
+        pub next_counted : looked + 1 ≤ max_states
+        next_counted = omega (arith, next_less, h.few, h.wide)
 
         -- where the action is blocked there, the walk ends
         pub walking_blocked : moved g a (count_trailing_zeros 32 rest) ≡ None → stopped (count_trailing_zeros 32 rest) (looked + 1) ≡ walked g s a
@@ -111,4 +114,5 @@ module _ (g : Game) (a : ℕ) where
               small = common_lt_left g.states rest (rest - 1) h.small;
               answer = sym (along_more (count_trailing_zeros 32 rest) (members g.states (common rest (rest - 1))) u looked v e) ∙ next_answer;
               few = omega (arith, next_less, h.few);
+              wide = h.wide;
             }

@@ -11,21 +11,18 @@ use games::{Action, State};
 use tables::Table;
 
 // The state's successors, none where the action is blocked there. A parked state leads to no state.
+#[tactic(auto, using(tables::proofs::Bounds::few_states, games::proofs::Enabled::enabled_moves, games::proofs::Enabled::enabled_still), unfolding(crate::specs::Walk::moved))]
 pub fn move_from(table: Table, a: Action, i: State) -> Option<u32>
     requires { (a.0 < (game table.words.now).actions) × (i.0 < (game table.words.now).states) }
     ensures { result ≡ moved (game table.entry.words.now) a.0 i.0 }
 {
     let u = table.successors(a, i);
-    if u != 0 {
-        return Some(u);
-    }
-    if sets::member(table.parked(), i.0) {
-        return Some(0);
-    }
-    None
+    let passes = u != 0 || sets::member(table.parked(), i.0);
+    passes.then_some(u)
 }
 
 // The action is enabled in the state: it is not blocked there.
+#[tactic(auto, using(crate::proofs::Moves::moved_some))]
 pub fn enabled(table: Table, a: Action, i: State) -> bool
     requires { (a.0 < (game table.words.now).actions) × (i.0 < (game table.words.now).states) }
     ensures { result ≡ is_enabled (game table.entry.words.now) i.0 a.0 }
@@ -43,6 +40,7 @@ pub struct Walked {
 }
 
 // The lowest member is looked at and taken off, until one is blocked or none is left.
+#[tactic(auto, using(tables::proofs::Bounds::few_states))]
 pub fn walk(table: Table, s: u32, a: Action) -> Walked
     requires { a.0 < (game table.words.now).actions }
     ensures { result ≡ walked (game table.entry.words.now) s a.0 }
@@ -59,9 +57,9 @@ pub fn walk(table: Table, s: u32, a: Action) -> Walked
                 looked: looked + 1,
             };
         };
-        u = u | v;
+        u |= v;
         looked += 1;
-        rest = rest & (rest - 1);
+        rest &= rest - 1;
     }
     Walked {
         post: Ok(u),
