@@ -2,6 +2,7 @@
 #![tactic(auto)]
 
 ghost use Rattle.std.specs.Prelude.{◌≡◌, ◌<◌};
+ghost use Rattle.sets.specs.Mask.{common};
 ghost use Rattle.games.specs.Step.{good, meets};
 ghost use Rattle.games.specs.Words.{game};
 ghost use Rattle.judge.specs.Judge.{answered, judged};
@@ -26,12 +27,16 @@ fn action_turn(accepted: Accepted, s: u32, k: u32) -> bool
     if sets::common(s, accepted.table.bad()) != 0 {
         return false; // a bad member
     }
-    for a in 0..accepted.table.actions() {
-        if observation_turn(accepted, s, Action(a), k - 1) {
-            return true;
-        }
-    }
-    false
+    let rest = k - 1;
+    sets::any(
+        accepted.table.actions(),
+        |a|
+            requires { a < (game accepted.table.words.now).actions }
+            ensures { let g = game accepted.entry.table.words.now in result ≡ meets g (good g rest) s a }
+        {
+            observation_turn(accepted, s, Action(a), rest)
+        },
+    )
 }
 
 // The action is enabled at all members and, for every observation, the successors that show it are good for k rounds.
@@ -46,13 +51,16 @@ fn observation_turn(accepted: Accepted, s: u32, a: Action, k: u32) -> bool
     if k == 0 {
         return true; // every set is good for 0 rounds, so no observation is asked
     }
-    for o in 0..accepted.table.observations() {
-        let seen = sets::common(u, accepted.table.shown(Observation(o)));
-        if !action_turn(accepted, seen, k) {
-            return false;
-        }
-    }
-    true
+    sets::all(
+        accepted.table.observations(),
+        |o|
+            requires { o < (game accepted.table.words.now).observations }
+            ensures { let g = game accepted.entry.table.words.now in result ≡ good g k (common u (g.shown o)) }
+        {
+            let seen = sets::common(u, accepted.table.shown(Observation(o)));
+            action_turn(accepted, seen, k)
+        },
+    )
 }
 
 // Refusals 17 and 5, else the answer.
