@@ -1,18 +1,18 @@
 -- The two turns: what each answer of the action's turn and of the observation's turn says of the step.
 -- Assumes nothing.
-use mathlib.Core.Path.{◌≡◌, refl, sym, ap, ◌∙◌, subst}
+use mathlib.Core.Path.{◌≡◌, refl, sym, ap, ◌∙◌}
 use mathlib.Core.Bool.{Bool, true, false, ◌&&◌}
-use Prim.Native.Nat.{ℕ, zero, suc, ◌+◌, ◌-◌, ◌<◌}
+use Prim.Native.Nat.{ℕ, zero, suc, ◌-◌}
 use native.Mathlib.Numerals.{sub-one}
 use borrow.Author.Tests.{eq-eqb, ne_eqb}
 use Rattle.sets.specs.Mask.{common}
 use Rattle.sets.specs.Bounded.{all, any}
 use Rattle.sets.specs.Family.{Family}
-use Rattle.sets.proofs.Logic.{and_intro, and_false_left, and_false_right, or_false_intro}
-use Rattle.sets.proofs.Bounded.{all_intro, all_more, all_refuted, any_more}
+use Rattle.sets.proofs.Logic.{and_false_left}
+use Rattle.sets.proofs.Bounded.{all_intro}
 use Rattle.games.specs.Game.{Game, Accepted}
-use Rattle.games.specs.Step.{safe, enabled_at, post, after, meets, step, good}
-use Rattle.games.proofs.Steps.{step_intro, good_empty}
+use Rattle.games.specs.Step.{safe, post, after, meets, step, good}
+use Rattle.games.proofs.Steps.{good_empty}
 use Rattle.std.specs.Prelude.{Ok, Err}
 use Rattle.games.specs.declared.State.{State}
 use Rattle.walk.specs.Walk.{walked}

@@ -33,9 +33,7 @@ fn action_turn(accepted: Accepted, s: u32, k: u32) -> bool
         |a|
             requires { a < (game accepted.table.words.now).actions }
             ensures { let g = game accepted.entry.table.words.now in result ≡ meets g (good g rest) s a }
-        {
-            observation_turn(accepted, s, Action(a), rest)
-        },
+        { observation_turn(accepted, s, Action(a), rest) },
     )
 }
 
@@ -64,6 +62,7 @@ fn observation_turn(accepted: Accepted, s: u32, a: Action, k: u32) -> bool
 }
 
 // Refusals 17 and 5, else the answer.
+#[tactic(auto, using(tables::proofs::Bounds::few_states), unfolding(crate::specs::Judge::answered))]
 fn answer(accepted: Accepted, mask: u32, k: u32) -> Result<bool, Refusal>
     ensures { result ≡ answered accepted.entry.table.words.now mask k }
 {

@@ -1,13 +1,13 @@
--- Laws of show: each answer by its case, and the part lies in the table.
+-- Laws of show: the check of both comes first, and the part lies in the table.
 -- Assumes nothing.
-use mathlib.Core.Path.{◌≡◌, refl, sym, ap, ap₂, subst, ◌∙◌}
+use mathlib.Core.Path.{◌≡◌, refl, ap₂, subst}
 use mathlib.Core.Bool.{Bool, true, false, cond}
 use mathlib.Core.List.{List, []}
 use Prim.Native.Nat.{ℕ, ◌+◌, ◌*◌, ◌-◌, ◌≤◌, ◌<◌}
 use native.Mathlib.Omega.{arith}
 use lib.Dec.{leb}
 use lib.ListN.{length, take, drop}
-use borrow.Author.Tests.{le-leb, lt-leb, leb-false}
+use borrow.Author.Tests.{leb-false}
 use Rattle.games.specs.Answers.{unless}
 use Rattle.games.specs.Places.{move, place_of}
 use Rattle.games.specs.Words.{game}
@@ -16,9 +16,8 @@ use Rattle.games.specs.Answers.{refused}
 use Rattle.games.proofs.Places.{action_row}
 use Rattle.tables.specs.Layout.{shape_in}
 use Rattle.tables.proofs.Checks.{sized}
-use Rattle.cards.specs.Card.{card_cells, automaton}
+use Rattle.cards.specs.Card.{automaton}
 use Rattle.cards.proofs.Checked.{fitting}
-use Rattle.cards.proofs.Running.{size_of}
 use Rattle.pairs.specs.Pair.{checked}
 use Rattle.pairs.proofs.Pairing.{paired}
 use Rattle.show.specs.Show.{located, found, handed, part_of}
@@ -34,22 +33,6 @@ module _ (w k : List ℕ) (c : ℕ) where
   pub pair_refused : (e : Refusal) → checked w k ≡ Err e → Err e ≡ found w k c
   unfolding found
   pair_refused e h = rw h
-
-  pub pair_fine : checked w k ≡ Ok tt → located w k c ≡ found w k c
-  unfolding found
-  pair_fine e = rw e
-
-  -- then 12
-  pub no_such_cell : card_cells k ≤ c → refused reason.NumberBeyond c ≡ located w k c
-  unfolding located
-  no_such_cell l = rw (located, le-leb (automaton k).size c (subst (λ (i : ℕ). i ≤ c) (sym (size_of k)) l))
-
-  -- else the part, by the action that the code read
-  pub part_told : c < card_cells k → (b at n : ℕ) → b ≡ (automaton k).action c → at ≡ place_of (shape_in w) (move b 0) → n ≡ (game w).states → Ok (record { offset = at; length = n }) ≡ located w k c
-  unfolding located
-  part_told l b at n picked h s =
-      let g : at ≡ place_of (shape_in w) (move ((automaton k).action c) 0) = h ∙ ap (λ (i : ℕ). place_of (shape_in w) (move i 0)) picked in
-      rw (located, lt-leb (automaton k).size c (subst (λ (i : ℕ). c < i) (sym (size_of k)) l), g, s)
 
 -- ---- the part lies in the table
 

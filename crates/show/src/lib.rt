@@ -15,6 +15,7 @@ pub struct Part {
 }
 
 // Refusal 12, or the part.
+#[tactic(auto, using(cards::proofs::Running::size_of), unfolding(crate::specs::Show::located))]
 fn locate(pair: Pair, cell: Cell) -> Result<Part, Refusal>
     ensures { result ≡ located pair.entry.table.table.words.now pair.entry.card.words.now cell.0 }
 {
@@ -39,6 +40,7 @@ pub fn find(table: &[u32], card: &[u32], cell: Cell) -> Result<Part, Refusal>
 }
 
 // The part itself, of the table's words and never of the card's; empty where `find` refuses.
+#[tactic(auto, using(crate::proofs::Laws::part_in))]
 pub fn show<'t, 'c>(table: &'t [u32], card: &'c [u32], cell: Cell) -> &'t [u32]
     ensures { handed result.now result.ref_ptr
         ≡ part_of table.now table.entry.ref_ptr (found table.now card.now cell.0) }

@@ -2,7 +2,6 @@
 use mathlib.Core.Path.{sym, ap, ◌∙◌}
 use Prim.Native.Nat.{◌-◌}
 use borrow.Author.Rules.{rules}
-use native.Mathlib.Omega.{arith}
 use Rattle.games.specs.Step.{meets, good}
 use Rattle.games.specs.Words.{game}
 use Rattle.tables.proofs.Checks.{accepted}
