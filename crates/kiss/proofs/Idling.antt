@@ -10,12 +10,12 @@ use lib.ListN.{length}
 use borrow.Author.Tests.{lt-ltb, ltb-true, le-ltb, not-true, not-false}
 use Rattle.sets.specs.Bounded.{Found, found, nothing, first, any}
 use Rattle.sets.proofs.Logic.{true_not, false_not, and_left, and_right, and_intro}
-use Rattle.sets.proofs.Bounded.{first_ext, first_is, any_intro, any_found, any_refuted, first_stop}
+use Rattle.sets.proofs.Bounded.{first_ext, first_is, first_none, any_intro, any_found, any_refuted}
 use Rattle.games.specs.Format.{max_cells}
 use Rattle.games.specs.Automaton.{Automaton, no_cell}
 use Rattle.cards.specs.Card.{automaton, card_cells, card_observations, checked}
 use Rattle.cards.proofs.Checked.{fitting}
-use Rattle.cards.proofs.Running.{size_of}
+use Rattle.cards.proofs.Running.{size_of, named_cell}
 use Rattle.trimming.specs.Reach.{Reached, by_first, by_next, alone}
 use Rattle.trimming.specs.Trim.{no_first, reached}
 use Rattle.trimming.proofs.Reaching.{all_found, just_found}
@@ -24,13 +24,19 @@ use Rattle.trimmer.specs.Marking.{Marked}
 use Rattle.kiss.specs.Idle.{Led, at_first, later, led, idle, cell_found}
 use Rattle.games.specs.declared.Cell.{Cell}
 use Rattle.cards.specs.Run.{as_cell, led as cell_led}
-use Rattle.std.specs.Prelude.{Ok, Option, None, Some, is_some}
+use Rattle.std.specs.Prelude.{Ok, Option, None, Some, is_none, MatchOption, slice_index_or}
+use Rattle.std.specs.Option.{option_map}
+use Rattle.std.specs.Bool.{MatchBool}
+use Rattle.std.specs.List.{range_with_len, AllWithin, HoldsAt}
+use Rattle.std.proofs.lemmas.List.FromFn.{length-range_with_len, get_or-range_with_len}
 
 -- ---- whether a first word names a cell
 
--- a word that names a cell, as the code asks for it
-pub led_some : (c : ℕ) (b : Bool) → b ≡ is_some (cell_led c) → b ≡ true → c ≡ no_cell → ⊥
-led_some c b e t z = grind arith
+led_some : (c : ℕ) → is_none (cell_led c) ≡ false → c ≡ no_cell → ⊥
+led_some c e z = grind arith
+
+led_none : (c : ℕ) → is_none (cell_led c) ≡ true → c ≡ no_cell
+led_none c e = grind arith
 
 module _ (A : Automaton) (o : ℕ) where
   pub some_first : (j : ℕ) → j < o → A.begins j < A.size → no_first A o ≡ false
@@ -80,6 +86,21 @@ module _ (w : List ℕ) (e : checked w ≡ Ok tt) where
       first_ext (length marks) (λ c. not (marked marks c)) (λ c. not (led A o c)) (λ c l. ap not (m.just c (omega (arith, m.size)) ∙ sym (led_reached A o s c))) in
       h ∙ rw (same, long)
 
+-- what `all` answers over the first words, as the code asks of each whether it names no cell
+pub no_first_is : (w : List ℕ) → checked w ≡ Ok tt → (o : ℕ) → o ≡ card_observations w → (b : Bool)
+    → MatchBool b (AllWithin (λ j. is_none (cell_led ((automaton w).begins j)) ≡ true) (range_with_len 0 o) 0 (length (range_with_len 0 o)))
+    ((k : ℕ) × (k < length (range_with_len 0 o)) × HoldsAt (λ j. is_none (cell_led ((automaton w).begins j)) ≡ false) (range_with_len 0 o) k)
+    → b ≡ no_first (automaton w) o
+no_first_is w e o is true h =
+    sym (none_first (automaton w) o (omega (arith, (fitting w e).cells))
+    (λ j l.
+    let at : slice_index_or (range_with_len 0 o) j 0 ≡ j = omega (arith, get_or-range_with_len 0 o j 0 l) in
+    led_none ((automaton w).begins j) (sym (ap (λ (i : ℕ). is_none (cell_led ((automaton w).begins i))) at) ∙ h j 0 (omega arith) (omega (arith, length-range_with_len 0 o)))))
+no_first_is w e o is false h =
+    let j = slice_index_or (range_with_len 0 o) h.0 0 in
+    let l : j < o = omega (arith, get_or-range_with_len 0 o h.0 0 (omega (arith, h.1, length-range_with_len 0 o)), h.1, length-range_with_len 0 o) in
+    sym (some_first (automaton w) o j l (named_cell (automaton w) _ ((fitting w e).begins_named j (omega (arith, is, l))) (led_some ((automaton w).begins j) (h.2 0))))
+
 -- ---- which it is, by the cell that is told, if one is
 
 -- what was found, by the cell
@@ -97,25 +118,27 @@ cell_some f d e = sym (found_back f) ∙ ap found_of (sym e)
 pub cell_none : (f : Found) → None ≡ cell_found f → f ≡ nothing
 cell_none f e = sym (found_back f) ∙ ap found_of (sym e)
 
--- ---- the loop over the marks
+-- ---- the search over the marks
 
 module _ (w : List ℕ) where
-  abbrev free : ℕ → Bool
+  free : ℕ → Bool
   free c = not (marked w c)
 
-  pub free_at : (c x : ℕ) → x ≡ lower_half w c → x ≡ 0 → free c ≡ true
-  unfolding marked
-  free_at c x e z = false_not (le-ltb 0 (lower_half w c) (omega arith))
+  free_at : (c : ℕ) → lower_half w c ≡ 0 → free c ≡ true
+  unfolding marked free
+  free_at c z = false_not (le-ltb 0 (lower_half w c) (omega arith))
 
-  pub taken_at : (c x : ℕ) → x ≡ lower_half w c → (x ≡ 0 → ⊥) → free c ≡ false
-  unfolding marked
-  taken_at c x e n = true_not (lt-ltb 0 (lower_half w c) (not-le (lower_half w c) 0 (λ l. n (omega arith))))
+  taken_at : (c : ℕ) → (lower_half w c ≡ 0 → ⊥) → free c ≡ false
+  unfolding marked free
+  taken_at c n = true_not (lt-ltb 0 (lower_half w c) (not-le (lower_half w c) 0 (λ l. n (omega arith))))
 
-  pub lowest_stop : (c : ℕ) → c < length w → first c free ≡ nothing → free c ≡ true → Some (as_cell c) ≡ cell_found (first (length w) free)
-  lowest_stop c l h f = rw (first_stop (length w) free c l h f)
-
-  pub lowest_end : (c : ℕ) → c ≤ length w → length w ≤ c → first c free ≡ nothing → None ≡ cell_found (first (length w) free)
-  lowest_end c l k h = let e : c ≡ length w = omega arith in rw (← e, h)
+  -- the first cell with no mark, as `find` gives it
+  pub lowest_is : (r : Option ℕ)
+      → MatchOption r ((k : ℕ) → 0 ≤ k → k < length w → lower_half w k ≡ 0 → ⊥) (λ i. (0 ≤ i) × (i < length w) × (lower_half w i ≡ 0) × ((k : ℕ) → 0 ≤ k → k < i → lower_half w k ≡ 0 → ⊥))
+      → option_map as_cell r ≡ cell_found (first (length w) (λ c. not (marked w c)))
+  unfolding free
+  lowest_is None h = rw (first_none (length w) free (λ k l. taken_at k (h k (omega arith) l)))
+  lowest_is (Some i) h = rw (first_is (length w) free i h.1 (free_at i h.2) (λ k l. taken_at k (h.3 k (omega arith) l)))
 
 -- ---- what it means
 

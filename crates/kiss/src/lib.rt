@@ -1,5 +1,5 @@
-// What writing and reading a card as KISS2 (document 02, change 6) share: the bits of a number, and the lowest cell that no sequence of
-// observations leads to.
+// What writing and reading a card as KISS2 (document 02, change 6) share: the slot of a line, the bits of a number, and the lowest cell that
+// no sequence of observations leads to.
 #![tactic(auto)]
 
 ghost use Rattle.std.specs.Prelude.{◌≡◌, false, not, ◌≤◌, length};
@@ -13,6 +13,14 @@ ghost use Rattle.kiss.specs.Idle.{idle, cell_found};
 
 use cards::Card;
 use games::{Cell, Observation};
+
+// A state and an observation. A state is a number, 0 for the reset state and 1 + c for cell c, and no `Option<Cell>`: states are ordered with
+// the reset state first, as in the text. The observation is a number too, for the lowest free slot may be one past the last.
+#[derive(Clone, Copy)]
+pub struct Slot {
+    pub state: u32,
+    pub observation: u32,
+}
 
 // The fewest bits that hold n - 1, at least one.
 pub fn bits(n: u32) -> u32
@@ -28,16 +36,11 @@ pub fn bits(n: u32) -> u32
     3
 }
 
-// Whether no first word names a cell. By `all` over the range it was tried, and its proof did not close.
+// Whether no first word names a cell.
 fn no_first(card: Card) -> bool
     ensures { result ≡ no_first (automaton card.entry.words.now) (card_observations card.entry.words.now) }
 {
-    for j in 0..card.observations() {
-        if card.first_cell(Observation(j)).is_some() {
-            return false;
-        }
-    }
-    true
+    (0..card.observations()).all(|j| card.first_cell(Observation(j)).is_none())
 }
 
 // The lowest cell that is not marked.
@@ -45,12 +48,9 @@ fn lowest_unmarked(marks: &[u32]) -> Option<Cell>
     requires { length marks.now ≤ max_cells }
     ensures { result ≡ cell_found (first (length marks.now) (λ c. not (marked marks.now c))) }
 {
-    for c in 0..marks.len() {
-        if trimmer::lower(marks, c) == 0 {
-            return Some(Cell(c as u32));
-        }
-    }
-    None
+    (0..marks.len() as u32)
+        .find(|c| trimmer::lower(marks, *c as usize) == 0)
+        .map(Cell)
 }
 
 // The lowest cell that is not reached, where a first word names a cell; a mark for each cell is lent.

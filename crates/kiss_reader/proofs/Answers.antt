@@ -1,10 +1,10 @@
 -- Laws of the answers: what a text reads as, and each return of the reader as the outcome that the definition gives.
 -- Assumes nothing.
 use mathlib.Core.Path.{◌≡◌, sym, ap, ap₂, ◌∙◌, subst}
-use mathlib.Core.List.{List, ◌++◌}
+use mathlib.Core.List.{List, [], ◌++◌}
 use Prim.Native.Nat.{ℕ, ◌+◌, ◌*◌, ◌-◌, ◌≤◌, ◌<◌}
 use native.Mathlib.Omega.{arith}
-use lib.ListN.{length, take, drop, length-append}
+use lib.ListN.{length, take, drop}
 use lib.Seq.{take_at}
 use borrow.Author.Tests.{lt-ltb, le-ltb}
 use Rattle.sets.specs.Bounded.{Found, found, nothing, at_found}
@@ -15,6 +15,7 @@ use Rattle.games.specs.declared.Refusal.{Refusal}
 use Rattle.games.specs.Answers.{Leaves, leaves}
 use Rattle.games.specs.Words.{card_length}
 use Rattle.cards.specs.Card.{card_cells, checked}
+use Rattle.cards.specs.declared.words.Card.{Card}
 use Rattle.cards.proofs.Written.{written_checked}
 use Rattle.form.specs.Form.{Form, Outcome, read, departs, reads, byte_at}
 use Rattle.form.specs.Cursors.{runs, behind}
@@ -26,7 +27,7 @@ use Rattle.games.specs.Answers.{refused}
 use Rattle.kiss_reader.specs.declared.Head.{Head}
 use Rattle.kiss_reader.specs.declared.sizes.Sizes.{Sizes}
 use Rattle.kiss_reader.specs.Read.{Answer, read_as, by_room, of_card, told, read_into}
-use Rattle.kiss_reader.specs.Reading.{HeadRead, all_lines, LinesRead, CardRead}
+use Rattle.kiss_reader.specs.Reading.{HeadRead, Held, all_lines, LinesRead}
 use Rattle.kiss_reader.proofs.Lines.{says_long}
 
 -- ---- what the text reads as
@@ -54,17 +55,13 @@ module _ (c r : Reader) (h : Head) (g : HeadRead c r (Ok h)) (at : c.at ≡ 0) (
   pub lines_reading : (w : List ℕ) (e : Result (Unit {0}) ℕ) → LinesRead z r w e → reading c.text.now ≡ behind e (λ _. read w)
   lines_reading w e k = head_reading c r (Ok h) at g ∙ ap (λ (F : Form). runs F r) same_lines ∙ k.goes
 
-  pub card_read : (w rest : List ℕ) (need : ℕ) → need ≡ card_length z.cells z.observations → LinesRead z r w (Ok tt) → CardRead c.text.now (Ok need) (w ++ rest)
-  card_read w rest need n k =
-      let B = k.held.machine in
-      let s = k.held.says in
-      let long : length w ≡ need = says_long z B w s ∙ sym n in
-      let front : take need (w ++ rest) ≡ w = take_at w rest need long in
-      record {
-        few = omega (arith, length-append w rest);
-        reads = lines_reading w (Ok tt) k ∙ ap read (sym front);
-        fine = ap checked (front ∙ s.words) ∙ written_checked B z.actions z.observations s.fitting;
-      }
+-- the words that were read stand in front, and are a card
+module _ (z : Sizes) (w : List ℕ) (held : Held z w) where
+  pub held_front : (need : ℕ) (rest : List ℕ) → need ≡ card_length z.cells z.observations → take need (w ++ rest) ≡ w
+  held_front need rest e = take_at w rest need (says_long z held.machine w held.says ∙ sym e)
+
+  pub held_checked : checked w ≡ Ok tt
+  held_checked = ap checked held.says.words ∙ written_checked held.machine z.actions z.observations held.says.fitting
 
 -- ---- the answer for a card
 
@@ -100,15 +97,15 @@ module _ (t d : List ℕ) where
 
 -- ---- with the refusal's reason
 
-abbrev ok_of : Result ℕ Refusal → ℕ
-ok_of (Ok x) = x
-ok_of (Err q) = 0
+abbrev words_of : Result Card Refusal → List ℕ
+words_of (Ok x) = x.words.now
+words_of (Err q) = []
 
-module _ (P : ℕ → Refusal → Type 0) where
-  pub card_told : (t w : List ℕ) (e : Result ℕ ℕ) (m : Result ℕ Refusal) (n : ℕ) → m ≡ Ok n → MatchResult e (λ x. m ≡ Ok x) (λ p. IsErrAnd m (P p)) → CardRead t e w → CardRead t (Ok n) w
-  card_told t w (Ok x) m n is k r = subst (λ (y : ℕ). CardRead t (Ok y) w) (ap ok_of (sym k ∙ is)) r
-  card_told t w (Err p) m n is k r = absurd (subst (λ (y : Result ℕ Refusal). IsErrAnd y (P p)) is k)
+module _ (P : ℕ → Refusal → Type 0) (t : List ℕ) where
+  pub card_told : (e : Result Card ℕ) (m : Result Card Refusal) (x : Card) → m ≡ Ok x → MatchResult e (λ y. m ≡ Ok y) (λ p. IsErrAnd m (P p)) → reading t ≡ behind e (λ y. read y.words.now) → reading t ≡ read x.words.now
+  card_told (Ok y) m x is k r = r ∙ ap read (ap words_of (sym k ∙ is))
+  card_told (Err p) m x is k r = absurd (subst (λ (y : Result Card Refusal). IsErrAnd y (P p)) is k)
 
-  pub card_departs : (t w d : List ℕ) (e : Result ℕ ℕ) (m : Result ℕ Refusal) (q : Refusal) → m ≡ Err q → MatchResult e (λ x. m ≡ Ok x) (λ p. IsErrAnd m (P p)) → CardRead t e w → ((p : ℕ) → P p q → q ≡ record { reason = reason.Departs; place = p }) → leaves (Err q) d ≡ read_into t d
-  card_departs t w d (Ok x) m q is k r f = absurd (subst (λ (y : Result ℕ Refusal). MatchResult y (λ _. Unit {0}) (λ _. ⊥)) (sym k ∙ is) tt)
-  card_departs t w d (Err p) m q is k r f = ap (λ (y : Refusal). leaves (Err y) d) (f p (subst (λ (y : Result ℕ Refusal). IsErrAnd y (P p)) is k)) ∙ read_departs t d p r.reads
+  pub card_departs : (d : List ℕ) (e : Result Card ℕ) (m : Result Card Refusal) (q : Refusal) → m ≡ Err q → MatchResult e (λ x. m ≡ Ok x) (λ p. IsErrAnd m (P p)) → reading t ≡ behind e (λ y. read y.words.now) → ((p : ℕ) → P p q → q ≡ record { reason = reason.Departs; place = p }) → leaves (Err q) d ≡ read_into t d
+  card_departs d (Ok x) m q is k r f = absurd (subst (λ (y : Result Card Refusal). MatchResult y (λ _. Unit {0}) (λ _. ⊥)) (sym k ∙ is) tt)
+  card_departs d (Err p) m q is k r f = ap (λ (y : Refusal). leaves (Err y) d) (f p (subst (λ (y : Result Card Refusal). IsErrAnd y (P p)) is k)) ∙ read_departs t d p r

@@ -31,7 +31,7 @@ use Rattle.kiss.specs.Profile.{blank, known, with_line, least_output, most_outpu
 use Rattle.kiss.proofs.Widths.{bits_some}
 use Rattle.kiss.proofs.Machines.{fitting_blank, blank_size, fitting_line, line_size}
 use Rattle.kiss_reader.specs.declared.sizes.Sizes.{Sizes}
-use Rattle.kiss_reader.specs.declared.Slot.{Slot}
+use Rattle.kiss.specs.declared.Slot.{Slot}
 use Rattle.kiss_reader.specs.declared.Line.{Line}
 use Rattle.kiss_reader.specs.Storing.{stored}
 use Rattle.kiss_reader.specs.Reading.{slot, entry, Says, Held, outputs_by, LineRead, comes, EndRead, all_lines, InLines, LinesRead}

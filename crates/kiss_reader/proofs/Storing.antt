@@ -14,10 +14,11 @@ use borrow.Author.Tests.{eqb-true, eqb-false}
 use Rattle.sets.specs.Bounded.{gather}
 use Rattle.sets.proofs.Logic.{decided}
 use Rattle.games.specs.Format.{max_observations, max_cells, kind_values, kind_first, kind_cell, kind_next}
-use Rattle.games.specs.Automaton.{Automaton}
+use Rattle.games.specs.Automaton.{Automaton, no_cell}
 use Rattle.games.specs.Fields.{word}
-use Rattle.games.specs.Words.{part_length, card_length, card_head, cell_words, card_words}
+use Rattle.games.specs.Words.{front_length, part_length, card_length, card_head, cell_words, card_words}
 use Rattle.cards.specs.Card.{head_place, first_place, cell_place, next_place}
+use Rattle.cards.proofs.Parts.{row_length, Carded, carded_none, fronted_room, carded_whole}
 use Rattle.cards.proofs.Spots.{every_place}
 use Rattle.cards.proofs.Checked.{cell_within}
 use Rattle.cards.proofs.Written.{card_long, head_at, first_at, cell_at, next_at}
@@ -187,12 +188,31 @@ unfolding blank card_words
 blank_card m a o = refl
 
 -- the parts written fill the words
-pub blank_whole : (m a o : ℕ) (d : List ℕ) → length d ≡ card_length m o → (blank_row kind_first (card_head m o a) o ++ gather m (cell_words (blank m) o)) ++ drop (card_length m o) d ≡ card_words (blank m) a o
+blank_whole : (m a o : ℕ) (d : List ℕ) → length d ≡ card_length m o → (blank_row kind_first (card_head m o a) o ++ gather m (cell_words (blank m) o)) ++ drop (card_length m o) d ≡ card_words (blank m) a o
 blank_whole m a o d e =
     ap (λ (n : ℕ). (blank_row kind_first (card_head m o a) o ++ gather m (cell_words (blank m) o)) ++ drop n d) (sym e)
     ∙ ap (λ (l : List ℕ). (blank_row kind_first (card_head m o a) o ++ gather m (cell_words (blank m) o)) ++ l) (drop-length d)
     ∙ append-nil (blank_row kind_first (card_head m o a) o ++ gather m (cell_words (blank m) o))
     ∙ blank_card m a o
+
+-- a front of f words stands in the room of the card, and the parts are written behind it
+module _ (m a o f x : ℕ) (size : f ≡ front_length o) (head_is : x ≡ card_head m o a) (room row : List ℕ) (is : row ≡ blank_row kind_first x o) (long : length room ≡ card_length m o) where
+  abbrev front : List ℕ
+  front = blank_row kind_first (card_head m o a) o
+
+  front_long : length front ≡ front_length o
+  front_long = row_length o (λ j. word kind_first no_cell j 0)
+
+  row_is : row ≡ front
+  row_is = is ∙ ap (λ (y : ℕ). blank_row kind_first y o) head_is
+
+  pub blank_fronted : Carded o m (cell_words (blank m) o) (row ++ drop f room) 0 (row ++ drop f room)
+  blank_fronted = carded_none o m (cell_words (blank m) o) _ (fronted_room o m (cell_words (blank m) o) front f size front_long room row row_is (omega (arith, long)))
+
+  pub blank_written : (c : ℕ) (d : List ℕ) → Carded o m (cell_words (blank m) o) (row ++ drop f room) c d → m ≤ c → d ≡ card_words (blank m) a o
+  blank_written c d w h =
+      carded_whole o m (cell_words (blank m) o) front f size front_long room row row_is (omega (arith, long)) c d w h
+      ∙ blank_whole m a o room long
 
 -- ---- as the code stores a line
 

@@ -1,22 +1,22 @@
 -- What the parts of the reader promise: from one place to the next, whatever follows.
 -- Assumes nothing.
-use Rattle.std.specs.Prelude.{◌≡◌, Bool, cond, not, ◌&&◌, List, ℕ, ◌+◌, ◌*◌, ◌-◌, ◌≤◌, ◌<◌, eqb, ltb, length, take, Result, Ok, IfOk}
+use Rattle.std.specs.Prelude.{◌≡◌, Bool, cond, not, ◌&&◌, List, ℕ, ◌+◌, ◌*◌, ◌-◌, ◌≤◌, ◌<◌, eqb, ltb, Result, IfOk}
 use Rattle.games.specs.Format.{max_actions, max_observations, max_cells}
 use Rattle.games.specs.Automaton.{Automaton}
 use Rattle.games.specs.Fields.{low_field, action_field}
 use Rattle.games.specs.Words.{card_words}
-use Rattle.cards.specs.Card.{Fitting, checked}
+use Rattle.cards.specs.Card.{Fitting}
 use Rattle.text.specs.Text.{bytes}
 use Rattle.form.specs.Form.{Form, read, word, number}
 use Rattle.form.specs.Cursors.{runs, behind}
 use Rattle.form.specs.declared.Reader.{Reader}
 use Rattle.form.specs.declared.Range.{Range}
 use Rattle.kiss.specs.Text.{bits, newline}
-use Rattle.kiss.specs.Profile.{blank, state_from, least_output, most_output, least_input, least_state, more, line, end, lines, head, reading}
+use Rattle.kiss.specs.Profile.{blank, state_from, least_output, most_output, least_input, least_state, more, line, end, lines, head}
 use Rattle.kiss_reader.specs.declared.Counts.{Counts}
 use Rattle.kiss_reader.specs.declared.Head.{Head}
 use Rattle.kiss_reader.specs.declared.sizes.Sizes.{Sizes}
-use Rattle.kiss_reader.specs.declared.Slot.{Slot}
+use Rattle.kiss.specs.declared.Slot.{Slot}
 use Rattle.kiss_reader.specs.declared.Entry.{Entry}
 use Rattle.kiss_reader.specs.declared.Line.{Line}
 
@@ -138,9 +138,3 @@ pub record InLines (z : Sizes) (start c : Reader) (k : ℕ) (free : Slot) (B : A
 pub record LinesRead (z : Sizes) (start : Reader) (w : List ℕ) (e : Result (Unit {0}) ℕ) : Type 0 where
   pub held : Held z w
   pub goes : runs (all_lines z) start ≡ behind e (λ _. read w)
-
--- the text is read, and its words stand in front
-pub record CardRead (t : List ℕ) (e : Result ℕ ℕ) (w : List ℕ) : Type 0 where
-  pub few : IfOk e (λ n. n ≤ length w)
-  pub reads : reading t ≡ behind e (λ n. read (take n w))
-  pub fine : IfOk e (λ n. checked (take n w) ≡ Ok tt)

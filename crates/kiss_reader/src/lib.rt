@@ -8,9 +8,10 @@ ghost use Rattle.games.specs.declared.Reason.TheVariants.{Departs};
 ghost use Rattle.games.specs.Format.{max_cells, number_values};
 ghost use Rattle.games.specs.Words.{card_length, card_words};
 ghost use Rattle.cards.specs.Card.{cell_place};
-ghost use Rattle.form.specs.Form.{byte_at};
-ghost use Rattle.kiss.specs.Profile.{blank, state_from, least_input, least_state};
-ghost use Rattle.kiss_reader.specs.Reading.{widths, states, Passed, Told, CountsRead, HeadRead, Held, outputs_by, LineRead, Bounded, comes, EndRead, LinesRead, CardRead};
+ghost use Rattle.form.specs.Form.{read, byte_at};
+ghost use Rattle.form.specs.Cursors.{behind};
+ghost use Rattle.kiss.specs.Profile.{blank, state_from, least_input, least_state, reading};
+ghost use Rattle.kiss_reader.specs.Reading.{widths, states, Passed, Told, CountsRead, HeadRead, Held, outputs_by, LineRead, Bounded, comes, EndRead, LinesRead};
 ghost use Rattle.games.specs.Kinds.{kind_number};
 ghost use Rattle.kiss_reader.specs.Storing.{most_words, blank_row, slot_kind, stored};
 ghost use Rattle.kiss_reader.specs.Read.{of_card, read_into, Reads};
@@ -20,6 +21,7 @@ mod sizes;
 use cards::{Card, Extent};
 use form::{Numeral, Range, Reader};
 use games::{Action, Cell, Kind, Observation, Reason, Refusal};
+use kiss::Slot;
 pub use sizes::Sizes;
 
 #[derive(Clone, Copy)]
@@ -34,13 +36,6 @@ pub struct Head {
     pub actions: u32,
     pub observations: u32,
     pub states: u32,
-}
-
-// A state and an observation. A state is a number, 0 for the reset state: states are ordered with it first, as in the text.
-#[derive(Clone, Copy)]
-pub struct Slot {
-    pub state: u32,
-    pub observation: u32,
 }
 
 // A cell that is entered and its output.
@@ -192,25 +187,22 @@ fn read_state(r: &mut Reader, m: u32, least: u32) -> Result<u32, usize>
     Ok(cell + 1)
 }
 
-// Of the lowest free slot: what the next line can have.
-impl Slot {
-    // The least observation, of m cells: in the last state it is none below the slot's.
-    fn least_input(self, m: u32) -> u32
-        ensures { result ≡ least_input m self.state self.observation }
-    {
-        if self.state < m { 0 } else { self.observation }
-    }
+// What the next line can have, from the lowest free slot on: the least observation, of m cells (in the last state it is none below the slot's),
+// and the least state for observation j.
+fn least_input(free: Slot, m: u32) -> u32
+    ensures { result ≡ least_input m free.state free.observation }
+{
+    if free.state < m { 0 } else { free.observation }
+}
 
-    // The least state for observation j.
-    fn least_state(self, j: u32) -> u32
-        requires { self.state ≤ max_cells }
-        ensures { result ≡ least_state self.state self.observation j }
-    {
-        if j < self.observation {
-            self.state + 1
-        } else {
-            self.state
-        }
+fn least_state(free: Slot, j: u32) -> u32
+    requires { free.state ≤ max_cells }
+    ensures { result ≡ least_state free.state free.observation j }
+{
+    if j < free.observation {
+        free.state + 1
+    } else {
+        free.state
     }
 }
 
@@ -250,12 +242,12 @@ fn read_line(r: &mut Reader, machine: Machine, free: Slot) -> Result<Line, usize
 {
     let z = machine.sizes;
     let inputs = Range {
-        least: free.least_input(z.cells),
+        least: least_input(free, z.cells),
         most: z.observations - 1,
     };
     let observation = r.number(z.input, inputs)?;
     r.expect(b" ")?;
-    let state = read_state(r, z.cells, free.least_state(observation))?;
+    let state = read_state(r, z.cells, least_state(free, observation))?;
     r.expect(b" c")?;
     let cells = Range {
         least: 0,
@@ -371,10 +363,10 @@ fn read_lines(r: &mut Reader, z: Sizes, words: &mut [u32]) -> Result<(), usize>
     read_end(r)
 }
 
-// The text, into words for the longest card: how many words its card has.
-fn read_card(text: &[u8], words: &mut [u32]) -> Result<usize, usize>
+// The card that a text says, in words that are lent for the longest one.
+fn read_card<'w>(text: &[u8], words: &'w mut [u32]) -> Result<Card<'w>, usize>
     requires { length words.old ≡ most_words }
-    ensures { CardRead text.now result words.new }
+    ensures { reading text.now ≡ behind result (λ card. read card.words.now) }
 {
     let mut r = Reader { text, at: 0 };
     let head = read_head(&mut r)?;
@@ -382,7 +374,9 @@ fn read_card(text: &[u8], words: &mut [u32]) -> Result<usize, usize>
     let need = games::card_length(z.cells, z.observations);
     write_blank(z, &mut words[..need]);
     read_lines(&mut r, z, &mut words[..need])?;
-    Ok(need)
+    Ok(Card {
+        words: &words[..need],
+    })
 }
 
 // ---- the answer
@@ -418,7 +412,5 @@ pub fn read(text: &[u8], out: &mut [u32]) -> Result<Extent, Refusal>
     ensures promised { Reads text.now result out.new }
 {
     let mut words = [0u32; MOST_WORDS];
-    let need = read_card(text, &mut words).map_err(departing)?;
-    let words = &words[..need];
-    tell(Card { words }, out)
+    tell(read_card(text, &mut words).map_err(departing)?, out)
 }

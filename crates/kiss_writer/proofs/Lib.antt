@@ -1,4 +1,4 @@
-pub mod Digits
+pub mod Numbers
 pub mod Lines
 pub mod Rows
 pub mod Answers

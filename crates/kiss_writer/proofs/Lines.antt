@@ -17,7 +17,7 @@ use Rattle.kiss.proofs.Widths.{bits_few, bits_some}
 use Rattle.kiss.proofs.Machines.{slot_none as no_line, slot_line as some-line}
 use Rattle.kiss_writer.specs.Lines.{line_front, line_of, head_front, head_of, card_head_text, Narrow, Wide, slot_of, lines_of, name_bytes, line_bytes, most_bytes, head_bytes, LineLong}
 use Rattle.kiss_writer.specs.declared.Bits.{Bits}
-use Rattle.kiss_writer.proofs.Digits.{digits_long}
+use Rattle.kiss_writer.proofs.Numbers.{digits_long}
 use Rattle.std.specs.Prelude.{Ok, Option, Some, None, is_some}
 use Rattle.sets.proofs.Logic.{clash}
 use Rattle.games.specs.declared.Cell.{Cell}

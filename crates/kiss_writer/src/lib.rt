@@ -15,8 +15,9 @@ ghost use Rattle.kiss_writer.specs.Lines.{line_front, line_of, head_front, head_
 ghost use Rattle.kiss_writer.specs.Lines.{cell_bytes, most_bytes, front_bytes, head_bytes, lines_bytes};
 ghost use Rattle.kiss_writer.specs.Write.{by_room, written_to, Writes};
 
-use cards::Card;
-use games::{Action, Cell, Observation, Reason, Refusal};
+use cards::{Card, Entered};
+use games::{Cell, Observation, Reason, Refusal};
+use kiss::Slot;
 use text::Writer;
 
 // The bits of input and output.
@@ -33,22 +34,33 @@ const HEAD_BYTES: usize = 57;
 
 const END_BYTES: usize = 3;
 
-// A number of so many digits; the first may be as high as 9, whatever the base.
-// By hand: its clause says each byte, also past the room, and the width is fixed; `Display` says nothing of these.
-fn put_digits<const BASE: u32, const WIDTH: u32>(out: &mut Writer, x: u32)
+// A number in so many digits; the first may be as high as 9, whatever the base.
+// By hand: the clause says each byte, and the width is fixed; `Display` says nothing of these.
+fn digits<const BASE: u32, const WIDTH: usize>(x: u32) -> [u8; WIDTH]
     requires base { (2 ≤ BASE) × (BASE ≤ 10) }
-    requires width { (1 ≤ WIDTH) × (BASE ^ (WIDTH - 1) < 2 ^ 32) }
+    requires width { (1 ≤ WIDTH) × (WIDTH ≤ 10) × (BASE ^ (WIDTH - 1) < 2 ^ 32) }
+    requires first { x < 10 * BASE ^ (WIDTH - 1) }
+    ensures { result ≡ digits BASE WIDTH x }
+{
+    let mut bytes = sets::filled::<u8, WIDTH>(b'0');
+    let mut unit = BASE.pow(WIDTH as u32 - 1);
+    let mut rest = x;
+    for byte in bytes.iter_mut() {
+        *byte = b'0' + (rest / unit) as u8;
+        rest %= unit;
+        unit /= BASE;
+    }
+    bytes
+}
+
+fn put_digits<const BASE: u32, const WIDTH: usize>(out: &mut Writer, x: u32)
+    requires base { (2 ≤ BASE) × (BASE ≤ 10) }
+    requires width { (1 ≤ WIDTH) × (WIDTH ≤ 10) × (BASE ^ (WIDTH - 1) < 2 ^ 32) }
     requires first { x < 10 * BASE ^ (WIDTH - 1) }
     requires place { out.old.at + WIDTH < room }
     ensures { Puts (digits BASE WIDTH x) out.old out.new × (out.new.at ≤ out.old.at + WIDTH) }
 {
-    let mut unit = BASE.pow(WIDTH - 1);
-    let mut rest = x;
-    for _ in 0..WIDTH {
-        out.put(b'0' + (rest / unit) as u8);
-        rest %= unit;
-        unit /= BASE;
-    }
+    out.put_bytes(&digits::<BASE, WIDTH>(x))
 }
 
 // A number in at most three bits.
@@ -63,8 +75,7 @@ fn put_bits(out: &mut Writer, width: u32, x: u32)
     }
 }
 
-// The name of a cell; of a state, which is number 0 for the reset state and number 1 + c for cell c. A state is a number and no
-// `Option<Cell>`: states are ordered with the reset state first, as in the text.
+// The name of a cell; of a state, by its number.
 fn put_cell(out: &mut Writer, cell: Cell)
     requires { (cell.0 < max_cells) × (out.old.at + cell_bytes < room) }
     ensures { Puts (cell_name cell.0) out.old out.new × (out.new.at ≤ out.old.at + cell_bytes) }
@@ -84,27 +95,27 @@ fn put_state(out: &mut Writer, state: u32)
 }
 
 // A line up to the cell that is entered, and the whole line.
-fn put_line_front(out: &mut Writer, width: u32, state: u32, seen: Observation)
-    requires { (1 ≤ width) × (width ≤ 3) × (state ≤ max_cells) × (seen.0 < max_observations) × (out.old.at + 3 + cell_bytes + 2 < room) }
-    ensures { Puts (line_front width state seen.0) out.old out.new
+fn put_line_front(out: &mut Writer, width: u32, slot: Slot)
+    requires { (1 ≤ width) × (width ≤ 3) × (slot.state ≤ max_cells) × (slot.observation < max_observations) × (out.old.at + 3 + cell_bytes + 2 < room) }
+    ensures { Puts (line_front width slot.state slot.observation) out.old out.new
         × (out.new.at ≤ out.old.at + 3 + cell_bytes + 2) }
 {
-    put_bits(out, width, seen.0);
+    put_bits(out, width, slot.observation);
     out.put(b' ');
-    put_state(out, state);
+    put_state(out, slot.state);
     out.put(b' ')
 }
 
-fn put_line(out: &mut Writer, widths: Bits, state: u32, seen: Observation, to: Cell, picked: Action)
-    requires { Narrow widths × (state ≤ max_cells) × (seen.0 < max_observations) × (to.0 < max_cells) × (picked.0 < max_actions)
-        × (out.old.at + most_bytes < room) }
-    ensures { Puts (line_of widths.input widths.output state seen.0 to.0 picked.0) out.old out.new
+fn put_line(out: &mut Writer, widths: Bits, slot: Slot, to: Entered)
+    requires { Narrow widths × (slot.state ≤ max_cells) × (slot.observation < max_observations) × (to.cell.0 < max_cells)
+        × (to.action.0 < max_actions) × (out.old.at + most_bytes < room) }
+    ensures { Puts (line_of widths.input widths.output slot.state slot.observation to.cell.0 to.action.0) out.old out.new
         × (out.new.at ≤ out.old.at + most_bytes) }
 {
-    put_line_front(out, widths.input, state, seen);
-    put_cell(out, to);
+    put_line_front(out, widths.input, slot);
+    put_cell(out, to.cell);
     out.put(b' ');
-    put_bits(out, widths.output, picked.0);
+    put_bits(out, widths.output, to.action.0);
     out.put(b'\n')
 }
 
@@ -153,27 +164,28 @@ impl<'c> Sheet<'c> {
         Sheet { card, widths }
     }
 
-    // The cell that a state goes to on an observation, where that can occur.
-    fn entered(self, state: u32, seen: Observation) -> Option<Cell>
-        requires { (state ≤ card_cells self.card.words.now) × (seen.0 < card_observations self.card.words.now) }
-        ensures { result ≡ led (target (automaton self.entry.card.words.now) state seen.0) }
+    // The cell that a slot leads to, where that can occur.
+    fn entered(self, slot: Slot) -> Option<Cell>
+        requires { (slot.state ≤ card_cells self.card.words.now) × (slot.observation < card_observations self.card.words.now) }
+        ensures { result ≡ led (target (automaton self.entry.card.words.now) slot.state slot.observation) }
     {
-        if state == 0 {
+        let seen = Observation(slot.observation);
+        if slot.state == 0 {
             return self.card.first_cell(seen);
         }
-        self.card.next_cell(Cell(state - 1), seen)
+        self.card.next_cell(Cell(slot.state - 1), seen)
     }
 
-    // The line of a state for an observation; none where that cannot occur.
-    fn put_slot(self, out: &mut Writer, state: u32, seen: Observation)
-        requires { (state ≤ card_cells self.card.words.now) × (seen.0 < card_observations self.card.words.now)
+    // The line of a slot; none where it cannot occur.
+    fn put_slot(self, out: &mut Writer, slot: Slot)
+        requires { (slot.state ≤ card_cells self.card.words.now) × (slot.observation < card_observations self.card.words.now)
             × (out.old.at + most_bytes < room) }
-        ensures { Puts (slot_of self.entry.card.words.now state seen.0) out.old out.new
+        ensures { Puts (slot_of self.entry.card.words.now slot.state slot.observation) out.old out.new
             × (out.new.at ≤ out.old.at + most_bytes) }
     {
-        if let Some(to) = self.entered(state, seen) {
-            let picked = self.card.cell_action(to);
-            put_line(out, self.widths, state, seen, to, picked)
+        if let Some(cell) = self.entered(slot) {
+            let action = self.card.cell_action(cell);
+            put_line(out, self.widths, slot, Entered { cell, action })
         }
     }
 
@@ -183,8 +195,8 @@ impl<'c> Sheet<'c> {
         ensures { Puts (lines_of self.entry.card.words.now state) out.old out.new
             × (out.new.at ≤ out.old.at + card_observations self.entry.card.words.now * most_bytes) }
     {
-        for j in 0..self.card.observations() {
-            self.put_slot(out, state, Observation(j));
+        for observation in 0..self.card.observations() {
+            self.put_slot(out, Slot { state, observation });
         }
     }
 
@@ -227,8 +239,8 @@ impl<'c> Sheet<'c> {
         ensures { (result ≡ length (lines_of self.entry.card.words.now state)) × (result ≤ max_observations * most_bytes) }
     {
         let mut bytes: usize = 0;
-        for j in 0..self.card.observations() {
-            if self.entered(state, Observation(j)).is_some() {
+        for observation in 0..self.card.observations() {
+            if self.entered(Slot { state, observation }).is_some() {
                 bytes += line;
             }
         }

@@ -1,23 +1,16 @@
-use mathlib.Core.Path.{sym, ap, ◌∙◌}
-use Prim.Native.Nat.{◌<◌}
-use Rattle.std.specs.Prelude.{is_some}
-use native.Mathlib.Omega.{arith}
-use Rattle.cards.specs.Card.{card_observations, automaton}
-use Rattle.cards.proofs.Checked.{fitting}
-use Rattle.cards.proofs.Running.{named_cell}
-use Rattle.kiss.proofs.Idling.{led_some, some_first, none_first}
+-- `kiss::no_first` meets its contract.
+use Rattle.std.proofs.Common.{rules, refl, ◌≡◌, true, false, arith}
+use borrow.Author.Tests.{tests}
+use Rattle.std.proofs.lemmas.Iterator.{YieldsList-from_range, cases_from_all}
+use Rattle.std.specs.Prelude.{is_none}
+use Rattle.cards.specs.Card.{automaton}
+use Rattle.cards.specs.Run.{led}
+use Rattle.kiss.proofs.Idling.{no_first_is}
 use Rattle.kiss.proofs.no_first.Goals as goal
 
--- a first word that names a cell
-pub returns-then-is_some : goal.returns-then-is_some
-returns-then-is_some c =
-    let A = automaton c.args.card.words.now in
-    let l : c.loop-j.j < card_observations c.args.card.words.now = omega (arith, c.loop-j-test.true, c.observations-j-end.ensures) in
-    let named = led_some (A.begins c.loop-j.j) c.is_some.result (c.is_some.ensures ∙ ap is_some c.first_cell.ensures) c.if-is_some.true in
-    sym (some_first A (card_observations c.args.card.words.now) c.loop-j.j l (named_cell A (A.begins c.loop-j.j) ((fitting c.args.card.words.now c.args.card.checked).begins_named c.loop-j.j l) named))
-
--- none does
 pub returns : goal.returns
 returns c =
-    let F = fitting c.args.card.words.now c.args.card.checked in
-    sym (none_first (automaton c.args.card.words.now) (card_observations c.args.card.words.now) (omega (arith, F.cells)) (λ j l. c.loop-j.invariant j (omega (arith, c.loop-j-test.false, c.observations-j-end.ensures))))
+    rw (← c.observations.ensures)
+    (no_first_is c.args.card.words.now c.args.card.checked c.observations.result c.observations.ensures c.all.result
+    (cases_from_all _ _ _ (λ j. is_none (led ((automaton c.args.card.words.now).begins j)) ≡ true) (λ j. is_none (led ((automaton c.args.card.words.now).begins j)) ≡ false)
+    c.all.ensures.ran (YieldsList-from_range 0 c.observations.result c.observations.result refl (omega arith)) (λ x q k. search (rules, tests)) (λ x q k. search (rules, tests))))

@@ -7,11 +7,11 @@ use Rattle.kiss_reader.proofs.read.Goals as goal
 
 pub returns : goal.returns
 returns c =
-    let w = whole c.args.text.now c.args.out.now (small_text _ (λ i. omega (arith, c.type_inv.text i))) _ _ (read_told _ _ _ (card_told _ _ _ _ _ _ c.in_ok-need.was c.map_err.ensures.cases c.read_card.ensures).reads _ c.tell.ensures) in
+    let w = whole c.args.text.now c.args.out.now (small_text _ (λ i. omega (arith, c.type_inv.text i))) _ _ (read_told _ _ _ (card_told _ _ _ _ _ c.in_ok-map_err.was c.map_err.ensures.cases c.read_card.ensures) _ c.tell.ensures) in
     record { determined = w.0; promised = w.1 }
 
-pub returns-in_err-need : goal.returns-in_err-need
-returns-in_err-need c =
+pub returns-in_err-map_err : goal.returns-in_err-map_err
+returns-in_err-map_err c =
     let p = err_from_is_err_and c.from_residual.result c.from_residual.ensures.1 in
-    let w = whole c.args.text.now c.args.out.now (small_text _ (λ i. omega (arith, c.type_inv.text i))) _ _ (card_departs _ _ _ _ _ _ _ c.in_err-need.was c.map_err.ensures.cases c.read_card.ensures (λ p e. e)) in
+    let w = whole c.args.text.now c.args.out.now (small_text _ (λ i. omega (arith, c.type_inv.text i))) _ _ (card_departs _ _ _ _ _ _ c.in_err-map_err.was c.map_err.ensures.cases c.read_card.ensures (λ p e. e)) in
     rw (p.1, p.2) (record { determined = w.0; promised = w.1 })

@@ -1,11 +1,13 @@
-use Rattle.kiss_writer.proofs.Digits.{partly_none, partly_more, partly_all}
+-- `kiss_writer::put_digits` meets its contract.
+use Rattle.std.proofs.Common.{length, ap, arith}
+use Rattle.kiss_writer.proofs.Numbers.{digits_long}
 use Rattle.kiss_writer.proofs.put_digits.Goals as goal
 
-pub loop-init : goal.loop-init
-loop-init g c = partly_none _ c.requires.base.0 c.requires.base.1 _ _ _ c.pow-unit.ensures c.requires.first
-
-pub loop-preserved : goal.loop-preserved
-loop-preserved g c = partly_more _ c.requires.base.0 c.requires.base.1 _ _ _ _ _ c.loop.invariant c.loop-test.true c.put.ensures
+pub put_bytes-requires : goal.put_bytes-requires
+put_bytes-requires g c = omega (arith, ap length c.digits.ensures, digits_long g.row.BASE g.row.WIDTH c.args.x, c.requires.place)
 
 pub returns : goal.returns
-returns g c = partly_all _ c.requires.base.0 c.requires.base.1 _ _ _ _ _ c.loop.invariant c.loop.auto.counter-end c.loop-test.false
+returns g c = (
+  rw (← c.digits.ensures) c.put_bytes.ensures,
+  omega (arith, c.put_bytes.ensures.wrote.next, ap length c.digits.ensures, digits_long g.row.BASE g.row.WIDTH c.args.x),
+)

@@ -4,8 +4,8 @@ use Rattle.cards.specs.Run.{led}
 use Rattle.kiss_writer.proofs.Lines.{target_first, target_next}
 use Rattle.kiss_writer.proofs.Sheet.entered.Goals as goal
 
-pub returns-then-state-eq0 : goal.returns-then-state-eq0
-returns-then-state-eq0 c = c.first_cell.ensures ∙ ap led (sym (target_first c.args.self.card.words.now c.args.state _ c.if-state-eq0.true))
+pub returns-then-slot-eq0 : goal.returns-then-slot-eq0
+returns-then-slot-eq0 c = c.first_cell.ensures ∙ ap led (sym (target_first c.args.self.card.words.now c.args.slot.state _ c.if-slot-eq0.true))
 
 pub returns : goal.returns
-returns c = c.next_cell.ensures ∙ ap led (sym (target_next c.args.self.card.words.now c.args.state _ c.if-state-eq0.false))
+returns c = c.next_cell.ensures ∙ ap led (sym (target_next c.args.self.card.words.now c.args.slot.state _ c.if-slot-eq0.false))

@@ -1,5 +1,4 @@
 -- `kiss_writer::Sheet::of` meets its contract.
-use mathlib.Core.Path.{ap, ◌∙◌}
 use native.Mathlib.Omega.{arith}
 use Rattle.cards.proofs.Checked.{fitting}
 use Rattle.kiss_writer.proofs.Sheet.of.Goals as goal

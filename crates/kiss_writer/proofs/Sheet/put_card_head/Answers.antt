@@ -3,7 +3,6 @@ use Prim.Native.Nat.{◌+◌}
 use native.Mathlib.Omega.{arith}
 use Rattle.cards.proofs.Checked.{fitting}
 use Rattle.kiss_writer.proofs.Lines.{narrow, head_is, cells_few}
-use borrow.Author.Rules.{rules}
 use Rattle.kiss_writer.proofs.Sheet.put_card_head.Goals as goal
 
 pub put_head-requires : goal.put_head-requires

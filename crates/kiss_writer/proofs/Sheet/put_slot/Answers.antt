@@ -13,8 +13,8 @@ returns-in_default c = (
   omega arith,
 )
 
-pub cell_action-picked-requires : goal.cell_action-picked-requires
-cell_action-picked-requires c =
+pub cell_action-action-requires : goal.cell_action-action-requires
+cell_action-action-requires c =
     let e = cell_entered c.args.self.card.words.now _ _ _ c.entered.ensures _ c.in-Some.is in
     entered_cell c.args.self.card.words.now c.args.self.card.checked _ _ _ c.requires.0 c.requires.1 e.0 e.1
 
@@ -26,14 +26,14 @@ put_line-requires c =
       omega (arith, c.requires.0, cells_few c.args.self.card.words.now c.args.self.card.checked),
       omega (arith, c.requires.1, (fitting c.args.self.card.words.now c.args.self.card.checked).observations),
       omega (arith, cell, cells_few c.args.self.card.words.now c.args.self.card.checked),
-      action_few c.args.self.card.words.now c.args.self.card.checked _ _ cell c.cell_action-picked.ensures,
+      action_few c.args.self.card.words.now c.args.self.card.checked _ _ cell c.cell_action-action.ensures,
       c.requires.2,
     )
 
 pub returns-in-Some : goal.returns-in-Some
 returns-in-Some c =
     let e = cell_entered c.args.self.card.words.now _ _ _ c.entered.ensures _ c.in-Some.is in (
-      rw (← (slot_written c.args.self.card.words.now _ _ _ e.0 e.1 _ c.args.self.wide _ c.cell_action-picked.ensures))
+      rw (← (slot_written c.args.self.card.words.now _ _ _ e.0 e.1 _ c.args.self.wide _ c.cell_action-action.ensures))
           c.put_line.ensures.0,
       c.put_line.ensures.1,
     )

@@ -7,35 +7,35 @@ use Rattle.kiss_writer.proofs.Lines.{slot_none, slot_long, some_entered, none_en
 use Rattle.kiss_writer.proofs.Sheet.state_length.Goals as goal
 use Rattle.kiss_writer.proofs.Sheet.state_length.Goals.{then-is_some, else-is_some}
 
-pub loop-j-init : goal.loop-j-init
-loop-j-init c = counted_none _ _
+pub loop-observation-init : goal.loop-observation-init
+loop-observation-init c = counted_none _ _
 
 pub overflow_add-bytes : goal.overflow_add-bytes
 overflow_add-bytes c =
     omega (
       arith,
-      c.observations-j-end.ensures,
+      c.observations-observation-end.ensures,
       (fitting c.args.self.card.words.now c.args.self.card.checked).observations,
       line_short c.args.self.card.words.now c.args.self.card.checked c.args.state _ c.requires.1,
-      counted_fits _ _ _ _ c.loop-j.invariant _ c.loop-j-test.true,
+      counted_fits _ _ _ _ c.loop-observation.invariant _ c.loop-observation-test.true,
     )
 
-pub loop-j-preserved : goal.loop-j-preserved
-loop-j-preserved c =
+pub loop-observation-preserved : goal.loop-observation-preserved
+loop-observation-preserved c =
     elim c.if-is_some.branch [
       | then-is_some w ↦
           rw w.bytes-is
-          (counted_more _ _ _ _ c.loop-j.invariant _
+          (counted_more _ _ _ _ c.loop-observation.invariant _
           (c.requires.1 ∙ sym (slot_long c.args.self.card.words.now _ _ _ refl (some_entered c.args.self.card.words.now _ _ _ c.entered.ensures (cc))))
           (line_short c.args.self.card.words.now c.args.self.card.checked c.args.state _ c.requires.1))
       | else-is_some w ↦
           rw w.bytes-is
-          (counted_skip _ _ _ _ c.loop-j.invariant
+          (counted_skip _ _ _ _ c.loop-observation.invariant
           (slot_none c.args.self.card.words.now _ _ _ refl (none_entered c.args.self.card.words.now _ _ _ c.entered.ensures (cc))))
     ]
 
 pub returns : goal.returns
 unfolding state_text
 returns c =
-    let all = counted_all _ _ _ _ c.loop-j.invariant _ _ c.observations-j-end.ensures c.loop-j.auto.j-end c.loop-j-test.false in
+    let all = counted_all _ _ _ _ c.loop-observation.invariant _ _ c.observations-observation-end.ensures c.loop-observation.auto.observation-end c.loop-observation-test.false in
     (all.0, omega (arith, all.1, (fitting c.args.self.card.words.now c.args.self.card.checked).observations))
