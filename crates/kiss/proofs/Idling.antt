@@ -6,7 +6,8 @@ use mathlib.Core.List.{List}
 use Prim.Native.Nat.{ℕ, ◌≤◌, ◌<◌}
 use native.Mathlib.Omega.{arith, not-le}
 use lib.Dec.{ltb}
-use lib.ListN.{length}
+use lib.ListN.{length, take}
+use lib.Seq.{length-take-le}
 use borrow.Author.Tests.{lt-ltb, ltb-true, le-ltb, not-true, not-false}
 use Rattle.sets.specs.Bounded.{Found, found, nothing, first, any}
 use Rattle.sets.proofs.Logic.{true_not, false_not, and_left, and_right, and_intro}
@@ -59,6 +60,10 @@ module _ (A : Automaton) (o : ℕ) where
   none_led n c = rw (n)
 
 -- ---- as the code has it
+
+-- the front of the marks that are lent
+pub front_long : (n : ℕ) (marks : List ℕ) → n ≤ length marks → length (take n marks) ≡ n
+front_long = length-take-le
 
 module _ (w : List ℕ) (e : checked w ≡ Ok tt) where
   abbrev A : Automaton

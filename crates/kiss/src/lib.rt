@@ -23,6 +23,7 @@ pub struct Slot {
 }
 
 // The fewest bits that hold n - 1, at least one.
+#[tactic(auto, using(crate::proofs::Widths::bits_one, crate::proofs::Widths::bits_two, crate::proofs::Widths::bits_three))]
 pub fn bits(n: u32) -> u32
     requires { n ≤ max_actions }
     ensures { result ≡ fewest_bits n }
@@ -54,6 +55,7 @@ fn lowest_unmarked(marks: &[u32]) -> Option<Cell>
 }
 
 // The lowest cell that is not reached, where a first word names a cell; a mark for each cell is lent.
+#[tactic(auto, using(crate::proofs::Idling::few_cells, crate::proofs::Idling::idle_unmarked, cards::proofs::Running::size_of))]
 fn lowest_unreached(card: Card, marks: &mut [u32]) -> Option<Cell>
     requires { (length marks.old ≡ card_cells card.words.now)
         × (no_first (automaton card.words.now) (card_observations card.words.now) ≡ false) }
@@ -64,6 +66,7 @@ fn lowest_unreached(card: Card, marks: &mut [u32]) -> Option<Cell>
 }
 
 // The lowest cell that no sequence of observations leads to, with marks lent for as many cells as a card can have.
+#[tactic(auto, using(crate::proofs::Idling::few_cells, crate::proofs::Idling::front_long, crate::proofs::Idling::idle_none_first))]
 fn idle_by(card: Card, marks: &mut [u32]) -> Option<Cell>
     requires { max_cells ≤ length marks.old }
     ensures { result ≡ cell_found (idle card.entry.words.now) }

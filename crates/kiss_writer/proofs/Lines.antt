@@ -8,7 +8,7 @@ use native.Mathlib.Omega.{arith}
 use lib.ListN.{length, length-append}
 use Rattle.sets.specs.Bounded.{gather}
 use Rattle.games.specs.Automaton.{no_cell}
-use Rattle.games.specs.Format.{max_actions, max_cells}
+use Rattle.games.specs.Format.{max_actions, max_observations, max_cells}
 use Rattle.cards.specs.Card.{automaton, card_cells, card_actions, card_observations, checked, Named}
 use Rattle.cards.proofs.Checked.{fitting}
 use Rattle.text.specs.Text.{bytes}
@@ -133,6 +133,12 @@ module _ (w : List ℕ) (fine : checked w ≡ Ok tt) where
   target_named (suc c) j l k = (fitting w fine).next_named c j l k
 
   -- the limits, by the card's words
+  pub actions_few : card_actions w ≤ max_actions
+  actions_few = (fitting w fine).actions
+
+  pub observations_few : card_observations w ≤ max_observations
+  observations_few = (fitting w fine).observations
+
   pub cells_few : card_cells w ≤ max_cells
   unfolding automaton
   cells_few = (fitting w fine).cells

@@ -76,6 +76,7 @@ fn put_bits(out: &mut Writer, width: u32, x: u32)
 }
 
 // The name of a cell; of a state, by its number.
+#[tactic(auto, using(text::proofs::Writing::puts_then), unfolding(kiss::specs::Text::cell_name))]
 fn put_cell(out: &mut Writer, cell: Cell)
     requires { (cell.0 < max_cells) × (out.old.at + cell_bytes < room) }
     ensures { Puts (cell_name cell.0) out.old out.new × (out.new.at ≤ out.old.at + cell_bytes) }
@@ -84,6 +85,7 @@ fn put_cell(out: &mut Writer, cell: Cell)
     put_digits::<10, 5>(out, cell.0)
 }
 
+#[tactic(auto, using(crate::proofs::Lines::name_reset, crate::proofs::Lines::name_cell))]
 fn put_state(out: &mut Writer, state: u32)
     requires { (state ≤ max_cells) × (out.old.at + cell_bytes < room) }
     ensures { Puts (state_name state) out.old out.new × (out.new.at ≤ out.old.at + cell_bytes) }
@@ -154,6 +156,7 @@ struct Sheet<'c> {
 }
 
 impl<'c> Sheet<'c> {
+    #[tactic(auto, using(crate::proofs::Lines::actions_few, crate::proofs::Lines::observations_few))]
     fn of(card: Card<'c>) -> Sheet<'c>
         ensures { result.card ≡ card.entry }
     {
@@ -165,6 +168,7 @@ impl<'c> Sheet<'c> {
     }
 
     // The cell that a slot leads to, where that can occur.
+    #[tactic(auto, using(crate::proofs::Lines::target_first, crate::proofs::Lines::target_next))]
     fn entered(self, slot: Slot) -> Option<Cell>
         requires { (slot.state ≤ card_cells self.card.words.now) × (slot.observation < card_observations self.card.words.now) }
         ensures { result ≡ led (target (automaton self.entry.card.words.now) slot.state slot.observation) }
@@ -177,6 +181,7 @@ impl<'c> Sheet<'c> {
     }
 
     // The line of a slot; none where it cannot occur.
+    #[tactic(auto, using(crate::proofs::Lines::entered_cell, crate::proofs::Lines::cell_entered))]
     fn put_slot(self, out: &mut Writer, slot: Slot)
         requires { (slot.state ≤ card_cells self.card.words.now) × (slot.observation < card_observations self.card.words.now)
             × (out.old.at + most_bytes < room) }
@@ -190,6 +195,7 @@ impl<'c> Sheet<'c> {
     }
 
     // The lines of a state.
+    #[tactic(auto, using(crate::proofs::Rows::below_fits))]
     fn put_state_lines(self, out: &mut Writer, state: u32)
         requires { (state ≤ card_cells self.card.words.now) × (out.old.at + card_observations self.card.words.now * most_bytes < room) }
         ensures { Puts (lines_of self.entry.card.words.now state) out.old out.new
@@ -201,6 +207,7 @@ impl<'c> Sheet<'c> {
     }
 
     // The lines of the reset state and of all cells.
+    #[tactic(auto, using(crate::proofs::Lines::cells_few, crate::proofs::Lines::observations_few, crate::proofs::Rows::below_fits))]
     fn put_lines(self, out: &mut Writer)
         requires { out.old.at + lines_bytes < room }
         ensures { Puts (gather (suc (card_cells self.entry.card.words.now)) (lines_of self.entry.card.words.now)) out.old out.new
@@ -234,6 +241,7 @@ impl<'c> Sheet<'c> {
     }
 
     // How many bytes the lines of a state have, where a line of it has so many: each word that names a cell is a line.
+    #[tactic(auto, using(crate::proofs::Lines::observations_few, crate::proofs::Lines::line_short, crate::proofs::Rows::counted_fits))]
     fn state_length(self, state: u32, line: usize) -> usize
         requires { (state ≤ card_cells self.card.words.now) × LineLong self.card.words.now state line }
         ensures { (result ≡ length (lines_of self.entry.card.words.now state)) × (result ≤ max_observations * most_bytes) }
@@ -248,6 +256,7 @@ impl<'c> Sheet<'c> {
     }
 
     // How many bytes the lines have. A line of the reset state is one byte shorter than the others, as its name is.
+    #[tactic(auto, using(crate::proofs::Lines::narrow, crate::proofs::Lines::cells_few, crate::proofs::Lines::reset_line))]
     fn lines_length(self) -> usize
         ensures { (result ≡ length (gather (suc (card_cells self.entry.card.words.now)) (lines_of self.entry.card.words.now))) × (result ≤ lines_bytes) }
     {
@@ -260,6 +269,7 @@ impl<'c> Sheet<'c> {
     }
 
     // How many bytes the card's text has.
+    #[tactic(auto, using(crate::proofs::Lines::text_long))]
     fn text_length(self) -> usize
         ensures { result ≡ length (kiss_text self.entry.card.words.now) }
     {

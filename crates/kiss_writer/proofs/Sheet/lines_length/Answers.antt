@@ -11,22 +11,6 @@ overflow_add-line c =
     let n = narrow _ c.args.self.card.checked _ c.args.self.wide in
     omega (arith, n.inputs, n.outputs)
 
-pub overflow_cast-line : goal.overflow_cast-line
-overflow_cast-line c =
-    let n = narrow _ c.args.self.card.checked _ c.args.self.wide in
-    omega (arith, n.inputs, n.outputs)
-
-pub overflow_add-line-2 : goal.overflow_add-line-2
-overflow_add-line-2 c =
-    let n = narrow _ c.args.self.card.checked _ c.args.self.wide in
-    omega (arith, n.inputs, n.outputs)
-
-pub overflow_add-state-end : goal.overflow_add-state-end
-overflow_add-state-end c = omega (arith, c.cells-state-end.ensures, cells_few _ c.args.self.card.checked)
-
-pub state_length-bytes-requires : goal.state_length-bytes-requires
-state_length-bytes-requires c = (search rules, reset_line _ _ c.args.self.wide)
-
 pub loop-state-init : goal.loop-state-init
 loop-state-init c = counted_one _ _ _ c.state_length-bytes.ensures.0 c.state_length-bytes.ensures.1
 

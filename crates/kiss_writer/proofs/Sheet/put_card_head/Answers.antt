@@ -2,16 +2,16 @@
 use Prim.Native.Nat.{◌+◌}
 use native.Mathlib.Omega.{arith}
 use Rattle.cards.proofs.Checked.{fitting}
-use Rattle.kiss_writer.proofs.Lines.{narrow, head_is, cells_few}
+use Rattle.kiss_writer.proofs.Lines.{narrow, head_is, cells_few, actions_few, observations_few}
 use Rattle.kiss_writer.proofs.Sheet.put_card_head.Goals as goal
 
 pub put_head-requires : goal.put_head-requires
 put_head-requires c =
-    let f = fitting c.args.self.card.words.now c.args.self.card.checked in (
-      omega (arith, c.actions-a.ensures, f.actions),
-      omega (arith, c.observations-o.ensures, f.observations),
-      omega (arith, c.cells-states.ensures, cells_few c.args.self.card.words.now c.args.self.card.checked),
-      narrow c.args.self.card.words.now c.args.self.card.checked _ c.args.self.wide,
+    let fine = c.args.self.card.checked in (
+      omega (arith, c.actions-a.ensures, actions_few _ fine),
+      omega (arith, c.observations-o.ensures, observations_few _ fine),
+      omega (arith, c.cells-states.ensures, cells_few _ fine),
+      narrow _ fine _ c.args.self.wide,
       c.requires,
     )
 

@@ -3,31 +3,15 @@ use native.Mathlib.Omega.{arith}
 use Rattle.cards.specs.Card.{card_cells}
 use Rattle.cards.proofs.Checked.{fitting}
 use Rattle.kiss_writer.proofs.Rows.{below_none, below_more, below_fits, below_all}
-use Rattle.kiss_writer.proofs.Lines.{cells_few}
+use Rattle.kiss_writer.proofs.Lines.{cells_few, observations_few}
 use Rattle.kiss_writer.proofs.Sheet.put_lines.Goals as goal
-
-pub overflow_add-state-end : goal.overflow_add-state-end
-overflow_add-state-end c = omega (arith, c.cells-state-end.ensures, cells_few c.args.self.card.words.now c.args.self.card.checked)
 
 pub loop-state-init : goal.loop-state-init
 loop-state-init c = below_none _ _
 
-pub put_state_lines-requires : goal.put_state_lines-requires
-put_state_lines-requires c = (
-  omega (arith, c.cells-state-end.ensures, c.loop-state-test.true),
-  omega (
-    arith,
-    c.cells-state-end.ensures,
-    c.requires,
-    cells_few c.args.self.card.words.now c.args.self.card.checked,
-    (fitting c.args.self.card.words.now c.args.self.card.checked).observations,
-    below_fits _ _ _ c.loop-state.invariant _ c.loop-state-test.true,
-  ),
-)
-
 pub loop-state-preserved : goal.loop-state-preserved
 loop-state-preserved c =
-    let few = (fitting c.args.self.card.words.now c.args.self.card.checked).observations in
+    let few = observations_few c.args.self.card.words.now c.args.self.card.checked in
     below_more _ _ _ c.loop-state.invariant (c.put_state_lines.ensures.0, omega (arith, c.put_state_lines.ensures.1))
 
 pub returns : goal.returns

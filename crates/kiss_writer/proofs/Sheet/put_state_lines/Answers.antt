@@ -6,13 +6,6 @@ use Rattle.kiss_writer.proofs.Sheet.put_state_lines.Goals as goal
 pub loop-observation-init : goal.loop-observation-init
 loop-observation-init c = below_none _ _
 
-pub put_slot-requires : goal.put_slot-requires
-put_slot-requires c = (
-  c.requires.0,
-  omega (arith, c.observations-observation-end.ensures, c.loop-observation-test.true),
-  omega (arith, c.observations-observation-end.ensures, c.requires.1, below_fits _ _ _ c.loop-observation.invariant _ c.loop-observation-test.true),
-)
-
 pub loop-observation-preserved : goal.loop-observation-preserved
 loop-observation-preserved c = below_more _ _ _ c.loop-observation.invariant c.put_slot.ensures
 

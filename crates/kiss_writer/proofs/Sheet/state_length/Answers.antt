@@ -10,16 +10,6 @@ use Rattle.kiss_writer.proofs.Sheet.state_length.Goals.{then-is_some, else-is_so
 pub loop-observation-init : goal.loop-observation-init
 loop-observation-init c = counted_none _ _
 
-pub overflow_add-bytes : goal.overflow_add-bytes
-overflow_add-bytes c =
-    omega (
-      arith,
-      c.observations-observation-end.ensures,
-      (fitting c.args.self.card.words.now c.args.self.card.checked).observations,
-      line_short c.args.self.card.words.now c.args.self.card.checked c.args.state _ c.requires.1,
-      counted_fits _ _ _ _ c.loop-observation.invariant _ c.loop-observation-test.true,
-    )
-
 pub loop-observation-preserved : goal.loop-observation-preserved
 loop-observation-preserved c =
     elim c.if-is_some.branch [
