@@ -208,6 +208,7 @@ fn least_state(free: Slot, j: u32) -> u32
 
 impl<'w> Machine<'w> {
     // A cell's own word.
+    #[tactic(auto, using(crate::proofs::Lines::held_long, cards::proofs::Checked::cell_within))]
     fn own_word(self, cell: u32) -> u32
         requires { cell < self.sizes.cells }
         ensures { result ≡ get_or self.entry.words.now (cell_place self.entry.sizes.observations cell) 0 }
@@ -266,6 +267,7 @@ fn read_line(r: &mut Reader, machine: Machine, free: Slot) -> Result<Line, usize
 // ---- the words
 
 // A row of a blank card: its own word, and words that name no cell.
+#[tactic(auto, using(cards::proofs::Parts::filled_end))]
 fn blank_row(kind: Kind, own: u32, o: u32, row: &mut [u32])
     requires { (o ≤ number_values) × (length row.old ≡ 1 + o) }
     ensures { row.new ≡ blank_row (kind_number kind) own o }
@@ -305,6 +307,7 @@ fn slot_kind(state: u32) -> Kind
 }
 
 // A line in the words: its slot leads to the cell, and the cell is entered.
+#[tactic(auto, using(crate::proofs::Storing::stored_is))]
 fn store(words: &mut [u32], z: Sizes, line: Line)
     requires { Bounded z line × (length words.old ≡ card_length z.cells z.observations) }
     ensures { words.new ≡ stored z.observations line.slot.state line.slot.observation line.entry.cell line.entry.output words.old }
@@ -332,6 +335,7 @@ fn line_comes(r: &Reader, z: Sizes, free: Slot) -> bool
         & (form::byte_at(r.text, r.at) != Some(b'.'))
 }
 
+#[tactic(auto, using(crate::proofs::Parts::end_parts))]
 fn read_end(r: &mut Reader) -> Result<(), usize>
     ensures { EndRead r.old result }
 {

@@ -30,6 +30,7 @@ fn binary(width: u32) -> Numeral
 }
 
 impl Sizes {
+    #[tactic(auto, using(kiss::proofs::Widths::bits_few))]
     pub fn new(actions: u32, observations: u32, cells: u32) -> Sizes
         requires { (1 ≤ actions) × (actions ≤ max_actions) × (1 ≤ observations) × (observations ≤ max_observations) × (1 ≤ cells) × (cells ≤ max_cells) }
         ensures { (result.actions ≡ actions) × (result.observations ≡ observations) × (result.cells ≡ cells) }

@@ -2,8 +2,7 @@ use Prim.Native.Nat.{suc}
 use native.Mathlib.Omega.{arith}
 use Rattle.cards.specs.Card.{card_cells}
 use Rattle.kiss_writer.proofs.Rows.{counted_one, counted_more, counted_fits, counted_all}
-use Rattle.kiss_writer.proofs.Lines.{narrow, cells_few, cell_line_lem, reset_line}
-use borrow.Author.Rules.{rules}
+use Rattle.kiss_writer.proofs.Lines.{narrow, cells_few, cell_line_lem}
 use Rattle.kiss_writer.proofs.Sheet.lines_length.Goals as goal
 
 pub overflow_add-line : goal.overflow_add-line

@@ -1,7 +1,6 @@
 -- `kiss_writer::Sheet::put_card_head` meets its contract: the numbers of the card's head, and its bits.
 use Prim.Native.Nat.{◌+◌}
 use native.Mathlib.Omega.{arith}
-use Rattle.cards.proofs.Checked.{fitting}
 use Rattle.kiss_writer.proofs.Lines.{narrow, head_is, cells_few, actions_few, observations_few}
 use Rattle.kiss_writer.proofs.Sheet.put_card_head.Goals as goal
 

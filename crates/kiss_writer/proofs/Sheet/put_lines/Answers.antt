@@ -1,8 +1,7 @@
 use Prim.Native.Nat.{suc}
 use native.Mathlib.Omega.{arith}
 use Rattle.cards.specs.Card.{card_cells}
-use Rattle.cards.proofs.Checked.{fitting}
-use Rattle.kiss_writer.proofs.Rows.{below_none, below_more, below_fits, below_all}
+use Rattle.kiss_writer.proofs.Rows.{below_none, below_more, below_all}
 use Rattle.kiss_writer.proofs.Lines.{cells_few, observations_few}
 use Rattle.kiss_writer.proofs.Sheet.put_lines.Goals as goal
 

@@ -1,7 +1,6 @@
 -- `kiss_writer::Sheet::put_slot` meets its contract: no line, or that of the cell entered.
 use mathlib.Core.Path.{refl, sym, ◌∙◌}
 use native.Mathlib.Omega.{arith}
-use Rattle.cards.proofs.Checked.{fitting}
 use Rattle.cards.proofs.Running.{led_none}
 use Rattle.text.proofs.Writing.{puts_none}
 use Rattle.kiss_writer.proofs.Lines.{narrow, slot_none, slot_written, cell_entered, entered_cell, cells_few, observations_few, action_few}

@@ -1,6 +1,5 @@
-use native.Mathlib.Omega.{arith}
 use Rattle.kiss.specs.Text.{state_text}
-use Rattle.kiss_writer.proofs.Rows.{below_none, below_more, below_fits, below_all}
+use Rattle.kiss_writer.proofs.Rows.{below_none, below_more, below_all}
 use Rattle.kiss_writer.proofs.Sheet.put_state_lines.Goals as goal
 
 pub loop-observation-init : goal.loop-observation-init

@@ -2,7 +2,7 @@ use mathlib.Core.Path.{refl, sym, ◌∙◌}
 use native.Mathlib.Omega.{arith}
 use Rattle.cards.proofs.Checked.{fitting}
 use Rattle.kiss.specs.Text.{state_text}
-use Rattle.kiss_writer.proofs.Rows.{counted_none, counted_more, counted_skip, counted_fits, counted_all}
+use Rattle.kiss_writer.proofs.Rows.{counted_none, counted_more, counted_skip, counted_all}
 use Rattle.kiss_writer.proofs.Lines.{slot_none, slot_long, some_entered, none_entered, line_short}
 use Rattle.kiss_writer.proofs.Sheet.state_length.Goals as goal
 use Rattle.kiss_writer.proofs.Sheet.state_length.Goals.{then-is_some, else-is_some}
