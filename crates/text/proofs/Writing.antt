@@ -1,13 +1,13 @@
 -- Laws of writing: one piece behind the other, and what then stands in the buffer.
 -- Assumes nothing.
 use mathlib.Core.Path.{◌≡◌, refl, sym, ap, ◌∙◌}
-use mathlib.Core.List.{List, [], ◌∷◌, ◌++◌, append_assoc}
-use Prim.Native.Nat.{ℕ, suc, ◌+◌, ◌≤◌, ◌<◌}
+use mathlib.Core.List.{List, [], ◌∷◌, ◌++◌, append_assoc, append-nil}
+use Prim.Native.Nat.{ℕ, suc, ◌+◌, ◌-◌, ◌≤◌, ◌<◌}
 use native.Mathlib.Nat.{add-zero, zero-add, add-suc, suc-add}
 use native.Mathlib.Numerals.{add-one}
 use native.Mathlib.Omega.{arith}
 use lib.ListN.{length, get_or, set, take, drop, length-append, length-drop, take-append-drop}
-use lib.Seq.{sets, sets-eq, length-sets, take-suc, take_all, length-take-le, drop-drop, drop-append_seam, drop_at, get_or-drop}
+use lib.Seq.{sets, sets-eq, length-sets, take-suc, take_all, length-take-le, drop-length, drop-drop, drop-append_seam, drop_at, get_or-drop}
 use Rattle.sets.specs.Bounded.{gather}
 use Rattle.text.specs.Text.{Wrote, Stands}
 use Rattle.text.specs.Puts.{Puts}
@@ -36,6 +36,20 @@ wrote_length {s} {d} {e} {at} w = rw w.stored (length-sets d at s)
 -- a whole text, in a buffer with room for it
 pub wrote_front : {s d e : List ℕ} {r : ℕ} → Wrote s 0 d r e → length s ≤ length d → e ≡ s ++ drop (length s) d
 wrote_front {s} {d} {e} {r} w l = w.stored ∙ rw (zero-add (length s)) at (sets-eq s d 0 (rw (zero-add (length s)) l))
+
+-- s at once, over a part of the buffer that it fills
+pub part_wrote : (s d e : List ℕ) (at : ℕ) → at + length s ≤ length d → e ≡ s ++ drop (length s) (take (at + length s - at) (drop at d))
+    → Wrote s at d (at + length s) (take at d ++ (e ++ drop (at + length s - at) (drop at d)))
+part_wrote s d e at l is =
+    let k : at + length s - at ≡ length s = omega arith in
+    let part = take (length s) (drop at d) in
+    let long : length part ≡ length s = length-take-le (length s) (drop at d) (omega (arith, length-drop at d)) in
+    let none : drop (length s) part ≡ [] = ap (λ (n : ℕ). drop n part) (sym long) ∙ drop-length part in
+    let whole : e ≡ s = (rw k at is) ∙ ap (λ (x : List ℕ). s ++ x) none ∙ append-nil s in
+    record {
+      next = refl;
+      stored = rw (whole, k) (ap (λ (x : List ℕ). take at d ++ (s ++ x)) (drop-drop (length s) at d) ∙ sym (append_assoc (take at d) s (drop (at + length s) d)) ∙ sym (sets-eq s d at l));
+    }
 
 -- ---- the same of a writer
 
