@@ -138,10 +138,11 @@ fn write_actions(card: Card, seen: &[u32], out: &mut [u32])
 {
     let mut cell: Option<Cell> = None;
     for (i, j) in seen.iter().enumerate() {
-        if let Ok(entered) = move_from(card, cell, Observation(*j)) {
-            cell = Some(entered.cell);
-            out[i] = entered.action.0;
-        }
+        let Ok(entered) = move_from(card, cell, Observation(*j)) else {
+            return;
+        };
+        cell = Some(entered.cell);
+        out[i] = entered.action.0;
     }
 }
 
