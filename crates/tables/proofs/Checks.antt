@@ -1,6 +1,6 @@
 -- The table checks, one answer after the other, and what `Ok` tells of a table.
 -- Assumes nothing.
-use mathlib.Core.Path.{◌≡◌, refl, ap, ◌∙◌}
+use mathlib.Core.Path.{◌≡◌, refl, sym, ap, ◌∙◌}
 use mathlib.Core.Bool.{Bool, true, false, cond, not, ◌&&◌, ◌||◌}
 use mathlib.Core.Logic.{⊎_elim}
 use mathlib.Core.List.{List}
@@ -12,7 +12,7 @@ use lib.Pow.{pow_pos}
 use lib.ListN.{length, get_or}
 use Rattle.sets.specs.Bounded.{first, any, Found, nothing, at_found}
 use Rattle.sets.proofs.Logic.{decided, and_intro, and_left, and_right, or_false_left, or_false_right, false_not, true_not}
-use Rattle.sets.proofs.Bounded.{first_zero, first_skip, first_stop, first_nothing, first_ext, any_intro, any_found, any_none, any_ext}
+use Rattle.sets.proofs.Bounded.{first_zero, first_skip, first_stop, first_nothing, first_ext, any_intro, any_found, any_none, any_refuted, any_ext}
 use Rattle.sets.specs.Mask.{member}
 use Rattle.games.specs.Format.{within, max_states, max_actions, max_observations, head_spare_at}
 use Rattle.games.specs.Game.{Game, Shows, Accepted, has_successor}
@@ -28,11 +28,13 @@ use Rattle.games.proofs.Answers.{never, then_fine, cond_fine, cond_passed, found
 use Rattle.games.proofs.Limits.{within_low, within_high}
 use Rattle.games.proofs.Places.{place_from}
 use Rattle.tables.specs.Layout.{shape_in, head_top, bare_word, Sized}
-use Rattle.tables.specs.Check.{too_wide, limits_hold, head_right, size_checked, placed, faulty, words_checked, unseen, sets_checked, departs, parked_checked, departs_from, parked_from, checked}
+use Rattle.tables.specs.Check.{too_wide, limits_hold, head_right, size_checked, placed, faulty, word_checked, words_checked, unseen, sets_checked, unseen_in, sets_from, departs, parked_checked, departs_from, parked_from, checked}
 use Rattle.tables.proofs.Bounds.{place_inside}
 use Rattle.games.specs.declared.Reason.{Reason}
 use Rattle.games.specs.declared.Reason.TheVariants as reason
+use Rattle.games.specs.declared.Refusal.{Refusal}
 use Rattle.std.specs.Prelude.{Ok, Err}
+use Rattle.std.specs.Bool.{MatchBool}
 
 -- ---- 1, 2 and 3
 
@@ -61,14 +63,32 @@ pub words_none : (w : List ℕ) → first 1 (faulty w) ≡ nothing
 unfolding faulty
 words_none w = first_skip 0 (faulty w) (first_zero (faulty w)) refl
 
-module _ (w : List ℕ) (p : ℕ) (inside : p < length w) (before : first p (faulty w) ≡ nothing) (here : faulty w p ≡ true) where
-  pub words_misplaced : placed w p ≡ false → words_checked w ≡ refused reason.Misplaced p
-  unfolding words_checked
-  words_misplaced e = rw (first_stop (length w) (faulty w) p inside before here, e)
+-- one word: what it is refused by, and how that decides
+module _ (w : List ℕ) (p : ℕ) where
+  module _ (from_one : 1 ≤ p) where
+    pub word_misplaced : placed w p ≡ false → word_checked w p ≡ refused reason.Misplaced p
+    unfolding faulty
+    word_misplaced e = rw (lt-ltb 0 p from_one, e)
 
-  pub words_wide : placed w p ≡ true → words_checked w ≡ refused reason.StateBeyond p
+    module _ (here : placed w p ≡ true) where
+      pub word_wide : too_wide (shape_in w).states (low_field (get_or w p 0)) ≡ true → word_checked w p ≡ refused reason.StateBeyond p
+      unfolding faulty
+      word_wide e = rw (lt-ltb 0 p from_one, here, e)
+
+      pub word_fine : too_wide (shape_in w).states (low_field (get_or w p 0)) ≡ false → word_checked w p ≡ Ok tt
+      unfolding faulty
+      word_fine e = rw (lt-ltb 0 p from_one, here, e)
+
+  pub word_passes : word_checked w p ≡ Ok tt → faulty w p ≡ false
+  word_passes e =
+      ⊎_elim (λ (t : faulty w p ≡ true). let f = rw t at e in absurd (never reason.StateBeyond p (cond_fine (placed w p) (refused reason.StateBeyond p) reason.Misplaced p f).1))
+      (λ (t : faulty w p ≡ false). t) (decided (faulty w p))
+
+  pub word_stops : p < length w → first p (faulty w) ≡ nothing → (e : Refusal) → word_checked w p ≡ Err e → words_checked w ≡ Err e
   unfolding words_checked
-  words_wide e = rw (first_stop (length w) (faulty w) p inside before here, e)
+  word_stops inside before e f =
+      ⊎_elim (λ (t : faulty w p ≡ true). rw (first_stop (length w) (faulty w) p inside before t) (rw t at f))
+      (λ (t : faulty w p ≡ false). let g = rw t at f in cc) (decided (faulty w p))
 
 pub words_fine : (w : List ℕ) → first (length w) (faulty w) ≡ nothing → words_checked w ≡ Ok tt
 unfolding words_checked
@@ -81,28 +101,41 @@ faulty_is w p a b l e f = rw (e, f, lt-ltb 0 p l)
 
 -- ---- 6 and 7
 
-module _ (g : Game) (i : ℕ) where
-  -- an observation that i shows
-  pub seen_at : (o : ℕ) → o < g.observations → member (g.shown o) i ≡ true → unseen g i ≡ false
-  unfolding unseen
-  seen_at o l m = true_not (any_intro g.observations (λ j. member (g.shown j) i) o l m)
+-- what a search for a word that names i finds
+pub unseen_is : (l : List ℕ) (i : ℕ) (r : Bool) → MatchBool r ((k : ℕ) × (k < length l) × (member (get_or l k 0) i ≡ true)) ((k : ℕ) → k < length l → member (get_or l k 0) i ≡ false) → not r ≡ unseen_in l i
+unfolding unseen_in
+unseen_is l i true w = sym (true_not (any_intro (length l) (λ j. member (get_or l j 0) i) w.0 w.1 w.2))
+unseen_is l i false w = sym (false_not (any_refuted (length l) (λ j. member (get_or l j 0) i) w))
 
-  pub seen_none : any g.observations (λ j. member (g.shown j) i) ≡ false → unseen g i ≡ true
-  unfolding unseen
-  seen_none e = false_not e
+-- as the code asks it
+module _ (l : List ℕ) (n s : ℕ) where
+  pub sets_empty : s ≡ 0 → sets_from l n s ≡ refused reason.NoStart start_place
+  unfolding sets_from
+  sets_empty e = rw (eq-eqb s 0 e)
 
-module _ (g : Game) where
-  pub sets_empty : g.start ≡ 0 → sets_checked g ≡ refused reason.NoStart start_place
-  unfolding sets_checked
-  sets_empty e = rw (eq-eqb g.start 0 e)
+  module _ (some : s ≡ 0 → ⊥) where
+    pub sets_unseen : (i : ℕ) → i < n → first i (unseen_in l) ≡ nothing → unseen_in l i ≡ true → sets_from l n s ≡ refused reason.Unseen i
+    unfolding sets_from
+    sets_unseen i h e t = rw (ne_eqb s 0 some, first_stop n (unseen_in l) i h e t)
 
-  pub sets_unseen : (g.start ≡ 0 → ⊥) → (i : ℕ) → i < g.states → first i (unseen g) ≡ nothing → unseen g i ≡ true → sets_checked g ≡ refused reason.Unseen i
-  unfolding sets_checked
-  sets_unseen d i l e t = rw (ne_eqb g.start 0 d, first_stop g.states (unseen g) i l e t)
+    pub sets_fine : first n (unseen_in l) ≡ nothing → sets_from l n s ≡ Ok tt
+    unfolding sets_from
+    sets_fine e = rw (ne_eqb s 0 some, e)
 
-  pub sets_fine : (g.start ≡ 0 → ⊥) → first g.states (unseen g) ≡ nothing → sets_checked g ≡ Ok tt
-  unfolding sets_checked
-  sets_fine d e = rw (ne_eqb g.start 0 d, e)
+-- and of a game whose observations have the states that the words name
+module _ (g : Game) (l : List ℕ) (long : length l ≡ g.observations) (same : (i j : ℕ) → i < g.states → j < g.observations → member (get_or l j 0) i ≡ member (g.shown j) i) where
+  unseen_same : (i : ℕ) → i < g.states → unseen_in l i ≡ unseen g i
+  unfolding unseen_in unseen
+  unseen_same i m =
+      ap not
+      (ap (λ (k : ℕ). any k (λ j. member (get_or l j 0) i)) long
+      ∙ any_ext g.observations (λ j. member (get_or l j 0) i) (λ j. member (g.shown j) i) (λ j h. same i j m h))
+
+  pub by_shown : sets_from l g.states g.start ≡ sets_checked g
+  unfolding sets_from sets_checked
+  by_shown =
+      ap (λ (x : Found). cond (eqb g.start 0) (refused reason.NoStart start_place) (at_found x (λ i. refused reason.Unseen i) (Ok tt)))
+      (first_ext g.states (unseen_in l) (unseen g) unseen_same)
 
 -- ---- 19
 

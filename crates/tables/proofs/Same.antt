@@ -1,13 +1,17 @@
 -- The fields of a table mean its game: what the checks on fields say of it.
 -- Assumes nothing.
-use mathlib.Core.Path.{◌≡◌, refl, sym, ap, ap₂, ◌∙◌, subst}
+use mathlib.Core.Path.{◌≡◌, refl, sym, ap, ap₂, ◌∙◌}
 use mathlib.Core.Bool.{Bool, cond, not, ◌&&◌}
 use mathlib.Core.List.{List}
-use Prim.Native.Nat.{ℕ, ◌+◌, ◌-◌, ◌*◌, ◌/◌, ◌%◌, ◌<◌, ◌≤◌}
+use Prim.Native.Nat.{ℕ, zero, suc, ◌+◌, ◌*◌, ◌/◌, ◌%◌, ◌^◌, ◌<◌, ◌≤◌}
 use native.Mathlib.Omega.{arith}
 use lib.Dec.{eqb}
 use lib.ListN.{length, take, drop, get_or, replicate}
-use Rattle.std.proofs.lemmas.List.{take_rest, length-drop, get_or-drop}
+use lib.Pow.{pow_pos}
+use native.Mathlib.Nat.{pow-succ', mul_comm, min-eq_left}
+use Rattle.std.proofs.Math.Arith.{mod-mul}
+use Rattle.std.proofs.lemmas.List.{length-take, length-drop, get_or-take, get_or-drop}
+use Rattle.sets.proofs.Mask.{member_first, member_half}
 use Rattle.sets.specs.Mask.{member}
 use Rattle.sets.specs.Bounded.{any, first, Found, at_found}
 use Rattle.sets.proofs.Bounded.{any_ext, first_ext}
@@ -15,19 +19,19 @@ use Rattle.sets.proofs.Fills.{get_d_filled}
 use Rattle.games.specs.Format.{max_observations, max_moves}
 use Rattle.games.specs.Fields.{low_field}
 use Rattle.games.specs.Game.{Game, has_successor}
-use Rattle.games.specs.Places.{shown, move, start_place, place_of, Within, Limited}
+use Rattle.games.specs.Places.{shown, move, start_place, place_of, Within}
 use Rattle.games.specs.Words.{mask_at, game}
 use Rattle.games.specs.declared.Shape.{Shape}
 use Rattle.games.specs.Answers.{refused}
 use Rattle.games.specs.declared.Place.{Place}
 use Rattle.games.specs.declared.Place.TheVariants.{Start, Bad, Parked, Shown, Move}
 use Rattle.games.proofs.Limits.{slot_below}
-use Rattle.games.proofs.Places.{move_slot, move_at, moves_row}
-use Rattle.tables.specs.Layout.{shape_in, Sized}
-use Rattle.tables.specs.Check.{unseen, sets_checked, departs, parked_checked, parked_from}
+use Rattle.games.proofs.Places.{move_slot, move_at, shown_from, shown_row}
+use Rattle.tables.specs.Layout.{shape_in, shown_words, move_words, Sized}
+use Rattle.tables.specs.Check.{unseen, sets_checked, sets_from, departs, parked_checked, parked_from}
 use Rattle.tables.specs.Fields.{fields_shape, fields_of, field_at, game_of}
 use Rattle.tables.specs.declared.Fields.{Fields}
-use Rattle.tables.proofs.Checks.{from_front, by_words}
+use Rattle.tables.proofs.Checks.{from_front, by_words, by_shown}
 use Rattle.games.specs.declared.Reason.TheVariants as reason
 use Rattle.std.specs.Prelude.{Ok}
 
@@ -82,34 +86,59 @@ pub parked_same : (w : List ℕ) → parked_checked (game_of (fields_of w)) ≡ 
 unfolding game_of fields_of game
 parked_same w = parked_ext (game_of (fields_of w)) (game w) refl refl refl (λ a i l m. field_is w (move a i) (l, m))
 
-module _ (w : List ℕ) (f : Fields) (read : f ≡ fields_of w) where
-  pub fields_limited : Sized w → Limited (fields_shape f)
-  unfolding fields_of
-  fields_limited h = subst (λ (k : Fields). Limited (fields_shape k)) (sym read) h.limits
+-- a mask and a word name the same states
+low_digit : (k s : ℕ) → s % 2 ^ suc k ≡ (s / 2 % 2 ^ k) * 2 + s % 2
+low_digit k s = ap (λ (x : ℕ). s % x) (pow-succ' 2 k ∙ mul_comm 2 (2 ^ k)) ∙ mod-mul s {m = 2 ^ k} {c = 2} (pow_pos k) (omega arith)
 
-  pub fields_sets : sets_checked (game_of f) ≡ sets_checked (game w)
-  fields_sets = ap (λ (k : Fields). sets_checked (game_of k)) read ∙ sets_same w
+member_low : (k s i : ℕ) → i < k → member (s % 2 ^ k) i ≡ member s i
+member_low zero s i l = absurd (omega arith)
+member_low (suc k) s zero l = member_first (s % 2 ^ suc k) ∙ ap (λ (x : ℕ). eqb x 1) (omega (arith, low_digit k s)) ∙ sym (member_first s)
+member_low (suc k) s (suc i) l =
+    member_half (s % 2 ^ suc k) i
+    ∙ ap (λ (x : ℕ). member x i) (omega (arith, low_digit k s))
+    ∙ member_low k (s / 2) i (omega arith)
+    ∙ sym (member_half s i)
 
--- the table's move words are its moves; they are lent from the first on
-module _ (w : List ℕ) (at : ℕ) (s : Shape) (first_move : at ≡ place_of (shape_in w) (move 0 0)) (same : s ≡ shape_in w) where
-  abbrev lent : List ℕ
-  lent = take (length w - at) (drop at w)
+-- the words for the observations and for the moves, as the table lends them
+module _ (w : List ℕ) (h : Sized w) where
+  abbrev s : Shape
+  s = shape_in w
 
-  -- they are all there
-  pub moves_lent : Sized w → s.actions * s.states ≤ length lent
-  moves_lent h =
-      let long : length lent ≡ length w - at = ap length (take_rest w at) ∙ length-drop at w in
-      rw (long, first_move, same) (omega (arith, moves_row (shape_in w), h.long))
+  pub shown_long : length (shown_words w) ≡ s.observations
+  shown_long = simp (length-take, length-drop) (omega (arith, shown_row s, h.long))
 
-  move_lent : (p : ℕ) → low_field (get_or lent (0 + p) 0) ≡ low_field (get_or w (place_of (shape_in w) (move 0 0) + p) 0)
-  move_lent p =
-      ap (λ (l : List ℕ). low_field (get_or l (0 + p) 0)) (take_rest w at)
-      ∙ ap low_field (get_or-drop at w (0 + p) 0)
-      ∙ ap₂ (λ (b i : ℕ). low_field (get_or w (b + i) 0)) first_move (from_front p)
+  pub moves_long : length (move_words w) ≡ s.actions * s.states
+  moves_long = length-drop (place_of s (move 0 0)) w ∙ omega (arith, h.long)
 
-  pub table_parked : (parked : ℕ) → parked ≡ (game w).parked → parked_from lent 0 s parked ≡ parked_checked (game w)
+  pub shown_lent : (j : ℕ) → j < s.observations → get_or (shown_words w) j 0 ≡ get_or w (place_of s (shown j)) 0
+  shown_lent j l =
+      get_or-take s.observations (drop (place_of s (shown 0)) w) j 0 l
+      ∙ get_or-drop (place_of s (shown 0)) w j 0
+      ∙ ap (λ (p : ℕ). get_or w p 0) (shown_from s j)
+
+  pub move_lent : (p : ℕ) → get_or (move_words w) p 0 ≡ get_or w (place_of s (move 0 0) + p) 0
+  move_lent p = get_or-drop (place_of s (move 0 0)) w p 0
+
+  -- 6 and 7 on them
+  pub table_sets : (n start : ℕ) → n ≡ s.states → start ≡ mask_at w Start → sets_from (shown_words w) n start ≡ sets_checked (game w)
   unfolding game
-  table_parked parked ended =
-      ap (parked_from lent 0 s) ended
-      ∙ by_words (game w) lent 0 s (ap (λ (t : Shape). t.states) same) (ap (λ (t : Shape). t.actions) same)
-      (λ a i l m. move_lent (a * s.states + i) ∙ ap (λ (t : Shape). low_field (get_or w (place_of (shape_in w) (move 0 0) + (a * t.states + i)) 0)) same ∙ ap (λ (p : ℕ). low_field (get_or w p 0)) (move_at (shape_in w) a i))
+  table_sets n start counted begun =
+      ap₂ (sets_from (shown_words w)) counted begun
+      ∙ by_shown (game w) (shown_words w) shown_long
+      (λ i j m l. ap (λ (x : ℕ). member x i) (shown_lent j l) ∙ sym (member_low 16 (get_or w (place_of s (shown j)) 0) i (omega (arith, h.limits.most_states))))
+
+  -- and 19
+  pub table_parked : (s' : Shape) (parked : ℕ) → s' ≡ s → parked ≡ (game w).parked → parked_from (move_words w) 0 s' parked ≡ parked_checked (game w)
+  unfolding game
+  table_parked s' parked same ended =
+      ap₂ (parked_from (move_words w) 0) same ended
+      ∙ by_words (game w) (move_words w) 0 s refl refl
+      (λ a i l m. ap low_field (ap (λ (p : ℕ). get_or (move_words w) p 0) (from_front (a * s.states + i)) ∙ move_lent (a * s.states + i) ∙ ap (λ (p : ℕ). get_or w p 0) (move_at s a i)))
+
+-- 6 and 7 on the slots of the fields
+pub fields_sets : (f : Fields) (s : Shape) → s ≡ fields_shape f → f.observations ≤ length f.shown → sets_from (take f.observations f.shown) s.states f.start ≡ sets_checked (game_of f)
+unfolding game_of
+fields_sets f s same inside =
+    ap (λ (t : Shape). sets_from (take f.observations f.shown) t.states f.start) same
+    ∙ by_shown (game_of f) (take f.observations f.shown) (length-take f.observations f.shown ∙ min-eq_left inside)
+    (λ i j m l. ap (λ (x : ℕ). member x i) (get_or-take f.observations f.shown j 0 l))

@@ -48,6 +48,10 @@ faulty w p = ltb 0 p && (not (placed w p) || too_wide (shape_in w).states (low_f
 unfoldable pub words_checked : List ℕ → Checked
 words_checked w = at_found (first (length w) (faulty w)) (λ p. cond (placed w p) (refused reason.StateBeyond p) (refused reason.Misplaced p)) (Ok tt)
 
+-- 4 and 5 of the word at a place from 1 up
+abbrev pub word_checked : List ℕ → ℕ → Checked
+word_checked w p = cond (faulty w p) (cond (placed w p) (refused reason.StateBeyond p) (refused reason.Misplaced p)) (Ok tt)
+
 -- state i shows no observation
 unfoldable pub unseen : Game → ℕ → Bool
 unseen g i = not (any g.observations (λ o. member (g.shown o) i))
@@ -57,6 +61,16 @@ unfoldable pub sets_checked : Game → Checked
 sets_checked g =
     cond (eqb g.start 0) (refused reason.NoStart start_place)
     (at_found (first g.states (unseen g)) (λ i. refused reason.Unseen i)
+    (Ok tt))
+
+-- as the code asks it: of a start set and of words, or masks, of the observations; no word names state i
+unfoldable pub unseen_in : List ℕ → ℕ → Bool
+unseen_in l i = not (any (length l) (λ j. member (get_or l j 0) i))
+
+unfoldable pub sets_from : (shown : List ℕ) → (states start : ℕ) → Checked
+sets_from l n s =
+    cond (eqb s 0) (refused reason.NoStart start_place)
+    (at_found (first n (unseen_in l)) (λ i. refused reason.Unseen i)
     (Ok tt))
 
 -- state i is parked, and has a successor under some action

@@ -7,11 +7,11 @@ ghost use Rattle.games.specs.Places.{place_at, place_of, table_length, Limited};
 ghost use Rattle.games.specs.Words.{game};
 ghost use Rattle.tables.specs.Layout.{head_word, bare_word};
 ghost use Rattle.tables.specs.Fields.{fields_shape, game_of};
-ghost use Rattle.tables.specs.Check.{limits_hold, head_right, size_checked, placed, faulty, words_checked, unseen, sets_checked, parked_checked, departs_from, parked_from, checked};
+ghost use Rattle.tables.specs.Check.{limits_hold, head_right, size_checked, placed, word_checked, words_checked, unseen_in, sets_from, sets_checked, parked_checked, departs_from, parked_from, checked};
 
 mod words;
 
-use games::{Action, Kind, Place, Reason, Refusal, Shape, State};
+use games::{Kind, Place, Reason, Refusal, Shape, State};
 pub use words::{Accepted, Table};
 
 // The head's kind in its place, and as it stands above the head's numbers, where the spare bits are 0.
@@ -100,13 +100,18 @@ fn is_placed(table: Table, p: usize) -> bool
     w == table.sizes().bare_word(p) + games::low_field(w)
 }
 
-// The word is refused, by 4 or 5.
-fn is_faulty(table: Table, p: usize) -> bool
+// Refusals 4 and 5 of one word, 4 first.
+fn check_word(table: Table, p: usize) -> Result<(), Refusal>
     requires { (1 ≤ p) × (p < length table.words.now) }
-    ensures { result ≡ faulty table.entry.words.now p }
+    ensures { result ≡ word_checked table.entry.words.now p }
 {
-    let wide = sets::single(table.shape().states) <= games::low_field(table.words[p]);
-    !is_placed(table, p) | wide
+    if !is_placed(table, p) {
+        return Err(Reason::Misplaced.at(p));
+    }
+    if sets::single(table.shape().states) <= games::low_field(table.words[p]) {
+        return Err(Reason::StateBeyond.at(p));
+    }
+    Ok(())
 }
 
 // Refusals 4 and 5.
@@ -114,12 +119,30 @@ fn check_words(table: Table) -> Result<(), Refusal>
     ensures { result ≡ words_checked table.entry.words.now }
 {
     for p in 1..table.words.len() {
-        if is_faulty(table, p) {
-            if is_placed(table, p) {
-                return Err(Reason::StateBeyond.at(p));
-            } else {
-                return Err(Reason::Misplaced.at(p));
-            }
+        check_word(table, p)?;
+    }
+    Ok(())
+}
+
+// No word names state i. A kind above the mask doesn't matter.
+fn is_unseen(shown: &[u32], i: State) -> bool
+    requires { i.0 < 32 }
+    ensures { result ≡ unseen_in shown.now i.0 }
+{
+    !shown.iter().any(|word| sets::member(*word, i.0))
+}
+
+// Refusals 6 and 7, by the start set and the words of the observations, or their masks.
+fn check_sets(s: Shape, start: u32, shown: &[u32]) -> Result<(), Refusal>
+    requires { Limited s }
+    ensures { result ≡ sets_from shown.now s.states start }
+{
+    if start == 0 {
+        return Err(Reason::NoStart.at(games::place_of(s, Place::Start)));
+    }
+    for i in 0..s.states {
+        if is_unseen(shown, State(i)) {
+            return Err(Reason::Unseen.at(i as usize));
         }
     }
     Ok(())
@@ -130,7 +153,7 @@ fn check_departures(table: Table) -> Result<(), Refusal>
     ensures { result ≡ parked_checked (game table.entry.words.now) }
 {
     let moves = MoveWords {
-        words: &table.words[table.place_in(Place::Move(Action(0), State(0)))..],
+        words: table.move_words(),
         sizes: table.sizes(),
         parked: table.parked(),
     };
@@ -144,7 +167,7 @@ pub fn check(table: &[u32]) -> Result<(), Refusal>
 {
     let table = Table::of(table)?;
     check_words(table)?;
-    table.fields().check_sets()?;
+    check_sets(table.shape(), table.mask(Place::Start), table.shown_words())?;
     check_departures(table)
 }
 
@@ -178,35 +201,18 @@ impl Fields {
         }
     }
 
-    // State i shows no observation.
-    fn is_unseen(self, i: State) -> bool
-        requires { (self.observations ≤ max_observations) × (i.0 < 32) }
-        ensures { result ≡ unseen (game_of self) i.0 }
-    {
-        // a copy of these slots alone: with a place in the whole the check keeps the moves on its stack too, 1,080 bytes for 192
-        let shown = self.shown;
-        for j in 0..self.observations as usize {
-            if sets::member(shown[j], i.0) {
-                return false;
-            }
-        }
-        true
-    }
-
     // Refusals 6 and 7.
     pub fn check_sets(self) -> Result<(), Refusal>
         requires { Limited (fields_shape self) }
         ensures { result ≡ sets_checked (game_of self) }
     {
-        if self.start == 0 {
-            return Err(Reason::NoStart.at(games::place_of(self.shape(), Place::Start)));
-        }
-        for i in 0..self.states {
-            if self.is_unseen(State(i)) {
-                return Err(Reason::Unseen.at(i as usize));
-            }
-        }
-        Ok(())
+        // a copy of these slots alone: with a place in the whole the check keeps the moves on its stack too, 1,080 bytes for 192
+        let shown = self.shown;
+        check_sets(
+            self.shape(),
+            self.start,
+            &shown[..self.observations as usize],
+        )
     }
 }
 

@@ -1,11 +1,11 @@
 // A table's words and what they say. They are checked once, and whoever holds a `Table` or an `Accepted` knows it.
 
-ghost use Rattle.std.specs.Prelude.{◌≡◌, ◌+◌, ◌<◌, ◌≤◌, length, Ok, IfOk, IfErr};
+ghost use Rattle.std.specs.Prelude.{◌≡◌, ◌<◌, ◌≤◌, length, replicate, Ok, IfOk, IfErr};
 ghost use Rattle.sets.specs.Bounded.{filled_by};
 ghost use Rattle.games.specs.Places.{place_of, Within};
 ghost use Rattle.games.specs.Verdict.{start_sets, start_set};
 ghost use Rattle.games.specs.Words.{mask_at, game};
-ghost use Rattle.tables.specs.Layout.{shape_in, Sized};
+ghost use Rattle.tables.specs.Layout.{shape_in, shown_words, move_words, Sized};
 ghost use Rattle.tables.specs.Fields.{masks_from, fields_of};
 ghost use Rattle.tables.specs.Check.{size_checked, checked};
 
@@ -24,6 +24,18 @@ pub struct Table<'t> {
 pub struct Accepted<'t> {
     pub table: Table<'t>,
     pub ghost checked: { checked table.words.now ≡ Ok tt },
+}
+
+// The masks of words in the first slots, and 0 in those behind.
+fn masks<const N: usize>(words: &[u32]) -> [u32; N]
+    requires { length words.now ≤ N }
+    ensures { result ≡ filled_by (length words.now) (masks_from words.now 0) (replicate N 0) }
+{
+    let mut slots = sets::filled::<u32, N>(0);
+    for (i, word) in words.iter().enumerate() {
+        slots[i] = games::low_field(*word);
+    }
+    slots
 }
 
 impl<'t> Table<'t> {
@@ -81,7 +93,7 @@ impl<'t> Table<'t> {
 
     // The mask of a set's word.
     #[tactic(auto, using(crate::proofs::Bounds::place_inside))]
-    fn mask(self, x: Place) -> u32
+    pub(crate) fn mask(self, x: Place) -> u32
         requires { Within (shape_in self.words.now) x }
         ensures { result ≡ mask_at self.entry.words.now x }
     {
@@ -142,14 +154,19 @@ impl<'t> Table<'t> {
         sets::common(self.mask(Place::Start), self.shown(seen))
     }
 
-    // The masks from a place on, into the front of `out`.
-    fn copy_masks(self, base: usize, count: usize, out: &mut [u32])
-        requires { (base + count ≤ length self.words.now) × (count ≤ length out.old) }
-        ensures { out.new ≡ filled_by count (masks_from self.entry.words.now base) out.old }
+    // Its words for the observations,
+    pub(crate) fn shown_words(self) -> &'t [u32]
+        ensures { result.now ≡ shown_words self.entry.words.now }
     {
-        for i in 0..count {
-            out[i] = games::low_field(self.words[base + i]);
-        }
+        let at = self.place_in(Place::Shown(Observation(0)));
+        &self.words[at..at + self.shape().observations as usize]
+    }
+
+    // and for the moves.
+    pub(crate) fn move_words(self) -> &'t [u32]
+        ensures { result.now ≡ move_words self.entry.words.now }
+    {
+        &self.words[self.place_in(Place::Move(Action(0), State(0)))..]
     }
 
     // Its numbers and sets.
@@ -157,12 +174,6 @@ impl<'t> Table<'t> {
         ensures { result ≡ fields_of self.entry.words.now }
     {
         let s = self.shape();
-        let mut shown = [0u32; crate::SHOWN_SLOTS];
-        let first_shown = self.place_in(Place::Shown(Observation(0)));
-        self.copy_masks(first_shown, s.observations as usize, &mut shown);
-        let mut moves = [0u32; crate::MOVE_SLOTS];
-        let first_move = self.place_in(Place::Move(Action(0), State(0)));
-        self.copy_masks(first_move, (s.actions * s.states) as usize, &mut moves);
         Fields {
             states: s.states,
             actions: s.actions,
@@ -171,8 +182,8 @@ impl<'t> Table<'t> {
             bad: self.mask(Place::Bad),
             marked: s.marked,
             parked: self.parked(),
-            shown,
-            moves,
+            shown: masks(self.shown_words()),
+            moves: masks(self.move_words()),
         }
     }
 }

@@ -2,14 +2,15 @@
 use mathlib.Core.Path.{◌≡◌, sym, ap, ◌∙◌}
 use Rattle.games.specs.Words.{game}
 use Rattle.tables.specs.Check.{size_checked, words_checked, sets_checked, checked}
-use Rattle.tables.proofs.Same.{fields_limited, fields_sets}
+use Rattle.games.specs.declared.Shape.{Shape}
+use Rattle.tables.proofs.Same.{table_sets}
 use Rattle.tables.proofs.Checks.{sets_stop, parked_decides}
 use Rattle.std.proofs.lemmas.Result.{err_from_is_err_and}
 use Rattle.tables.proofs.check.Goals as goal
 use Rattle.std.specs.Prelude.{Ok}
 
 pub check_sets-requires : goal.check_sets-requires
-check_sets-requires c = fields_limited _ _ c.fields.ensures c.in_ok-table.table.sized
+check_sets-requires c = rw c.shape.ensures c.in_ok-table.table.sized.limits
 
 pub returns-in_err-check_sets : goal.returns-in_err-check_sets
 returns-in_err-check_sets c =
@@ -17,7 +18,7 @@ returns-in_err-check_sets c =
     let same : w ≡ c.args.table.now = ap (λ b. b.now) c.in_ok-table.ensures.table.0 in
     let size : size_checked w ≡ Ok tt = ap size_checked same ∙ c.in_ok-table.ensures.table.1 in
     let words : words_checked w ≡ Ok tt = sym c.check_words.ensures ∙ c.in_ok-check_words.was in
-    let sets : c.check_sets.result ≡ sets_checked (game w) = c.check_sets.ensures ∙ fields_sets w _ c.fields.ensures in
+    let sets : c.check_sets.result ≡ sets_checked (game w) = rw c.shown_words.ensures at c.check_sets.ensures ∙ table_sets w c.in_ok-table.table.sized _ _ (ap (λ (s : Shape). s.states) c.shape.ensures) c.mask.ensures in
     let p = err_from_is_err_and c.from_residual-in_err-check_sets.result c.from_residual-in_err-check_sets.ensures.1 in
     rw (p.1, p.2) (sym (sets_stop w size words _ _ (sym sets ∙ c.in_err-check_sets.was)) ∙ ap checked same)
 
@@ -27,5 +28,5 @@ returns c =
     let same : w ≡ c.args.table.now = ap (λ b. b.now) c.in_ok-table.ensures.table.0 in
     let size : size_checked w ≡ Ok tt = ap size_checked same ∙ c.in_ok-table.ensures.table.1 in
     let words : words_checked w ≡ Ok tt = sym c.check_words.ensures ∙ c.in_ok-check_words.was in
-    let sets : c.check_sets.result ≡ sets_checked (game w) = c.check_sets.ensures ∙ fields_sets w _ c.fields.ensures in
+    let sets : c.check_sets.result ≡ sets_checked (game w) = rw c.shown_words.ensures at c.check_sets.ensures ∙ table_sets w c.in_ok-table.table.sized _ _ (ap (λ (s : Shape). s.states) c.shape.ensures) c.mask.ensures in
     c.check_departures.ensures ∙ sym (parked_decides w size words (sym sets ∙ c.in_ok-check_sets.was)) ∙ ap checked same
