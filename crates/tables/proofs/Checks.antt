@@ -11,7 +11,7 @@ use lib.Dec.{eqb}
 use lib.Pow.{pow_pos}
 use lib.ListN.{length, get_or}
 use Rattle.sets.specs.Bounded.{first, any, Found, nothing, at_found}
-use Rattle.sets.proofs.Logic.{decided, and_intro, and_left, and_right, or_false_left, or_false_right, false_not, true_not}
+use Rattle.sets.proofs.Logic.{decided, and_left, and_right, or_false_left, or_false_right, false_not, true_not}
 use Rattle.sets.proofs.Bounded.{first_zero, first_skip, first_stop, first_nothing, first_ext, any_intro, any_found, any_none, any_refuted, any_ext}
 use Rattle.sets.specs.Mask.{member}
 use Rattle.games.specs.Format.{within, max_states, max_actions, max_observations, head_spare_at}
@@ -28,7 +28,7 @@ use Rattle.games.proofs.Answers.{never, then_fine, cond_fine, cond_passed, found
 use Rattle.games.proofs.Limits.{within_low, within_high}
 use Rattle.games.proofs.Places.{place_from}
 use Rattle.tables.specs.Layout.{shape_in, head_top, bare_word, Sized}
-use Rattle.tables.specs.Check.{too_wide, limits_hold, head_right, size_checked, placed, faulty, word_checked, words_checked, unseen, sets_checked, unseen_in, sets_from, departs, parked_checked, departs_from, parked_from, checked}
+use Rattle.tables.specs.Check.{too_wide, limits_hold, head_right, size_checked, placed, faulty, word_checked, words_checked, unseen, sets_checked, unseen_in, sets_from, departs, parked_checked, goes_on, departs_from, parked_from, checked}
 use Rattle.tables.proofs.Bounds.{place_inside}
 use Rattle.games.specs.declared.Reason.{Reason}
 use Rattle.games.specs.declared.Reason.TheVariants as reason
@@ -63,6 +63,15 @@ pub words_none : (w : List ℕ) → first 1 (faulty w) ≡ nothing
 unfolding faulty
 words_none w = first_skip 0 (faulty w) (first_zero (faulty w)) refl
 
+module _ (w : List ℕ) (p : ℕ) (inside : p < length w) (before : first p (faulty w) ≡ nothing) (here : faulty w p ≡ true) where
+  pub words_misplaced : placed w p ≡ false → words_checked w ≡ refused reason.Misplaced p
+  unfolding words_checked
+  words_misplaced e = rw (first_stop (length w) (faulty w) p inside before here, e)
+
+  pub words_wide : placed w p ≡ true → words_checked w ≡ refused reason.StateBeyond p
+  unfolding words_checked
+  words_wide e = rw (first_stop (length w) (faulty w) p inside before here, e)
+
 -- one word: what it is refused by, and how that decides
 module _ (w : List ℕ) (p : ℕ) where
   module _ (from_one : 1 ≤ p) where
@@ -85,9 +94,10 @@ module _ (w : List ℕ) (p : ℕ) where
       (λ (t : faulty w p ≡ false). t) (decided (faulty w p))
 
   pub word_stops : p < length w → first p (faulty w) ≡ nothing → (e : Refusal) → word_checked w p ≡ Err e → words_checked w ≡ Err e
-  unfolding words_checked
   word_stops inside before e f =
-      ⊎_elim (λ (t : faulty w p ≡ true). rw (first_stop (length w) (faulty w) p inside before t) (rw t at f))
+      ⊎_elim
+      (λ (t : faulty w p ≡ true). ⊎_elim (λ (a : placed w p ≡ true). words_wide w p inside before t a ∙ rw (t, a) at f)
+      (λ (a : placed w p ≡ false). words_misplaced w p inside before t a ∙ rw (t, a) at f) (decided (placed w p)))
       (λ (t : faulty w p ≡ false). let g = rw t at f in cc) (decided (faulty w p))
 
 pub words_fine : (w : List ℕ) → first (length w) (faulty w) ≡ nothing → words_checked w ≡ Ok tt
@@ -145,23 +155,15 @@ from_front p = omega arith
 
 -- as the code asks it
 module _ (w : List ℕ) (base : ℕ) (s : Shape) (parked : ℕ) where
+  -- i isn't parked; it is, so its successors decide
   module _ (i : ℕ) where
-    abbrev goes_on : ℕ → Bool
-    goes_on a = not (eqb (low_field (get_or w (base + (a * s.states + i)) 0)) 0)
-
-    -- i isn't parked; it has a successor; it has none
     pub not_parked : member parked i ≡ false → departs_from w base s parked i ≡ false
     unfolding departs_from
     not_parked e = rw e
 
-    module _ (here : member parked i ≡ true) where
-      pub departs_by : (a : ℕ) → a < s.actions → goes_on a ≡ true → departs_from w base s parked i ≡ true
-      unfolding departs_from
-      departs_by a l e = and_intro here (any_intro s.actions goes_on a l e)
-
-      pub departs_never : any s.actions goes_on ≡ false → departs_from w base s parked i ≡ false
-      unfolding departs_from
-      departs_never e = rw (here, e)
+    pub departs_by : member parked i ≡ true → departs_from w base s parked i ≡ any s.actions (goes_on w base s i)
+    unfolding departs_from
+    departs_by e = rw e
 
   pub parked_departs : (i : ℕ) → i < s.states → first i (departs_from w base s parked) ≡ nothing → departs_from w base s parked i ≡ true → parked_from w base s parked ≡ refused reason.ParkedMoves i
   unfolding parked_from
@@ -177,7 +179,7 @@ module _ (g : Game) (w : List ℕ) (base : ℕ) (s : Shape) (states : s.states �
   unfolding departs_from departs has_successor
   departs_same i l =
       ap (λ (b : Bool). member g.parked i && b)
-      (any_ext s.actions (goes_on w base s g.parked i) (has_successor g i) (λ a m. ap (λ (t : ℕ). not (eqb t 0)) (moves a i m l))
+      (any_ext s.actions (goes_on w base s i) (has_successor g i) (λ a m. ap (λ (t : ℕ). not (eqb t 0)) (moves a i m l))
       ∙ ap (λ (k : ℕ). any k (has_successor g i)) actions)
 
   pub by_words : parked_from w base s g.parked ≡ parked_checked g

@@ -110,11 +110,8 @@ module _ (w : List ℕ) (h : Sized w) where
   pub moves_long : length (move_words w) ≡ s.actions * s.states
   moves_long = length-drop (place_of s (move 0 0)) w ∙ omega (arith, h.long)
 
-  pub shown_lent : (j : ℕ) → j < s.observations → get_or (shown_words w) j 0 ≡ get_or w (place_of s (shown j)) 0
-  shown_lent j l =
-      get_or-take s.observations (drop (place_of s (shown 0)) w) j 0 l
-      ∙ get_or-drop (place_of s (shown 0)) w j 0
-      ∙ ap (λ (p : ℕ). get_or w p 0) (shown_from s j)
+  pub shown_lent : (j : ℕ) → j < s.observations → get_or (shown_words w) j 0 ≡ get_or w (place_of s (shown 0) + j) 0
+  shown_lent j l = get_or-take s.observations (drop (place_of s (shown 0)) w) j 0 l ∙ get_or-drop (place_of s (shown 0)) w j 0
 
   pub move_lent : (p : ℕ) → get_or (move_words w) p 0 ≡ get_or w (place_of s (move 0 0) + p) 0
   move_lent p = get_or-drop (place_of s (move 0 0)) w p 0
@@ -125,7 +122,7 @@ module _ (w : List ℕ) (h : Sized w) where
   table_sets n start counted begun =
       ap₂ (sets_from (shown_words w)) counted begun
       ∙ by_shown (game w) (shown_words w) shown_long
-      (λ i j m l. ap (λ (x : ℕ). member x i) (shown_lent j l) ∙ sym (member_low 16 (get_or w (place_of s (shown j)) 0) i (omega (arith, h.limits.most_states))))
+      (λ i j m l. ap (λ (x : ℕ). member x i) (shown_lent j l ∙ ap (λ (p : ℕ). get_or w p 0) (shown_from s j)) ∙ sym (member_low 16 (get_or w (place_of s (shown j)) 0) i (omega (arith, h.limits.most_states))))
 
   -- and 19
   pub table_parked : (s' : Shape) (parked : ℕ) → s' ≡ s → parked ≡ (game w).parked → parked_from (move_words w) 0 s' parked ≡ parked_checked (game w)

@@ -81,10 +81,13 @@ departs g i = member g.parked i && any g.actions (has_successor g i)
 unfoldable pub parked_checked : Game → Checked
 parked_checked g = at_found (first g.states (departs g)) (λ i. refused reason.ParkedMoves i) (Ok tt)
 
--- as the code asks it: of a parked set, and of move words, or masks, that stand from a place on
+-- as the code asks it: of a parked set, and of move words, or masks, that stand from a place on; the action gives the state a successor
+abbrev pub goes_on : (words : List ℕ) (base : ℕ) → Shape → (state action : ℕ) → Bool
+goes_on w base s i a = not (eqb (low_field (get_or w (base + (a * s.states + i)) 0)) 0)
+
 unfoldable pub departs_from : (words : List ℕ) (base : ℕ) → Shape → (parked state : ℕ) → Bool
 departs_from w base s parked i =
-    member parked i && any s.actions (λ a. not (eqb (low_field (get_or w (base + (a * s.states + i)) 0)) 0))
+    member parked i && any s.actions (goes_on w base s i)
 
 unfoldable pub parked_from : (words : List ℕ) (base : ℕ) → Shape → (parked : ℕ) → Checked
 parked_from w base s parked = at_found (first s.states (departs_from w base s parked)) (λ i. refused reason.ParkedMoves i) (Ok tt)

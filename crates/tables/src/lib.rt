@@ -7,11 +7,11 @@ ghost use Rattle.games.specs.Places.{place_at, place_of, table_length, Limited};
 ghost use Rattle.games.specs.Words.{game};
 ghost use Rattle.tables.specs.Layout.{head_word, bare_word};
 ghost use Rattle.tables.specs.Fields.{fields_shape, game_of};
-ghost use Rattle.tables.specs.Check.{limits_hold, head_right, size_checked, placed, word_checked, words_checked, unseen_in, sets_from, sets_checked, parked_checked, departs_from, parked_from, checked};
+ghost use Rattle.tables.specs.Check.{limits_hold, head_right, size_checked, placed, word_checked, words_checked, unseen_in, sets_from, sets_checked, parked_checked, goes_on, departs_from, parked_from, checked};
 
 mod words;
 
-use games::{Kind, Place, Reason, Refusal, Shape, State};
+use games::{Action, Kind, Place, Reason, Refusal, Shape, State};
 pub use words::{Accepted, Table};
 
 // The head's kind in its place, and as it stands above the head's numbers, where the spare bits are 0.
@@ -226,21 +226,21 @@ pub struct MoveWords<'w> {
 }
 
 impl MoveWords<'_> {
+    // The action gives state i a successor.
+    fn goes_on(self, i: State, a: Action) -> bool
+        requires { (i.0 < self.sizes.shape.states) × (a.0 < self.sizes.shape.actions) }
+        ensures { let m = self.entry in result ≡ goes_on m.words.now 0 m.sizes.shape i.0 a.0 }
+    {
+        games::low_field(self.words[(a.0 * self.sizes.shape.states + i.0) as usize]) != 0
+    }
+
     // State i is parked, and has a successor under some action.
     fn departs(self, i: State) -> bool
         requires { i.0 < self.sizes.shape.states }
         ensures { let m = self.entry in result ≡ departs_from m.words.now 0 m.sizes.shape m.parked i.0 }
     {
-        if !sets::member(self.parked, i.0) {
-            return false;
-        }
-        let s = self.sizes.shape;
-        for a in 0..s.actions {
-            if games::low_field(self.words[(a * s.states + i.0) as usize]) != 0 {
-                return true;
-            }
-        }
-        false
+        sets::member(self.parked, i.0)
+            && sets::any(self.sizes.shape.actions, |a| self.goes_on(i, Action(a)))
     }
 
     // Refusal 19: no parked state has a successor.
