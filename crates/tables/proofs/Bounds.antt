@@ -45,10 +45,3 @@ module _ (w : List ℕ) (h : Sized w) where
   -- a set of the table stands in it
   pub place_inside : (x : Place) → Within (shape_in w) x → place_of (shape_in w) x < length w
   place_inside x k = rw h.long (place_below (shape_in w) x k)
-
--- a move's word lies among those that stand from a place on
-pub move_inside : (base size : ℕ) (s : Shape) → Limited s → base + s.actions * s.states ≤ size → (a i : ℕ) → a < s.actions → i < s.states
-    → (a * s.states + i < max_moves) × (base + (a * s.states + i) < size)
-move_inside base size s l inside a i m k =
-    let below = slot_below a s.actions s.states i m k in
-    (omega (arith, below, moves_below s.actions s.states l.most_actions l.most_states), omega (arith, below, inside))
