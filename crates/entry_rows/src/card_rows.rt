@@ -1,13 +1,13 @@
 // A card's words, its opening and its steps: refusals 13, 12 and 14.
 use cards::{Entered, Stood};
 use games::{Cell, Observation};
-use rows::print::{self, Told};
-use rows::stations::{A_CARD, C_CARD, Change, changed, each_changed};
+use rows::print::{Fine, Told};
+use rows::stations::{A_CARD, C_CARD, Change, changed};
 use std::fmt::{self, Display};
 use std::io;
 
 fn check(rt: &impl Print, name: impl Display + Drop, card: &[u32]) -> io::Result<()> {
-    let answer = print::checked(cards::check(card));
+    let answer = Told(cards::check(card).map(Fine));
     println!(rt; "check card {name}: {answer}")
 }
 
@@ -64,7 +64,11 @@ fn whole(rt: &impl Print) -> io::Result<()> {
 
 // A's card with each of the words changed alone.
 fn check_each_changed(rt: &impl Print, changes: &[Change]) -> io::Result<()> {
-    each_changed("A", A_CARD, changes, |name, card| check(rt, name, card))
+    for change in changes {
+        let card = changed(A_CARD, &[*change]);
+        check(rt, format_args!("A with {change}"), &card)?;
+    }
+    Ok(())
 }
 
 // The head's numbers just inside and just outside; where the head is right, the length or a word may be wrong.
@@ -131,10 +135,11 @@ fn openings(rt: &impl Print) -> io::Result<()> {
 
 fn refused_openings(rt: &impl Print) -> io::Result<()> {
     open(rt, "no words", &[], 0)?;
-    let head = changed(A_CARD, &[Change(0, 0x80210003)]);
-    open(rt, "A with 80210003 at 0", &head, 9)?;
-    let none = changed(A_CARD, &[Change(1, 0x9000FFFF)]);
-    open(rt, "A with 9000FFFF at 1", &none, 0)
+    for (change, seen) in [(Change(0, 0x80210003), 9), (Change(1, 0x9000FFFF), 0)] {
+        let card = changed(A_CARD, &[change]);
+        open(rt, format_args!("A with {change}"), &card, seen)?;
+    }
+    Ok(())
 }
 
 // From cells, on observations.

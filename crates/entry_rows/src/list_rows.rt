@@ -1,140 +1,102 @@
 // Join and meet of mask lists: refusals 2, 5 and 15.
+use Operation::{Join, Meet};
 use games::Refusal;
-use rows::print::{self, Numbers, Words};
+use rows::print::{Numbers, Told, Words, Wrote};
 use rows::stations::GUARD;
+use std::fmt::{self, Display};
 use std::io;
 
-// Two lists over so many states.
+// What is asked of two lists over so many states.
 #[derive(Clone, Copy)]
-struct Lists<'a>(u32, &'a [u32], &'a [u32]);
+enum Operation {
+    Join,
+    Meet,
+}
 
-// What an operation on two lists answers, and what it leaves in the buffer.
-fn combine<F: Fn(u32, &[u32], &[u32], &mut [u32]) -> Result<usize, Refusal>>(
-    rt: &impl Print,
-    name: &str,
-    operation: F,
-    lists: Lists,
-    out: &mut [u32],
-) -> io::Result<()>
-    requires { F.IsAlwaysCallable operation }
-{
-    let Lists(n, first, second) = lists;
-    let room = out.len();
-    let answer = print::written(operation(n, first, second, out));
+impl Operation {
+    fn run(self, n: u32, first: &[u32], second: &[u32], out: &mut [u32]) -> Result<usize, Refusal> {
+        match self {
+            Join => lists::join(n, first, second, out),
+            Meet => lists::meet(n, first, second, out),
+        }
+    }
+}
+
+impl Display for Operation {
+    fn fmt<W: fmt::Write>(&self, f: &mut fmt::Formatter<W>) -> fmt::Result {
+        f.write_str(match self {
+            Join => "join",
+            Meet => "meet",
+        })
+    }
+}
+
+// The states, the lists, and the room for so many masks, which is three at most.
+#[derive(Clone, Copy)]
+struct Row<'a>(Operation, u32, &'a [u32], &'a [u32], usize);
+
+const ROWS: [Row; 37] = [
+    // J and K.
+    Row(Join, 2, &[1, 2], &[3], 3),
+    Row(Meet, 3, &[3], &[1, 6], 3),
+    // Refusal 15, and a buffer that is just long enough.
+    Row(Join, 2, &[1], &[2], 1),
+    Row(Meet, 2, &[3], &[1, 2], 1),
+    Row(Join, 2, &[1], &[2], 2),
+    Row(Join, 2, &[1], &[2], 0),
+    Row(Meet, 2, &[3], &[1, 2], 2),
+    Row(Meet, 2, &[3], &[1, 2], 0),
+    // Empty lists, and the list of the empty set.
+    Row(Join, 3, &[], &[], 3),
+    Row(Meet, 3, &[], &[], 3),
+    Row(Join, 3, &[], &[3], 3),
+    Row(Meet, 3, &[3], &[], 3),
+    Row(Meet, 3, &[], &[3], 3),
+    Row(Join, 3, &[0], &[], 3),
+    Row(Meet, 3, &[0], &[3], 3),
+    Row(Meet, 3, &[1], &[2], 3),
+    // Lists that are not ascending, or with repeats.
+    Row(Join, 2, &[2, 1, 2], &[1], 3),
+    Row(Meet, 3, &[6, 3, 3], &[5, 7], 3),
+    // Widths and masks just inside and just outside, with a mask in each list.
+    Row(Join, 1, &[1], &[0], 3),
+    Row(Join, 1, &[2], &[0], 3),
+    Row(Join, 12, &[4095], &[1], 3),
+    Row(Join, 12, &[4096], &[1], 3),
+    Row(Join, 0, &[0], &[0], 3),
+    Row(Join, 13, &[1], &[2], 3),
+    Row(Join, 4294967295, &[1], &[2], 3),
+    Row(Meet, 1, &[1], &[1], 3),
+    Row(Meet, 1, &[1], &[2], 3),
+    Row(Meet, 12, &[4095], &[2048], 3),
+    Row(Meet, 12, &[4095], &[4294967295], 3),
+    Row(Meet, 0, &[0], &[0], 3),
+    Row(Meet, 13, &[1], &[2], 3),
+    // 2 before 5; the second list is counted on after the first.
+    Row(Join, 13, &[8192], &[0], 3),
+    Row(Join, 2, &[4], &[8], 3),
+    Row(Join, 2, &[1], &[2, 4], 3),
+    Row(Meet, 2, &[1], &[2, 4], 3),
+    // 5 before 15.
+    Row(Join, 2, &[1, 2], &[4], 0),
+    Row(Meet, 2, &[1, 2], &[3, 4], 0),
+];
+
+// What the operation answers, and what it leaves in the room.
+fn print_row(rt: &impl Print, row: Row) -> io::Result<()> {
+    let Row(operation, n, first, second, room) = row;
+    let mut buffer = [GUARD; 3];
+    let out = &mut buffer[..room.min(3)];
+    let answer = Told(operation.run(n, first, second, out).map(Wrote));
     let first = Numbers(first);
     let second = Numbers(second);
     let words = Words(out);
-    println!(rt; "{name} {n} {first} {second} into {room}: {answer} {words}")
-}
-
-fn join(rt: &impl Print, lists: Lists, out: &mut [u32]) -> io::Result<()> {
-    combine(rt, "join", lists::join, lists, out)
-}
-
-fn meet(rt: &impl Print, lists: Lists, out: &mut [u32]) -> io::Result<()> {
-    combine(rt, "meet", lists::meet, lists, out)
-}
-
-fn join_3(rt: &impl Print, lists: Lists) -> io::Result<()> {
-    join(rt, lists, &mut [GUARD; 3])
-}
-
-fn meet_3(rt: &impl Print, lists: Lists) -> io::Result<()> {
-    meet(rt, lists, &mut [GUARD; 3])
-}
-
-// J and K.
-fn stations(rt: &impl Print) -> io::Result<()> {
-    join_3(rt, Lists(2, &[1, 2], &[3]))?;
-    meet_3(rt, Lists(3, &[3], &[1, 6]))
-}
-
-// Refusal 15, and a buffer that is just long enough.
-fn rooms(rt: &impl Print) -> io::Result<()> {
-    let mut one = [GUARD; 1];
-    join(rt, Lists(2, &[1], &[2]), &mut one)?;
-    meet(rt, Lists(2, &[3], &[1, 2]), &mut one)?;
-    join(rt, Lists(2, &[1], &[2]), &mut [GUARD; 2])?;
-    join(rt, Lists(2, &[1], &[2]), &mut [])?;
-    meet(rt, Lists(2, &[3], &[1, 2]), &mut [GUARD; 2])?;
-    meet(rt, Lists(2, &[3], &[1, 2]), &mut [])
-}
-
-// Empty lists, and the list of the empty set.
-fn empty(rt: &impl Print) -> io::Result<()> {
-    join_3(rt, Lists(3, &[], &[]))?;
-    meet_3(rt, Lists(3, &[], &[]))?;
-    join_3(rt, Lists(3, &[], &[3]))?;
-    meet_3(rt, Lists(3, &[3], &[]))?;
-    meet_3(rt, Lists(3, &[], &[3]))?;
-    join_3(rt, Lists(3, &[0], &[]))?;
-    meet_3(rt, Lists(3, &[0], &[3]))?;
-    meet_3(rt, Lists(3, &[1], &[2]))
-}
-
-// Lists that are not ascending, or with repeats.
-fn unordered(rt: &impl Print) -> io::Result<()> {
-    join_3(rt, Lists(2, &[2, 1, 2], &[1]))?;
-    meet_3(rt, Lists(3, &[6, 3, 3], &[5, 7]))
-}
-
-// A row for each two lists of one mask, over so many states.
-fn each_masks<F: Fn(Lists) -> io::Result<()>>(masks: &[(u32, u32, u32)], row: F) -> io::Result<()>
-    requires { F.IsAlwaysCallable row }
-{
-    for (n, first, second) in masks {
-        row(Lists(*n, &[*first], &[*second]))?;
-    }
-    Ok(())
-}
-
-// Widths and masks just inside and just outside, with a mask in each list.
-fn limits(rt: &impl Print) -> io::Result<()> {
-    each_masks(
-        &[
-            (1, 1, 0),
-            (1, 2, 0),
-            (12, 4095, 1),
-            (12, 4096, 1),
-            (0, 0, 0),
-            (13, 1, 2),
-            (4294967295, 1, 2),
-        ],
-        |lists| join_3(rt, lists),
-    )?;
-    each_masks(
-        &[
-            (1, 1, 1),
-            (1, 1, 2),
-            (12, 4095, 2048),
-            (12, 4095, 4294967295),
-            (0, 0, 0),
-            (13, 1, 2),
-        ],
-        |lists| meet_3(rt, lists),
-    )
-}
-
-// 2 before 5; the second list is counted on after the first.
-fn order(rt: &impl Print) -> io::Result<()> {
-    join_3(rt, Lists(13, &[8192], &[0]))?;
-    join_3(rt, Lists(2, &[4], &[8]))?;
-    join_3(rt, Lists(2, &[1], &[2, 4]))?;
-    meet_3(rt, Lists(2, &[1], &[2, 4]))
-}
-
-// 5 before 15.
-fn short(rt: &impl Print) -> io::Result<()> {
-    join(rt, Lists(2, &[1, 2], &[4]), &mut [])?;
-    meet(rt, Lists(2, &[1, 2], &[3, 4]), &mut [])
+    println!(rt; "{operation} {n} {first} {second} into {room}: {answer} {words}")
 }
 
 pub fn rows(rt: &impl Print) -> io::Result<()> {
-    stations(rt)?;
-    rooms(rt)?;
-    empty(rt)?;
-    unordered(rt)?;
-    limits(rt)?;
-    order(rt)?;
-    short(rt)
+    for row in ROWS {
+        print_row(rt, row)?;
+    }
+    Ok(())
 }

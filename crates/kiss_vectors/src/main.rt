@@ -8,7 +8,7 @@ mod source;
 mod text_rows;
 
 use rows::input::read_full;
-use source::Source;
+use source::{Source, Subject};
 use std::{io, str};
 
 // The most bytes that are read.
@@ -16,19 +16,21 @@ const INPUT_BYTES: usize = 65536;
 
 // Each row with the name and the card or text that stand last before it.
 fn run(rt: &impl Print, input: &str) -> io::Result<()> {
-    let mut name = "";
-    let mut source = Source::Words("");
+    let mut subject = Subject {
+        name: "",
+        source: Source::Words(""),
+    };
     for line in input.lines() {
         let (kind, rest) = line.split_once(' ').unwrap_or((line, ""));
         match kind {
-            "n" => name = rest,
-            "c" => source = Source::Words(rest),
-            "k" => source = Source::Chain,
-            "t" => source = Source::Text(rest),
-            "w" => card_rows::write(rt, name, source, rest)?,
-            "b" => card_rows::read_back(rt, name, source, rest)?,
-            "r" => text_rows::read(rt, name, source, rest)?,
-            "e" => text_rows::read_edited(rt, name, source, rest)?,
+            "n" => subject.name = rest,
+            "c" => subject.source = Source::Words(rest),
+            "k" => subject.source = Source::Chain,
+            "t" => subject.source = Source::Text(rest),
+            "w" => subject.write(rt, rest)?,
+            "b" => subject.read_back(rt, rest)?,
+            "r" => subject.read(rt, rest)?,
+            "e" => subject.read_edited(rt, rest)?,
             _ => {}
         }
     }

@@ -66,7 +66,7 @@ impl Display for Got {
 }
 
 // With room for so many bytes.
-pub fn write(
+pub(crate) fn write(
     rt: &impl Print,
     name: impl Display + Drop,
     card: &[u32],
@@ -82,7 +82,7 @@ pub fn write(
 }
 
 // With room for so many words.
-pub fn read(
+pub(crate) fn read(
     rt: &impl Print,
     name: impl Display + Drop,
     text: &[u8],

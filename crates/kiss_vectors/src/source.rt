@@ -1,5 +1,7 @@
 // What rows are about: the card or the text of a line.
+ghost use Rattle.std.specs.Prelude.{◌≡◌, MatchOption, SomeIff};
 ghost use Rattle.std.specs.Iterator.{IsFinite};
+ghost use Rattle.kiss_vectors.specs.Input.{meant, Numeral, value, text_of};
 
 use crate::rooms::FREE;
 
@@ -15,8 +17,15 @@ pub enum Source<'a> {
     Text(&'a str),
 }
 
+// A card or a text with its name: what the rows behind it are about.
+#[derive(Clone, Copy)]
+pub struct Subject<'a> {
+    pub name: &'a str,
+    pub source: Source<'a>,
+}
+
 // Puts the items in front of the room, as far as there is room for them, and answers that front.
-pub fn fill<T: Copy, I: Iterator<Item = T> + Drop>(room: &mut [T], items: I) -> &mut [T]
+pub(crate) fn fill<T: Copy, I: Iterator<Item = T> + Drop>(room: &mut [T], items: I) -> &mut [T]
     requires { I.Iterator.can_next items × IsFinite (I.Iterator.remaining items) }
 {
     let mut count: usize = 0;
@@ -37,7 +46,9 @@ fn front<T>(room: &mut [T], count: usize) -> &mut [T] {
 }
 
 // The byte that the input shows: `|` is a newline, `<` a carriage return, `>` a tab, `_` a space.
-pub fn meant(shown: u8) -> u8 {
+pub(crate) fn meant(shown: u8) -> u8
+    ensures { result ≡ meant shown }
+{
     match shown {
         b'|' => b'\n',
         b'<' => b'\r',
@@ -48,12 +59,17 @@ pub fn meant(shown: u8) -> u8 {
 }
 
 // The number that a word of a row is, if there is one.
-pub fn number(word: Option<&str>) -> Option<usize> {
+pub(crate) fn number(word: Option<&str>) -> Option<usize>
+    ensures { MatchOption word.entry (result ≡ None) (λ w. SomeIff result (Numeral 64 10 w.now) (value 10 w.now)) }
+{
     word.and_then(|digits| digits.parse().ok())
 }
 
-// Eight hexadecimal digits.
-pub fn word(digits: &str) -> u32 {
+// Eight hexadecimal digits, else 0.
+pub(crate) fn word(digits: &str) -> u32
+    ensures numeral { Numeral 32 16 digits.now → result ≡ value 16 digits.now }
+    ensures other { ¬ Numeral 32 16 digits.now → result ≡ 0 }
+{
     u32::from_str_radix(digits, 16).unwrap_or(0)
 }
 
@@ -81,7 +97,7 @@ fn read_card<'c>(text: &str, room: &'c mut [u32]) -> &'c mut [u32] {
 
 impl Source<'_> {
     // The card, or that of the text, in front of the room.
-    pub fn card<'c>(self, room: &'c mut [u32]) -> &'c mut [u32] {
+    pub(crate) fn card<'c>(self, room: &'c mut [u32]) -> &'c mut [u32] {
         match self {
             Source::Words(words) => fill(room, words.split_whitespace().map(word)),
             Source::Chain => fill(room, (0..8194).map(chain_word)),
@@ -90,7 +106,9 @@ impl Source<'_> {
     }
 
     // The text, empty where it is a card.
-    pub fn text(&self) -> &str {
+    pub(crate) fn text(&self) -> &str
+        ensures { result.now ≡ text_of self.now }
+    {
         match self {
             Source::Text(text) => text,
             _ => "",

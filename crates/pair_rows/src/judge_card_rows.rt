@@ -1,8 +1,10 @@
 // The judge of cards: the table checks, 13, 16, and 18 at the lowest word at fault. In the cards of A and C cell 0 is {0} and waits,
 // cell 1 is {1} and doses.
-use rows::print::{self, Word};
-use rows::stations::{self, A, A_CARD, C, C_CARD, Change, F_CARD, GUARD, STATES_12_CARD, changed};
-use std::fmt::{self, Display};
+use rows::print::{Fine, Told, Word};
+use rows::stations::{
+    self, A, A_CARD, C, C_CARD, Change, F_CARD, GUARD, STATES_12_CARD, With, changed,
+};
+use std::fmt::Display;
 use std::io;
 
 pub fn judge(
@@ -11,25 +13,11 @@ pub fn judge(
     table: &[u32],
     card: &[u32],
 ) -> io::Result<()> {
-    let answer = print::checked(certificates::judge_card(table, card));
+    let answer = Told(certificates::judge_card(table, card).map(Fine));
     println!(rt; "judge card {name}: {answer}")
 }
 
-// The name of a table and a card, and the words that are changed in the card: A with its card, 9000FFFF at 1.
-#[derive(Clone, Copy)]
-struct Pair<'a>(&'a str, &'a [Change]);
-
-impl Display for Pair<'_> {
-    fn fmt<W: fmt::Write>(&self, f: &mut fmt::Formatter<W>) -> fmt::Result {
-        f.write_str(self.0)?;
-        for change in self.1 {
-            write!(f, ", {change}")?;
-        }
-        Ok(())
-    }
-}
-
-// Some words of the card changed.
+// Some words of the card changed: A with its card, 9000FFFF at 1.
 pub fn judge_changed<const N: usize>(
     rt: &impl Print,
     name: &str,
@@ -37,7 +25,12 @@ pub fn judge_changed<const N: usize>(
     card: [u32; N],
     changes: &[Change],
 ) -> io::Result<()> {
-    judge(rt, Pair(name, changes), table, &changed(card, changes))
+    judge(
+        rt,
+        With(name, ", ", changes),
+        table,
+        &changed(card, changes),
+    )
 }
 
 // Each of the words of the card changed alone.
@@ -48,8 +41,8 @@ fn judge_each_changed<const N: usize>(
     card: [u32; N],
     changes: &[Change],
 ) -> io::Result<()> {
-    for change in changes {
-        judge_changed(rt, name, table, card, &[*change])?;
+    for alone in changes.chunks(1) {
+        judge_changed(rt, name, table, card, alone)?;
     }
     Ok(())
 }

@@ -75,7 +75,7 @@ fn cards(rt: &impl Print) -> io::Result<()> {
     Ok(())
 }
 
-pub fn rows(rt: &impl Print) -> io::Result<()> {
+pub(crate) fn rows(rt: &impl Print) -> io::Result<()> {
     judged(rt)?;
     solved(rt)?;
     four_states(rt)?;

@@ -1,6 +1,6 @@
 // The bit, its word and 19: the table checks, reading and writing.
 use rows::check_rows::{check_changed, check_each, check_each_changed, check_heads};
-use rows::field_rows::{fields_of, read, widest, with_shown, write};
+use rows::field_rows::{Difference, WIDEST, fields_of, read, write};
 use rows::stations::{self, A, Change, GUARD, MARKED_A, MIXED, PARKED_E};
 use std::fmt::{self, Display};
 use std::io;
@@ -92,23 +92,24 @@ fn read_and_written(rt: &impl Print) -> io::Result<()> {
     let fields = fields_of(&PARKED_E);
     write(rt, "E parked", fields, &mut [GUARD; 6])?;
     write(rt, "E parked", fields, &mut [GUARD; 5])?;
-    let most = widest(true);
+    let most = Fields {
+        marked: true,
+        ..WIDEST
+    };
     write(rt, "marked n 12 a 8 o 8", most, &mut [GUARD; 108])?;
     write(rt, "marked n 12 a 8 o 8", most, &mut [GUARD; 107])
 }
 
 // A with parked states, and with the bit that says so or without.
 #[derive(Clone, Copy)]
-struct Parked {
-    marked: bool,
-    mask: u32,
-}
+struct Parked(bool, u32);
 
 impl Parked {
     fn fields(self) -> Fields {
+        let Parked(marked, parked) = self;
         Fields {
-            marked: self.marked,
-            parked: self.mask,
+            marked,
+            parked,
             ..fields_of(&A)
         }
     }
@@ -116,51 +117,45 @@ impl Parked {
 
 impl Display for Parked {
     fn fmt<W: fmt::Write>(&self, f: &mut fmt::Formatter<W>) -> fmt::Result {
-        let name = if self.marked { "marked A" } else { "A" };
-        let mask = self.mask;
+        let Parked(marked, mask) = *self;
+        let name = if marked { "marked A" } else { "A" };
         write!(f, "{name} with parked {mask}")
     }
 }
 
-fn write_each(rt: &impl Print, marked: bool, masks: &[u32]) -> io::Result<()> {
-    for mask in masks {
-        let parked = Parked {
-            marked,
-            mask: *mask,
-        };
+// The mask 0 without the bit and with it; 11 before 5; 5.
+fn written(rt: &impl Print) -> io::Result<()> {
+    for parked in [
+        Parked(false, 0),
+        Parked(false, 1),
+        Parked(false, 8),
+        Parked(true, 0),
+        Parked(true, 8),
+        Parked(true, 65536),
+        Parked(true, 4),
+    ] {
         write(rt, parked, parked.fields(), &mut [GUARD; 11])?;
     }
     Ok(())
 }
 
-// The mask 0 without the bit and with it; 11 before 5; 5; 7 before 19, 19 before 10.
-fn written(rt: &impl Print) -> io::Result<()> {
-    write_each(rt, false, &[0, 1, 8])?;
-    write_each(rt, true, &[0, 8, 65536, 4])?;
-    let unseen = with_shown(
-        Parked {
-            marked: true,
-            mask: 1,
-        }
-        .fields(),
-        0,
-        3,
-    );
-    let name = "marked A with parked 1 and reading 3 in slot 0";
-    write(rt, name, unseen, &mut [])?;
-    let departing = Parked {
-        marked: true,
-        mask: 2,
-    };
+// 7 before 19, 19 before 10.
+fn unwritten(rt: &impl Print) -> io::Result<()> {
+    let departing = Parked(true, 2);
+    let seen = Parked(true, 1);
+    let reading = Difference::Reading(0, 3);
+    let unseen = reading.make(seen.fields());
+    write(rt, format_args!("{seen} and {reading}"), unseen, &mut [])?;
     write(rt, departing, departing.fields(), &mut [])
 }
 
-pub fn rows(rt: &impl Print) -> io::Result<()> {
+pub(crate) fn rows(rt: &impl Print) -> io::Result<()> {
     accepted(rt)?;
     heads(rt)?;
     words(rt)?;
     departing(rt)?;
     order(rt)?;
     read_and_written(rt)?;
-    written(rt)
+    written(rt)?;
+    unwritten(rt)
 }

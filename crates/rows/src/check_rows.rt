@@ -1,11 +1,11 @@
 // Table checks: refusals 1 to 7, and tables at the limits.
-use crate::print::{self, Word};
-use crate::stations::{self, A, Change, With, changed, each_changed};
+use crate::print::{Fine, Told, Word};
+use crate::stations::{self, A, Change, With, changed};
 use std::fmt::Display;
 use std::io;
 
-pub fn check(rt: &impl Print, name: impl Display + Drop, table: &[u32]) -> io::Result<()> {
-    let answer = print::checked(tables::check(table));
+fn check(rt: &impl Print, name: impl Display + Drop, table: &[u32]) -> io::Result<()> {
+    let answer = Told(tables::check(table).map(Fine));
     println!(rt; "check {name}: {answer}")
 }
 
@@ -72,7 +72,7 @@ pub fn check_changed<const N: usize>(
     table: [u32; N],
     changes: &[Change],
 ) -> io::Result<()> {
-    check(rt, With(name, changes), &changed(table, changes))
+    check(rt, With(name, " with ", changes), &changed(table, changes))
 }
 
 // A table with each of the words changed alone.
@@ -82,7 +82,10 @@ pub fn check_each_changed<const N: usize>(
     table: [u32; N],
     changes: &[Change],
 ) -> io::Result<()> {
-    each_changed(name, table, changes, |name, table| check(rt, name, table))
+    for alone in changes.chunks(1) {
+        check_changed(rt, name, table, alone)?;
+    }
+    Ok(())
 }
 
 // Refusal 4 (another kind, spare bits, another index); 5, with the masks just inside; 6 and 7.

@@ -1,5 +1,9 @@
 // Reading a table into fields, and writing fields as words: refusals 2, 11, 5, 6, 7 and 10.
-use crate::print::{self, Numbers, Words};
+ghost use Rattle.std.specs.Prelude.{◌≡◌, MatchResult};
+ghost use Rattle.fields.specs.Read.{read_of};
+ghost use Rattle.rows.specs.Rows.{made};
+
+use crate::print::{Fine, Numbers, Told, Words, Wrote};
 use crate::stations::{self, A, Change, GUARD, changed};
 use std::fmt::{self, Display};
 use std::io;
@@ -28,7 +32,7 @@ impl Display for Printed {
 }
 
 pub fn read(rt: &impl Print, name: impl Display + Drop, table: &[u32]) -> io::Result<()> {
-    let answer = print::checked(tables::check(table));
+    let answer = Told(tables::check(table).map(Fine));
     let printed = Printed(fields_of(table));
     println!(rt; "read {name}: {answer} {printed}")
 }
@@ -49,7 +53,7 @@ pub fn write(
     out: &mut [u32],
 ) -> io::Result<()> {
     let room = out.len();
-    let answer = print::written(fields::write(f, out));
+    let answer = Told(fields::write(f, out).map(Wrote));
     let words = Words(out);
     println!(rt; "write {name} into {room}: {answer} {words}")
 }
@@ -67,13 +71,16 @@ const NO_FIELDS: Fields = Fields {
     moves: [0; tables::MOVE_SLOTS],
 };
 
-pub fn fields_of(table: &[u32]) -> Fields {
+// The fields of a table, or those.
+pub fn fields_of(table: &[u32]) -> Fields
+    ensures { MatchResult (read_of table.now) (λ f. result ≡ f) (λ _. result ≡ NO_FIELDS) }
+{
     fields::read(table).unwrap_or(NO_FIELDS)
 }
 
 // What differs from A's fields.
 #[derive(Clone, Copy)]
-enum Difference {
+pub enum Difference {
     Numbers(u32, u32, u32),
     Sets(u32, u32),
     Reading(usize, u32),
@@ -91,43 +98,28 @@ impl Display for Difference {
     }
 }
 
-fn with_numbers(n: u32, a: u32, o: u32) -> Fields {
-    Fields {
-        states: n,
-        actions: a,
-        observations: o,
-        ..fields_of(&A)
-    }
-}
-
-fn with_sets(start: u32, bad: u32) -> Fields {
-    Fields {
-        start,
-        bad,
-        ..fields_of(&A)
-    }
-}
-
-pub fn with_shown(f: Fields, slot: usize, mask: u32) -> Fields {
-    Fields {
-        shown: changed(f.shown, &[Change(slot, mask)]),
-        ..f
-    }
-}
-
-fn with_move(f: Fields, slot: usize, mask: u32) -> Fields {
-    Fields {
-        moves: changed(f.moves, &[Change(slot, mask)]),
-        ..f
-    }
-}
-
-fn different(difference: Difference) -> Fields {
-    match difference {
-        Difference::Numbers(n, a, o) => with_numbers(n, a, o),
-        Difference::Sets(start, bad) => with_sets(start, bad),
-        Difference::Reading(slot, mask) => with_shown(fields_of(&A), slot, mask),
-        Difference::Move(slot, mask) => with_move(fields_of(&A), slot, mask),
+impl Difference {
+    // The fields with the difference.
+    pub fn make(self, f: Fields) -> Fields
+        ensures { result ≡ made self f }
+    {
+        match self {
+            Difference::Numbers(n, a, o) => Fields {
+                states: n,
+                actions: a,
+                observations: o,
+                ..f
+            },
+            Difference::Sets(start, bad) => Fields { start, bad, ..f },
+            Difference::Reading(slot, mask) => Fields {
+                shown: changed(f.shown, &[Change(slot, mask)]),
+                ..f
+            },
+            Difference::Move(slot, mask) => Fields {
+                moves: changed(f.moves, &[Change(slot, mask)]),
+                ..f
+            },
+        }
     }
 }
 
@@ -143,29 +135,28 @@ fn written(rt: &impl Print) -> io::Result<()> {
 }
 
 // All that the limits allow: 107 words, 108 with the parked set.
-pub fn widest(marked: bool) -> Fields {
-    Fields {
-        states: 12,
-        actions: 8,
-        observations: 8,
-        start: 4095,
-        bad: 0,
-        marked,
-        parked: 0,
-        shown: [4095; tables::SHOWN_SLOTS],
-        moves: [4095; tables::MOVE_SLOTS],
-    }
-}
+pub const WIDEST: Fields = Fields {
+    states: 12,
+    actions: 8,
+    observations: 8,
+    start: 4095,
+    bad: 0,
+    marked: false,
+    parked: 0,
+    shown: [4095; tables::SHOWN_SLOTS],
+    moves: [4095; tables::MOVE_SLOTS],
+};
 
 fn written_widest(rt: &impl Print) -> io::Result<()> {
-    write(rt, "n 12 a 8 o 8", widest(false), &mut [GUARD; 108])?;
-    write(rt, "n 12 a 8 o 8", widest(false), &mut [GUARD; 106])
+    write(rt, "n 12 a 8 o 8", WIDEST, &mut [GUARD; 108])?;
+    write(rt, "n 12 a 8 o 8", WIDEST, &mut [GUARD; 106])
 }
 
 // A with one difference each, into ten words.
 fn write_each(rt: &impl Print, differences: &[Difference]) -> io::Result<()> {
+    let a = fields_of(&A);
     for difference in differences {
-        let fields = different(*difference);
+        let fields = difference.make(a);
         let mut out = [GUARD; 10];
         write(rt, format_args!("A with {difference}"), fields, &mut out)?;
     }
@@ -205,19 +196,21 @@ fn differences(rt: &impl Print) -> io::Result<()> {
 
 // 2 before 11, 11 before 5; 5 before 6, 6 before 7, 7 before 10.
 fn order(rt: &impl Print) -> io::Result<()> {
-    let numbers = with_shown(with_numbers(13, 2, 1), 1, 1);
+    let a = fields_of(&A);
+    let beyond = Difference::Reading(1, 1);
+    let unseen = Difference::Reading(0, 3);
+    let numbers = beyond.make(Difference::Numbers(13, 2, 1).make(a));
     let name = "A with n 13 and reading 1 in slot 1";
     write(rt, name, numbers, &mut [GUARD; 10])?;
-    let unshown = with_shown(with_sets(8, 4), 1, 1);
+    let unshown = beyond.make(Difference::Sets(8, 4).make(a));
     let name = "A with start 8 and reading 1 in slot 1";
     write(rt, name, unshown, &mut [GUARD; 10])?;
     write_each(rt, &[Difference::Sets(0, 8)])?;
-    let empty = with_shown(with_sets(0, 4), 0, 3);
+    let empty = unseen.make(Difference::Sets(0, 4).make(a));
     let name = "A with start 0 and reading 3 in slot 0";
     write(rt, name, empty, &mut [GUARD; 10])?;
-    let unseen = with_shown(fields_of(&A), 0, 3);
-    let name = "A with reading 3 in slot 0";
-    write(rt, name, unseen, &mut [GUARD; 9])
+    let name = format_args!("A with {unseen}");
+    write(rt, name, unseen.make(a), &mut [GUARD; 9])
 }
 
 pub fn rows(rt: &impl Print) -> io::Result<()> {

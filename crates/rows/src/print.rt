@@ -1,4 +1,6 @@
 // What the rows print: words, lists, and what an entry answers.
+ghost use Rattle.std.specs.Prelude.{◌≡◌, ◌==◌, length, take_while};
+
 use games::Refusal;
 use std::fmt::{self, Display};
 
@@ -79,19 +81,14 @@ impl<T: Display> Display for Told<T> {
     }
 }
 
-// That a table or a card is fine.
+// That a table or a card is fine: what a check answers.
 #[derive(Clone, Copy)]
-pub struct Fine;
+pub struct Fine(pub ());
 
 impl Display for Fine {
     fn fmt<W: fmt::Write>(&self, f: &mut fmt::Formatter<W>) -> fmt::Result {
         f.write_str("fine")
     }
-}
-
-// What a check answers.
-pub fn checked(answer: Result<(), Refusal>) -> Told<Fine> {
-    Told(answer.map(|()| Fine))
 }
 
 // How many words or bytes were written.
@@ -105,7 +102,9 @@ impl Display for Wrote {
     }
 }
 
-// What a writer answers.
-pub fn written(answer: Result<usize, Refusal>) -> Told<Wrote> {
-    Told(answer.map(Wrote))
+// How many words in front are this one.
+pub fn in_front(words: &[u32], word: u32) -> usize
+    ensures { result ≡ length (take_while (λ w. w == word) words.now) }
+{
+    words.iter().take_while(|w| **w == word).count()
 }

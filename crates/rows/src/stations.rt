@@ -1,7 +1,8 @@
 // The stations of document 01, their cards, stations with parked states, and tables at the limits.
+ghost use Rattle.std.specs.Prelude.{◌≡◌, fold, slice_set};
+
 use crate::print::Word;
 use std::fmt::{self, Display};
-use std::io;
 
 // What a lent buffer holds before a call.
 pub const GUARD: u32 = 0xEEEEEEEE;
@@ -147,9 +148,11 @@ pub struct Change(pub usize, pub u32);
 
 impl Change {
     // Puts the word where there is such a place.
-    pub fn make(self, words: &mut [u32]) {
-        if let Some(word) = words.get_mut(self.0) {
-            *word = self.1;
+    pub fn make(self, words: &mut [u32])
+        ensures { words.new ≡ slice_set words.old self.0 self.1 }
+    {
+        if self.0 < words.len() {
+            words[self.0] = self.1;
         }
     }
 }
@@ -164,7 +167,9 @@ impl Display for Change {
 }
 
 // A table or a card with some words changed, one after the other.
-pub fn changed<const N: usize>(words: [u32; N], changes: &[Change]) -> [u32; N] {
+pub fn changed<const N: usize>(words: [u32; N], changes: &[Change]) -> [u32; N]
+    ensures { result ≡ fold (λ w c. slice_set w c.0 c.1) words.entry changes.now }
+{
     let mut result = words;
     for change in changes {
         change.make(&mut result);
@@ -172,32 +177,17 @@ pub fn changed<const N: usize>(words: [u32; N], changes: &[Change]) -> [u32; N] 
     result
 }
 
-// The name of a table or a card, and the words that are changed in it: A with 30000001 at 1.
+// The name of a table or a card, what stands before each change, and the words that are changed in it: A with 30000001 at 1.
 #[derive(Clone, Copy)]
-pub struct With<'a>(pub &'a str, pub &'a [Change]);
+pub struct With<'a>(pub &'a str, pub &'a str, pub &'a [Change]);
 
 impl Display for With<'_> {
     fn fmt<W: fmt::Write>(&self, f: &mut fmt::Formatter<W>) -> fmt::Result {
-        f.write_str(self.0)?;
-        for change in self.1 {
-            write!(f, " with {change}")?;
+        let With(name, before, changes) = *self;
+        f.write_str(name)?;
+        for change in changes {
+            write!(f, "{before}{change}")?;
         }
         Ok(())
     }
-}
-
-// A row for each change alone.
-pub fn each_changed<const N: usize, F: Fn(With, &[u32]) -> io::Result<()>>(
-    name: &str,
-    words: [u32; N],
-    changes: &[Change],
-    row: F,
-) -> io::Result<()>
-    requires { F.IsAlwaysCallable row }
-{
-    for change in changes {
-        let alone = [*change];
-        row(With(name, &alone), &changed(words, &alone))?;
-    }
-    Ok(())
 }

@@ -1,7 +1,7 @@
 // Solving: the stations, refusals 8 and 9, and what is left in the buffers.
 #![tactic(auto)]
 
-use rows::print::{Told, Words};
+use rows::print::{Told, Words, in_front};
 use rows::stations::{self, A, B, Change, GUARD, changed};
 use solver::Verdict;
 use std::fmt::{self, Display};
@@ -26,10 +26,8 @@ struct Work<'a>(&'a [u32]);
 
 impl Display for Work<'_> {
     fn fmt<W: fmt::Write>(&self, f: &mut fmt::Formatter<W>) -> fmt::Result {
-        let work = self.0;
-        let zeros = work.iter().take_while(|w| **w == 0).count();
-        let rest = work.iter().skip_while(|w| **w == 0);
-        let kept = rest.take_while(|w| **w == GUARD).count();
+        let zeros = in_front(self.0, 0);
+        let kept = in_front(self.0.get(zeros..).unwrap_or(&[]), GUARD);
         write!(f, "{zeros} zero {kept} kept")
     }
 }

@@ -1,5 +1,5 @@
 // Which cells are kept, in which order and with which numbers.
-use crate::print_trim::{trim, trim_within};
+use crate::print_trim::{Row, trim, trim_each};
 use rows::stations::{A_CARD, C_CARD, GUARD, STATES_12_CARD};
 use std::io;
 
@@ -27,66 +27,57 @@ const WIDEST_CARD: [u32; 27] = [
     0xB0050001, 0xB0060001, 0xB007FFFF,
 ];
 
-// Cards without idle cells stay as they are.
-fn unchanged(rt: &impl Print) -> io::Result<()> {
-    trim_within::<3, 7>(rt, "A's card", &A_CARD)?;
-    trim_within::<3, 10>(rt, "C's card", &C_CARD)?;
-    trim_within::<3, 7>(rt, "n 12's card", &STATES_12_CARD)
-}
+const OWN_CARD: [u32; 6] = [
+    0x80210002, 0x90000000, 0xA0000001, 0xB0000000, 0xA0100002, 0xB0000001,
+];
 
-fn idle(rt: &impl Print) -> io::Result<()> {
-    trim_within::<3, 7>(rt, "tightest's card", &TIGHTEST_CARD)?;
-    trim_within::<5, 11>(rt, "tied's card", &TIED_CARD)?;
-    let own: [u32; 6] = [
-        0x80210002, 0x90000000, 0xA0000001, 0xB0000000, 0xA0100002, 0xB0000001,
-    ];
-    trim_within::<3, 7>(rt, "a cell that only itself names", &own)
-}
+const BEHIND_CARD: [u32; 8] = [
+    0x80210003, 0x90000000, 0xA0000001, 0xB0000000, 0xA0000002, 0xB0000002, 0xA0100004, 0xB0000000,
+];
 
-// To be named is not enough: the cell that names must be reached.
-fn named_by_idle(rt: &impl Print) -> io::Result<()> {
-    let behind: [u32; 8] = [
-        0x80210003, 0x90000000, 0xA0000001, 0xB0000000, 0xA0000002, 0xB0000002, 0xA0100004,
-        0xB0000000,
-    ];
-    trim_within::<5, 11>(rt, "a cell that only an idle one names", &behind)?;
-    let pair: [u32; 10] = [
-        0x80210004, 0x90000000, 0xA0000001, 0xB0000003, 0xA0000002, 0xB0000002, 0xA0000004,
-        0xB0000001, 0xA0100008, 0xB0000000,
-    ];
-    trim_within::<5, 11>(rt, "two idle cells that name each other", &pair)
-}
+const PAIR_CARD: [u32; 10] = [
+    0x80210004, 0x90000000, 0xA0000001, 0xB0000003, 0xA0000002, 0xB0000002, 0xA0000004, 0xB0000001,
+    0xA0100008, 0xB0000000,
+];
 
-// The card's order, whichever cell is found first.
-fn ordered(rt: &impl Print) -> io::Result<()> {
-    trim_within::<5, 11>(rt, "cells found as 3, 1, 2", &TURNED_CARD)
-}
+const ALONE_CARD: [u32; 6] = [
+    0x80210002, 0x9000FFFF, 0xA0000001, 0xB000FFFF, 0xA0100002, 0xB0000000,
+];
 
-// Cell 0 is kept where no first word names a cell, and only there.
-fn no_first(rt: &impl Print) -> io::Result<()> {
-    let alone: [u32; 6] = [
-        0x80210002, 0x9000FFFF, 0xA0000001, 0xB000FFFF, 0xA0100002, 0xB0000000,
-    ];
-    trim_within::<3, 7>(rt, "no first cell", &alone)?;
-    let followed: [u32; 8] = [
-        0x80210003, 0x9000FFFF, 0xA0000001, 0xB0000002, 0xA0000002, 0xB0000000, 0xA0100004,
-        0xB000FFFF,
-    ];
-    trim_within::<5, 11>(rt, "no first cell, cell 2 behind cell 0", &followed)
-}
+const FOLLOWED_CARD: [u32; 8] = [
+    0x80210003, 0x9000FFFF, 0xA0000001, 0xB0000002, 0xA0000002, 0xB0000000, 0xA0100004, 0xB000FFFF,
+];
 
-fn one_first(rt: &impl Print) -> io::Result<()> {
-    let card: [u32; 9] = [
-        0x80220002, 0x9000FFFF, 0x90010001, 0xA0000001, 0xB0000000, 0xB0010000, 0xA0100002,
-        0xB0000001, 0xB001FFFF,
-    ];
-    trim_within::<3, 10>(rt, "one first cell for two observations", &card)
-}
+const ONE_FIRST_CARD: [u32; 9] = [
+    0x80220002, 0x9000FFFF, 0x90010001, 0xA0000001, 0xB0000000, 0xB0010000, 0xA0100002, 0xB0000001,
+    0xB001FFFF,
+];
 
-// The head keeps a and o.
-fn widest(rt: &impl Print) -> io::Result<()> {
-    trim_within::<3, 19>(rt, "a 8 o 8", &WIDEST_CARD)
-}
+const ROWS: [Row; 13] = [
+    // Cards without idle cells stay as they are.
+    Row("A's card", &A_CARD, 3, 7),
+    Row("C's card", &C_CARD, 3, 10),
+    Row("n 12's card", &STATES_12_CARD, 3, 7),
+    Row("tightest's card", &TIGHTEST_CARD, 3, 7),
+    Row("tied's card", &TIED_CARD, 5, 11),
+    Row("a cell that only itself names", &OWN_CARD, 3, 7),
+    // To be named is not enough: the cell that names must be reached.
+    Row("a cell that only an idle one names", &BEHIND_CARD, 5, 11),
+    Row("two idle cells that name each other", &PAIR_CARD, 5, 11),
+    // The card's order, whichever cell is found first.
+    Row("cells found as 3, 1, 2", &TURNED_CARD, 5, 11),
+    // Cell 0 is kept where no first word names a cell, and only there.
+    Row("no first cell", &ALONE_CARD, 3, 7),
+    Row("no first cell, cell 2 behind cell 0", &FOLLOWED_CARD, 5, 11),
+    Row(
+        "one first cell for two observations",
+        &ONE_FIRST_CARD,
+        3,
+        10,
+    ),
+    // The head keeps a and o.
+    Row("a 8 o 8", &WIDEST_CARD, 3, 19),
+];
 
 // With just enough work and room; then the trimmed card once more.
 fn twice(rt: &impl Print) -> io::Result<()> {
@@ -111,13 +102,7 @@ fn turned_twice(rt: &impl Print) -> io::Result<()> {
 }
 
 pub fn rows(rt: &impl Print) -> io::Result<()> {
-    unchanged(rt)?;
-    idle(rt)?;
-    named_by_idle(rt)?;
-    ordered(rt)?;
-    no_first(rt)?;
-    one_first(rt)?;
-    widest(rt)?;
+    trim_each(rt, &ROWS)?;
     twice(rt)?;
     turned_twice(rt)
 }

@@ -1,6 +1,6 @@
 // Cards of 4,096 cells, the most that there are.
 use crate::print_trim::Kept;
-use rows::print::{Told, Words};
+use rows::print::{Told, Words, in_front};
 use rows::stations::{Change, GUARD};
 use std::fmt::Display;
 use std::io;
@@ -24,11 +24,6 @@ fn chain() -> [u32; WORDS] {
     card
 }
 
-// How many words in front are 0.
-fn zeros(words: &[u32]) -> usize {
-    words.iter().take_while(|w| **w == 0).count()
-}
-
 // How many words in front are the same in both.
 fn alike(words: &[u32], others: &[u32]) -> usize {
     let both = words.iter().zip(others);
@@ -45,7 +40,7 @@ fn trim(
     part: Range<usize>,
 ) -> io::Result<()> {
     let answer = Told(trimmer::trim(card, work, out).map(Kept));
-    let zeros = zeros(work);
+    let zeros = in_front(work, 0);
     let alike = alike(out, card);
     let words = Words(out.get(part).unwrap_or(&[]));
     println!(rt; "trim {name}: {answer}, work {zeros} zero, out {alike} as in the card {words}")

@@ -1,6 +1,4 @@
 // The row of one trimming.
-ghost use Rattle.std.specs.Prelude.{◌<◌};
-
 use cards::Extent;
 use rows::print::{Numbers, Told, Words};
 use rows::stations::GUARD;
@@ -32,14 +30,28 @@ pub fn trim(
     println!(rt; "trim {name}: {answer}, work {work}, out {out}")
 }
 
-// With so many words of work and of room: a word behind each is 3 and 7 for two cells and one observation, 3 and 10 for two cells and
-// two observations, 5 and 11 for four cells and one observation.
-pub fn trim_within<const WORK: usize, const ROOM: usize>(
+// With so many words of work and of room, at most 5 and 19: a word behind each is 3 and 7 for two cells and one observation, 3 and 10 for
+// two cells and two observations, 5 and 11 for four cells and one observation.
+pub fn trim_within(
     rt: &impl Print,
     name: impl Display + Drop,
     card: &[u32],
-) -> io::Result<()>
-    requires { WORK < 4096 × ROOM < 4096 }
-{
-    trim(rt, name, card, &mut [GUARD; WORK], &mut [GUARD; ROOM])
+    work: usize,
+    room: usize,
+) -> io::Result<()> {
+    let mut works = [GUARD; 5];
+    let mut outs = [GUARD; 19];
+    let out = &mut outs[..room.min(19)];
+    trim(rt, name, card, &mut works[..work.min(5)], out)
+}
+
+// A card with its name, and the words of work and of room.
+#[derive(Clone, Copy)]
+pub struct Row<'a>(pub &'a str, pub &'a [u32], pub usize, pub usize);
+
+pub fn trim_each(rt: &impl Print, rows: &[Row]) -> io::Result<()> {
+    for Row(name, card, work, room) in rows {
+        trim_within(rt, *name, card, *work, *room)?;
+    }
+    Ok(())
 }

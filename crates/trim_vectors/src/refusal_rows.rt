@@ -1,14 +1,16 @@
 // Refusals 13, 8 and 9 in their order, what is just inside, and what each leaves in the buffers.
 use crate::kept_rows::TIGHTEST_CARD;
-use crate::print_trim::{trim, trim_within};
-use rows::stations::{A_CARD, Change, GUARD, changed, each_changed};
+use crate::print_trim::{Row, trim_each, trim_within};
+use rows::stations::{A_CARD, Change, changed};
 use std::io;
 
 // A's card with each of the words changed alone.
 fn trim_each_changed(rt: &impl Print, changes: &[Change]) -> io::Result<()> {
-    each_changed("A's card", A_CARD, changes, |name, card| {
-        trim_within::<3, 7>(rt, name, card)
-    })
+    for change in changes {
+        let card = changed(A_CARD, &[*change]);
+        trim_within(rt, format_args!("A's card with {change}"), &card, 3, 7)?;
+    }
+    Ok(())
 }
 
 // m, o and a at their limits; a spare bit; another kind. With a right head the length is wrong, unless only a changed.
@@ -32,12 +34,17 @@ fn heads(rt: &impl Print) -> io::Result<()> {
 }
 
 fn lengths(rt: &impl Print) -> io::Result<()> {
-    trim_within::<3, 7>(rt, "no words", &[])?;
-    trim_within::<3, 7>(rt, "A's card without its last word", &A_CARD[..5])?;
     let long: [u32; 7] = [
         0x80210002, 0x90000000, 0xA0000001, 0xB0000001, 0xA0100002, 0xB0000000, 0xA0000000,
     ];
-    trim_within::<3, 7>(rt, "A's card and a word", &long)?;
+    trim_each(
+        rt,
+        &[
+            Row("no words", &[], 3, 7),
+            Row("A's card without its last word", &A_CARD[..5], 3, 7),
+            Row("A's card and a word", &long, 3, 7),
+        ],
+    )?;
     trim_each_changed(rt, &[Change(0, 0x80210001), Change(0, 0x80210003)])
 }
 
@@ -90,43 +97,38 @@ fn idle_words(rt: &impl Print) -> io::Result<()> {
     let first = Change(3, 0xB0000002);
     let second = Change(5, 0xB0000002);
     let card = changed(TIGHTEST_CARD, &[first]);
-    trim_within::<3, 7>(rt, format_args!("tightest's card with {first}"), &card)?;
+    let name = format_args!("tightest's card with {first}");
+    trim_within(rt, name, &card, 3, 7)?;
     let card = changed(card, &[second]);
     let name = format_args!("tightest's card with {first}, {second}");
-    trim_within::<3, 7>(rt, name, &card)
+    trim_within(rt, name, &card, 3, 7)
 }
 
-// Refusal 8: a word for each cell of the card, kept or not.
-fn work_rooms(rt: &impl Print) -> io::Result<()> {
-    let name = "tightest's card";
-    trim(rt, "A's card", &A_CARD, &mut [], &mut [GUARD; 6])?;
-    trim(rt, "A's card", &A_CARD, &mut [GUARD; 1], &mut [GUARD; 6])?;
-    trim(rt, "A's card", &A_CARD, &mut [GUARD; 2], &mut [GUARD; 6])?;
-    trim(rt, name, &TIGHTEST_CARD, &mut [GUARD; 1], &mut [GUARD; 4])
-}
-
-// Refusal 9, which zeroes the work: the trimmed card may be shorter than the card.
-fn out_rooms(rt: &impl Print) -> io::Result<()> {
-    let name = "tightest's card";
-    trim(rt, "A's card", &A_CARD, &mut [GUARD; 3], &mut [])?;
-    trim(rt, "A's card", &A_CARD, &mut [GUARD; 3], &mut [GUARD; 5])?;
-    trim(rt, name, &TIGHTEST_CARD, &mut [GUARD; 3], &mut [GUARD; 3])?;
-    trim(rt, name, &TIGHTEST_CARD, &mut [GUARD; 3], &mut [GUARD; 4])
-}
+const ROOMS: [Row; 8] = [
+    // Refusal 8: a word for each cell of the card, kept or not.
+    Row("A's card", &A_CARD, 0, 6),
+    Row("A's card", &A_CARD, 1, 6),
+    Row("A's card", &A_CARD, 2, 6),
+    Row("tightest's card", &TIGHTEST_CARD, 1, 4),
+    // Refusal 9, which zeroes the work: the trimmed card may be shorter than the card.
+    Row("A's card", &A_CARD, 3, 0),
+    Row("A's card", &A_CARD, 3, 5),
+    Row("tightest's card", &TIGHTEST_CARD, 3, 3),
+    Row("tightest's card", &TIGHTEST_CARD, 3, 4),
+];
 
 // 13 before 8 and 9, 8 before 9.
 fn order(rt: &impl Print) -> io::Result<()> {
-    trim(rt, "no words", &[], &mut [], &mut [])?;
     let head = Change(0, 0x80210003);
-    let card = changed(A_CARD, &[head]);
-    let name = format_args!("A's card with {head}");
-    trim(rt, name, &card, &mut [], &mut [])?;
     let next = Change(5, 0xB0000002);
-    let card = changed(A_CARD, &[next]);
-    let name = format_args!("A's card with {next}");
-    trim(rt, name, &card, &mut [GUARD; 1], &mut [GUARD; 5])?;
-    trim(rt, "A's card", &A_CARD, &mut [], &mut [])?;
-    trim(rt, "A's card", &A_CARD, &mut [GUARD; 1], &mut [GUARD; 5])
+    trim_within(rt, "no words", &[], 0, 0)?;
+    for (change, work, room) in [(head, 0, 0), (next, 1, 5)] {
+        let card = changed(A_CARD, &[change]);
+        let name = format_args!("A's card with {change}");
+        trim_within(rt, name, &card, work, room)?;
+    }
+    trim_within(rt, "A's card", &A_CARD, 0, 0)?;
+    trim_within(rt, "A's card", &A_CARD, 1, 5)
 }
 
 pub fn rows(rt: &impl Print) -> io::Result<()> {
@@ -136,7 +138,6 @@ pub fn rows(rt: &impl Print) -> io::Result<()> {
     cell_words(rt)?;
     next_words(rt)?;
     idle_words(rt)?;
-    work_rooms(rt)?;
-    out_rooms(rt)?;
+    trim_each(rt, &ROOMS)?;
     order(rt)
 }

@@ -21,13 +21,24 @@ impl Display for Answered {
     }
 }
 
+// The answer to a run, and all words of the buffer.
+fn print_run(
+    rt: &impl Print,
+    about: impl Display + Drop,
+    card: &[u32],
+    seen: &[u32],
+    out: &mut [u32],
+) -> io::Result<()> {
+    let answer = Answered(runner::run(card, seen, out));
+    let words = Words(out);
+    println!(rt; "run {about}: {answer} {words}")
+}
+
 // Into five words.
 fn run(rt: &impl Print, name: impl Display + Drop, card: &[u32], seen: &[u32]) -> io::Result<()> {
-    let mut out = [GUARD; 5];
-    let answer = Answered(runner::run(card, seen, &mut out));
-    let seen = Numbers(seen);
-    let words = Words(&out);
-    println!(rt; "run {name} {seen}: {answer} {words}")
+    let list = Numbers(seen);
+    let about = format_args!("{name} {list}");
+    print_run(rt, about, card, seen, &mut [GUARD; 5])
 }
 
 fn run_into(
@@ -38,10 +49,9 @@ fn run_into(
     out: &mut [u32],
 ) -> io::Result<()> {
     let room = out.len();
-    let answer = Answered(runner::run(card, seen, out));
-    let seen = Numbers(seen);
-    let words = Words(out);
-    println!(rt; "run {name} {seen} into {room}: {answer} {words}")
+    let list = Numbers(seen);
+    let about = format_args!("{name} {list} into {room}");
+    print_run(rt, about, card, seen, out)
 }
 
 fn runs(rt: &impl Print) -> io::Result<()> {
@@ -111,7 +121,7 @@ fn driven(rt: &impl Print) -> io::Result<()> {
     drive(rt, "no card", &[], [0, 0, 0])
 }
 
-pub fn rows(rt: &impl Print) -> io::Result<()> {
+pub(crate) fn rows(rt: &impl Print) -> io::Result<()> {
     runs(rt)?;
     unobserved(rt)?;
     rooms(rt)?;
