@@ -101,7 +101,7 @@ fn turned_twice(rt: &impl Print) -> io::Result<()> {
     trim(rt, name, &out, &mut [GUARD; 3], &mut [GUARD; 8])
 }
 
-pub fn rows(rt: &impl Print) -> io::Result<()> {
+pub(crate) fn rows(rt: &impl Print) -> io::Result<()> {
     trim_each(rt, &ROWS)?;
     twice(rt)?;
     turned_twice(rt)

@@ -90,7 +90,7 @@ fn changes(rt: &impl Print) -> io::Result<()> {
     trim_changed(rt, Change(8193, 0xB000FFFF), 0..5)
 }
 
-pub fn rows(rt: &impl Print) -> io::Result<()> {
+pub(crate) fn rows(rt: &impl Print) -> io::Result<()> {
     whole(rt)?;
     short(rt)?;
     changes(rt)

@@ -17,7 +17,7 @@ impl Display for Kept {
 }
 
 // The answer and all words of both buffers.
-pub fn trim(
+pub(crate) fn trim(
     rt: &impl Print,
     name: impl Display + Drop,
     card: &[u32],
@@ -32,7 +32,7 @@ pub fn trim(
 
 // With so many words of work and of room, at most 5 and 19: a word behind each is 3 and 7 for two cells and one observation, 3 and 10 for
 // two cells and two observations, 5 and 11 for four cells and one observation.
-pub fn trim_within(
+pub(crate) fn trim_within(
     rt: &impl Print,
     name: impl Display + Drop,
     card: &[u32],
@@ -49,7 +49,7 @@ pub fn trim_within(
 #[derive(Clone, Copy)]
 pub struct Row<'a>(pub &'a str, pub &'a [u32], pub usize, pub usize);
 
-pub fn trim_each(rt: &impl Print, rows: &[Row]) -> io::Result<()> {
+pub(crate) fn trim_each(rt: &impl Print, rows: &[Row]) -> io::Result<()> {
     for Row(name, card, work, room) in rows {
         trim_within(rt, *name, card, *work, *room)?;
     }

@@ -131,7 +131,7 @@ fn order(rt: &impl Print) -> io::Result<()> {
     trim_within(rt, "A's card", &A_CARD, 1, 5)
 }
 
-pub fn rows(rt: &impl Print) -> io::Result<()> {
+pub(crate) fn rows(rt: &impl Print) -> io::Result<()> {
     heads(rt)?;
     lengths(rt)?;
     first_words(rt)?;
