@@ -3,7 +3,7 @@
 use Rattle.std.specs.Prelude.{List, [], ℕ, ◌<◌, ◌^◌, cond, eqb}
 use Rattle.std.specs.Str.Parse.{IsNumeral, digits_value, without_leading_plus}
 use Rattle.kiss_vectors.specs.declared.source.Source.{Source}
-use Rattle.kiss_vectors.specs.declared.source.Source.TheVariants.{Words, Chain, Text}
+use Rattle.kiss_vectors.specs.declared.source.Source.TheVariants.{Text}
 
 -- the byte that is shown: `|` is a newline, `<` a carriage return, `>` a tab, `_` a space
 abbrev pub meant : ℕ → ℕ
