@@ -13,7 +13,7 @@ ghost use Rattle.certificates.specs.Judging.{lies_in, Halves, HoldsBelow, part_h
 
 use cards::Card;
 use games::{Action, Cell, Observation, Reason, Refusal};
-use moves::Moves;
+use moves::{Moves, SIDE_WORDS};
 use pairs::Pair;
 use tables::Table;
 
@@ -124,8 +124,8 @@ fn judge_many(pair: Pair) -> Result<(), Refusal>
     requires { HoldsBelow (game pair.table.table.words.now) pair.card.words.now (front_length (card_observations pair.card.words.now)) }
     ensures { result ≡ words_certified (game pair.entry.table.table.words.now) pair.entry.card.words.now }
 {
-    let mut low = moves::side();
-    let mut high = moves::side();
+    let mut low: [u32; SIDE_WORDS] = sets::filled(0);
+    let mut high: [u32; SIDE_WORDS] = sets::filled(0);
     let accepted = pair.table;
     moves::fill(accepted.table, &mut low, &mut high);
     let moves = Moves {

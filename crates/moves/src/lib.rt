@@ -17,7 +17,7 @@ const HALF_SETS: u32 = 1 << HALF_STATES;
 const HALF_WORDS: usize = HALF_SETS as usize;
 
 // The words of one of the two tables: a half for each action.
-const SIDE_WORDS: usize = games::MAX_ACTIONS as usize * HALF_WORDS;
+pub const SIDE_WORDS: usize = games::MAX_ACTIONS as usize * HALF_WORDS;
 
 // Above every mask: it stands for the successors where the action is not enabled. A number, so that two table words are united at once.
 const BLOCKED: u32 = games::LOW_VALUES;
@@ -72,13 +72,6 @@ fn low_states(n: u32) -> u32
     ensures { result ≡ min n half_states }
 {
     n.min(HALF_STATES)
-}
-
-// Room for one of the two tables.
-pub fn side() -> [u32; SIDE_WORDS]
-    ensures { length result ≡ side_words }
-{
-    [0; SIDE_WORDS]
 }
 
 // Fills both tables.

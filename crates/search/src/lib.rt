@@ -2,11 +2,11 @@
 #![tactic(auto)]
 
 ghost use Rattle.std.specs.Prelude.{◌≡◌, ◌+◌, ◌*◌, ◌^◌, ◌<◌, length};
-ghost use Rattle.sets.specs.Mask.{member};
+ghost use Rattle.sets.specs.Mask.{member, common};
 ghost use Rattle.families.specs.Bits.{lanes, has as is_in, Bits};
 ghost use Rattle.games.specs.Words.{game};
 ghost use Rattle.games.specs.Step.{meets, step, good};
-ghost use Rattle.games.specs.Verdict.{starts_in};
+ghost use Rattle.games.specs.Verdict.{start_sets, start_set, starts_in};
 ghost use Rattle.moves.specs.Halves.{shown_in};
 ghost use Rattle.search.specs.Stages.{Stage, Sound, Passed, safely_enabled, EnabledStates};
 ghost use Rattle.search.specs.Found.{Reached, Searched};
@@ -28,22 +28,22 @@ struct Round<'a> {
 }
 
 impl Round<'_> {
-    // For every observation, the states of u that show it form a set of the family. Where u itself is one, they do: they are its subsets.
+    // The states of u that show the observation form a set of the family.
+    fn has_shown(self, u: u32, j: Observation) -> bool
+        requires { (u < 2 ^ (game self.moves.accepted.table.words.now).states)
+            × (j.0 < (game self.moves.accepted.table.words.now).observations) }
+        ensures { result ≡ is_in self.entry.family.now (common u ((game self.entry.moves.accepted.table.words.now).shown j.0)) }
+    {
+        families::has(self.family, u & self.moves.accepted.table.shown(j))
+    }
+
+    // So it is for every observation. Where u itself is a set of the family, it is: they are its subsets.
     fn shown_in(self, u: u32) -> bool
         requires { u < 2 ^ (game self.moves.accepted.table.words.now).states }
         ensures { result ≡ shown_in (game self.entry.moves.accepted.table.words.now) (is_in self.entry.family.now) u }
     {
-        let table = self.moves.accepted.table;
-        if families::has(self.family, u) {
-            return true;
-        }
-        for j in 0..table.observations() {
-            let t = u & table.shown(Observation(j));
-            if !families::has(self.family, t) {
-                return false;
-            }
-        }
-        true
+        let o = self.moves.accepted.table.observations();
+        families::has(self.family, u) || sets::all(o, |j| self.has_shown(u, Observation(j)))
     }
 
     // The action is enabled at all members of s, and leads to sets of the family.
@@ -63,15 +63,8 @@ impl Round<'_> {
         requires { s < 2 ^ (game self.moves.accepted.table.words.now).states }
         ensures { result ≡ step (game self.entry.moves.accepted.table.words.now) (is_in self.entry.family.now) s }
     {
-        if s & self.moves.accepted.table.bad() != 0 {
-            return false;
-        }
-        for a in 0..self.moves.accepted.table.actions() {
-            if self.action_meets(s, Action(a)) {
-                return true;
-            }
-        }
-        false
+        let table = self.moves.accepted.table;
+        s & table.bad() == 0 && sets::any(table.actions(), |a| self.action_meets(s, Action(a)))
     }
 
     // The step on the sets of one lane, from the largest down: a set that meets it settles its subsets. `covered` are subsets of sets found in other lanes.
@@ -109,18 +102,24 @@ impl Round<'_> {
     }
 }
 
+// The start set is in the family.
+fn has_start(accepted: Accepted, family: &[u64], j: Observation) -> bool
+    requires { (length family.now ≡ lanes (game accepted.table.words.now).states)
+        × (j.0 < start_sets (game accepted.table.words.now)) }
+    ensures { result ≡ is_in family.now (start_set (game accepted.entry.table.words.now) j.0) }
+{
+    families::has(family, accepted.table.start_set(j))
+}
+
 // Every start set is in the family.
 fn starts_in(accepted: Accepted, family: &[u64]) -> bool
     requires { length family.now ≡ lanes (game accepted.table.words.now).states }
     ensures { result ≡ starts_in (game accepted.entry.table.words.now) (is_in family.now) }
 {
-    let table = accepted.table;
-    for j in 0..table.start_sets() {
-        if !families::has(family, table.start_set(Observation(j))) {
-            return false;
-        }
-    }
-    true
+    sets::all(
+        accepted.table.start_sets(),
+        |j| has_start(accepted, family, Observation(j)),
+    )
 }
 
 // The state is not bad, and the action is enabled in it.

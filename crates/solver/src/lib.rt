@@ -5,7 +5,7 @@ ghost use Rattle.std.specs.Prelude.{◌≡◌, ◌≤◌, ◌^◌, length};
 ghost use Rattle.games.specs.Format.{max_states};
 ghost use Rattle.games.specs.Answers.{leaves};
 ghost use Rattle.games.specs.Words.{game};
-ghost use Rattle.families.specs.Bits.{max_lanes, lanes as lanes_of, sets, Bits};
+ghost use Rattle.families.specs.Bits.{lanes as lanes_of, sets, Bits};
 ghost use Rattle.games.specs.Verdict.{settled as settled_family, cells as cells_of, verdict, Yes};
 ghost use Rattle.solver.specs.Solve.{work_words, by_verdict, buffers, solved, Promise};
 ghost use Rattle.index.specs.Index.{Noted};
@@ -13,7 +13,7 @@ ghost use Rattle.index.specs.Index.{Noted};
 use families::MAX_LANES;
 use games::{Reason, Refusal};
 use index::Cells;
-use moves::Moves;
+use moves::{Moves, SIDE_WORDS};
 use search::Ended;
 use tables::Accepted;
 use writing::Settled;
@@ -107,13 +107,6 @@ fn answer_with(
     }
 }
 
-// Room for a family of sets.
-fn empty_family() -> [u64; MAX_LANES]
-    ensures { length result ≡ max_lanes }
-{
-    [0; MAX_LANES]
-}
-
 // The successors of every set at hand, then the search.
 fn decide(accepted: Accepted, work: &mut [u32], card: &mut [u32]) -> Result<Verdict, Refusal>
     requires { length work.old ≡ work_words (game accepted.table.words.now).states }
@@ -122,11 +115,11 @@ fn decide(accepted: Accepted, work: &mut [u32], card: &mut [u32]) -> Result<Verd
 {
     let table = accepted.table;
     let lanes = families::lane_count(table.states());
-    let mut low = moves::side();
-    let mut high = moves::side();
+    let mut low: [u32; SIDE_WORDS] = sets::filled(0);
+    let mut high: [u32; SIDE_WORDS] = sets::filled(0);
     moves::fill(table, &mut low, &mut high);
-    let mut family = empty_family();
-    let mut next = empty_family();
+    let mut family: [u64; MAX_LANES] = sets::filled(0);
+    let mut next: [u64; MAX_LANES] = sets::filled(0);
     let moves = Moves {
         accepted,
         low: &low,
