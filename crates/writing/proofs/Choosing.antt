@@ -18,9 +18,12 @@ use Rattle.games.specs.Step.{after, meets, lowest}
 use Rattle.games.specs.Verdict.{settled, cells}
 use Rattle.games.specs.Fields.{word}
 use Rattle.games.specs.Automaton.{holding, chosen}
-use Rattle.games.proofs.Steps.{step_action}
+use Rattle.games.proofs.Steps.{step_action, shown_below}
 use Rattle.games.proofs.Settling.{cells_hold, settled_step}
 use Rattle.std.specs.Prelude.{Option, Some, None}
+use Rattle.games.specs.declared.Cell.{Cell}
+use Rattle.index.specs.Index.{held_by}
+use Rattle.index.proofs.Answer.{nowhere_unheld, by_holding}
 use Rattle.moves.specs.Halves.{posted, shown_in}
 use Rattle.moves.proofs.Posting.{posted_post, meets_blocked, meets_shown}
 use Rattle.writing.specs.Writing.{SettledSet, set_words}
@@ -95,10 +98,22 @@ module _ (g : Game) (s a : ℕ) (r : Option ℕ) (is : r ≡ posted g s a) where
     unfolding after
     after_is j = ap (λ (v : ℕ). common v (g.shown j)) (sym (posted_post g s a r is u e).1)
 
--- the cell's set holds t where t is settled
-module _ (g : Game) (A : Accepted g) (l : List ℕ) (listed : l ≡ cells g) (t : ℕ) (below : t < 2 ^ g.states) where
-  pub settled_held : settled g t ≡ holds l t
-  settled_held = sym (cells_hold g A t below) ∙ ap (λ (k : List ℕ). holds k t) (sym listed)
+-- the part of the successors u that shows an observation: a cell holds it where it is settled
+module _ (g : Game) (A : Accepted g) (l : List ℕ) (listed : l ≡ cells g) (u b j : ℕ) (there : j < g.observations) (shown : b ≡ g.shown j) where
+  pub part_below : common u b < 2 ^ g.states
+  part_below = subst (λ (x : ℕ). common u x < 2 ^ g.states) (sym shown) (shown_below g A u j there)
+
+  part_held : settled g (common u (g.shown j)) ≡ holds l (common u b)
+  part_held =
+      ap (λ (x : ℕ). settled g (common u x)) (sym shown) ∙ sym (cells_hold g A (common u b) part_below)
+      ∙ ap (λ (k : List ℕ). holds k (common u b)) (sym listed)
+
+  module _ (r : Option Cell) (is : r ≡ held_by l (common u b)) where
+    pub part_lost : r ≡ None → settled g (common u (g.shown j)) ≡ false
+    part_lost e = part_held ∙ nowhere_unheld l (common u b) r is e
+
+    pub part_named : (c : Cell) → r ≡ Some c → (settled g (common u (g.shown j)) ≡ true) × (c.0 ≡ holding l (common u b))
+    part_named c e = let w = by_holding l (common u b) r is c e in (part_held ∙ w.0, w.1)
 
 pub set_words_lem : (g : Game) (l : List ℕ) → l ≡ cells g → (s a u o x : ℕ) → o ≡ g.observations → chosen g s ≡ a → ((j : ℕ) → common u (g.shown j) ≡ after g s a j) → x ≡ word kind_cell s 0 a → x ∷ gather o (λ j. next_word g l u j ∷ []) ≡ set_words g s
 unfolding set_words

@@ -48,6 +48,7 @@ impl Settled<'_> {
     {
         let table = self.moves.accepted.table;
         let o = table.observations();
+        // (Two loops in one: an observation without a cell goes on to the next action. The label says so in a word, an inner function by a further answer.)
         'actions: for a in 0..table.actions() {
             let Some(u) = self.moves.post(s, Action(a)) else {
                 continue 'actions;

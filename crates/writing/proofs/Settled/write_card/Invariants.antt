@@ -9,4 +9,4 @@ use Rattle.writing.proofs.Carding.{listed_words}
 use Rattle.writing.proofs.Settled.write_card.Given as goal
 
 abbrev pub invariant-loop-c : goal.invariant-loop-c
-invariant-loop-c l = Carded (game l.self.moves.accepted.table.words.now).observations (length (sets_of l.self.cells.tops.now)) (listed_words (game l.self.moves.accepted.table.words.now) (sets_of l.self.cells.tops.now)) l.initial.card l.c l.card × (length l.work ≡ length l.initial.work) × Noted l.self.cells.tops.now l.self.cells.base l.work
+invariant-loop-c l = Carded (game l.self.moves.accepted.table.words.now).observations l.count (listed_words (game l.self.moves.accepted.table.words.now) (sets_of l.self.cells.tops.now)) l.initial.card l.c l.card × (length l.work ≡ length l.initial.work) × Noted l.self.cells.tops.now l.self.cells.base l.work

@@ -2,7 +2,6 @@ use mathlib.Core.List.{List}
 use mathlib.Core.Path.{◌≡◌, refl, sym, ap, ◌∙◌, subst}
 use Prim.Native.Nat.{ℕ, ◌+◌, ◌<◌}
 use native.Mathlib.Omega.{arith}
-use lib.ListN.{length-set}
 use Rattle.families.specs.Bits.{sets as sets_of}
 use Rattle.families.proofs.Lanes.{lane_there}
 use Rattle.games.specs.Format.{low_values, kind_first}
@@ -30,9 +29,6 @@ loop-j-init c =
       c.requires.0,
     )
 
-pub start_set-requires : goal.start_set-requires
-start_set-requires c = omega arith
-
 pub holding-held-requires : goal.holding-held-requires
 holding-held-requires c =
     let b = start_below (game c.args.self.moves.accepted.table.words.now) (accepted c.args.self.moves.accepted.table.words.now c.args.self.moves.accepted.checked) c.loop-j.j in (
@@ -48,9 +44,6 @@ naming-requires c =
     let listed : List ℕ = sets_of c.args.self.cells.tops.now in
     let first_cell : c.unwrap_or-first.result.0 ≡ holding listed (start_set played c.loop-j.j) = ap (λ (x : Cell). x.0) c.unwrap_or-first.ensures ∙ ap named c.holding-held.ensures.0 ∙ named_holding listed c.start_set.result ∙ ap (holding listed) c.start_set.ensures in
     (subst (λ (x : ℕ). x < low_values) (sym first_cell) (holding_small _ _ c.args.self.cells.indexed.cells_few), omega (arith, e, few_observations c.args.self.moves.accepted.table.words.now c.args.self.moves.accepted.table.sized, c.loop-j-test.true))
-
-pub bounds-out-j : goal.bounds-out-j
-bounds-out-j c = omega (arith, c.loop-j.invariant.0.size)
 
 pub loop-j-preserved : goal.loop-j-preserved
 loop-j-preserved c =
@@ -69,15 +62,6 @@ heading-requires c = (
   omega (arith, c.observations.ensures, few_observations c.args.self.moves.accepted.table.words.now c.args.self.moves.accepted.table.sized),
   omega (arith, c.actions.ensures, few_actions c.args.self.moves.accepted.table.words.now c.args.self.moves.accepted.table.sized),
 )
-
-pub bounds-out-0 : goal.bounds-out-0
-bounds-out-0 c = omega (arith, c.loop-j.invariant.0.size)
-
-pub shape_of-work : goal.shape_of-work
-shape_of-work c = c.loop-j.invariant.1
-
-pub shape_of-out : goal.shape_of-out
-shape_of-out c = length-set c.loop-j.out 0 c.heading.result ∙ c.loop-j.invariant.0.size ∙ ap (λ (n : ℕ). 1 + n) c.start_sets-j-end.ensures ∙ sets_front (game c.args.self.moves.accepted.table.words.now) ∙ sym c.requires.2
 
 pub returns : goal.returns
 returns c =
