@@ -5,7 +5,7 @@ use mathlib.Core.List.{List}
 use Prim.Native.Nat.{ℕ, ◌≤◌}
 use Rattle.sets.specs.Family.{maximal}
 use Rattle.sets.proofs.Family.{maximal_ext}
-use Rattle.families.specs.Bits.{has, Bits, Closed}
+use Rattle.families.specs.Bits.{has, sets, Bits, Closed}
 use Rattle.games.specs.Format.{max_states}
 use Rattle.games.specs.Game.{Game, Accepted}
 use Rattle.games.specs.Step.{antichain, settling}
@@ -26,6 +26,6 @@ module _ (g : Game) (family : List ℕ) (w : Bits g.states (settled g) family) (
       }
 
   -- its maximal sets are the cells
-  pub cells_are : maximal n (has family) ≡ cells g
+  pub cells_listed : (tops : List ℕ) → sets tops ≡ maximal n (has family) → sets tops ≡ cells g
   unfolding cells antichain settled
-  cells_are = ap (λ (m : ℕ). maximal m (has family)) is ∙ maximal_ext g.states (has family) (settled g) w.at
+  cells_listed tops are = are ∙ ap (λ (m : ℕ). maximal m (has family)) is ∙ maximal_ext g.states (has family) (settled g) w.at

@@ -4,20 +4,16 @@ use mathlib.Core.Path.{◌≡◌, refl, sym, ap, ◌∙◌, subst}
 use Prim.Native.Nat.{ℕ, ◌^◌, ◌≤◌, ◌<◌}
 use native.Mathlib.Omega.{arith}
 use lib.ListN.{length, get_or, take}
-use lib.Seq.{length-take-le}
 use Rattle.families.specs.Bits.{max_lanes, sets}
 use Rattle.families.proofs.Lanes.{few_lanes}
 use Rattle.games.specs.Format.{max_states}
-use Rattle.games.specs.Game.{Game}
 use Rattle.games.specs.Words.{game}
-use Rattle.games.specs.Verdict.{Yes, cells}
 use Rattle.tables.proofs.Checks.{accepted}
 use Rattle.tables.proofs.Bounds.{few_states, few_sets}
 use Rattle.index.proofs.Settled.{cells_few, cell_below, settled_index}
 use Rattle.index.specs.Index.{Layers}
 use Rattle.index.proofs.Sizes.{has_small, listed_has}
-use Rattle.solver.specs.Solve.{by_verdict}
-use Rattle.solver.proofs.Collecting.{settled_closed, cells_are}
+use Rattle.solver.proofs.Collecting.{settled_closed, cells_listed}
 use Rattle.solver.proofs.accept.Goals as goal
 
 pub maximal_bits-requires : goal.maximal_bits-requires
@@ -28,77 +24,41 @@ set_count-base-requires c = subst (λ (n : ℕ). n ≤ max_states) (sym c.states
 
 pub note_cells-count-requires : goal.note_cells-count-requires
 note_cells-count-requires c =
-    let played : Game = game c.args.moves.accepted.table.words.now in
-    let topped : List ℕ = c.maximal_bits.new.found in
-    let tops_are : sets topped ≡ cells played = c.maximal_bits.ensures.1 ∙ cells_are played c.args.family.now c.requires.0 _ c.states-n.ensures in
-    let same_lanes : length topped ≡ length c.args.family.now = c.maximal_bits.ensures.0 ∙ c.requires.1 in
-    let base_is : c.set_count-base.result ≡ 2 ^ played.states = c.set_count-base.ensures ∙ ap (λ (n : ℕ). 2 ^ n) c.states-n.ensures in
-    let few = few_states c.args.moves.accepted.table.words.now c.args.moves.accepted.table.sized in
+    let tops_are = cells_listed (game c.args.moves.accepted.table.words.now) c.args.family.now c.requires.0 c.states-n.result c.states-n.ensures c.maximal_bits.new.found c.maximal_bits.ensures.1 in
+    let base_is = c.set_count-base.ensures ∙ ap (λ (n : ℕ). 2 ^ n) c.states-n.ensures in
     record {
       room = omega (arith, base_is, c.requires.2);
-      few = omega (arith, base_is, ap length tops_are, cells_few played);
+      few = omega (arith, base_is, ap length tops_are, cells_few (game c.args.moves.accepted.table.words.now));
       small = omega (arith, base_is, few_sets c.args.moves.accepted.table.words.now c.args.moves.accepted.table.sized);
-      few_lanes = few_lanes played.states topped few (same_lanes ∙ c.requires.0.size);
-      below = λ v h. rw base_is (cell_below played topped tops_are v h);
+      few_lanes = few_lanes (game c.args.moves.accepted.table.words.now).states _ (few_states c.args.moves.accepted.table.words.now c.args.moves.accepted.table.sized) (c.maximal_bits.ensures.0 ∙ c.requires.1 ∙ c.requires.0.size);
+      below = λ v h. rw base_is (cell_below (game c.args.moves.accepted.table.words.now) _ tops_are v h);
     }
-
-pub slice_bounds-mark_layers-end : goal.slice_bounds-mark_layers-end
-slice_bounds-mark_layers-end c = omega (arith, c.note_cells-count.ensures.0, c.note_cells-count.ensures.1.few, c.note_cells-count.ensures.1.room)
-
-pub slice_bounds-mark_layers-end-2 : goal.slice_bounds-mark_layers-end-2
-slice_bounds-mark_layers-end-2 c = sym (length-take-le _ _ (omega (arith, c.note_cells-count.ensures.0, c.note_cells-count.ensures.1.few, c.note_cells-count.ensures.1.room)))
 
 pub mark_layers-requires : goal.mark_layers-requires
 mark_layers-requires c =
     let topped : List ℕ = c.maximal_bits.new.found in
-    let front : List ℕ = take c.note_cells-count.result c.note_cells-count.new.work in
     let lanes_few : length topped ≤ max_lanes = few_lanes (game c.args.moves.accepted.table.words.now).states topped (few_states c.args.moves.accepted.table.words.now c.args.moves.accepted.table.sized) (c.maximal_bits.ensures.0 ∙ c.requires.1 ∙ c.requires.0.size) in
-    let front_is : front ≡ sets topped = ap (λ (n : ℕ). take n c.note_cells-count.new.work) c.note_cells-count.ensures.0 ∙ c.note_cells-count.ensures.1.front in
-    let cells_small : (i : ℕ) → i < length front → get_or front i 0 < 2 ^ max_states = λ i l. subst (λ (k : List ℕ). i < length k → get_or k i 0 < 2 ^ max_states) (sym front_is)
-    (λ b. has_small topped lanes_few (get_or (sets topped) i 0) (listed_has topped i b)) l in
-    (cells_small, refl)
-
-pub mark_masks-requires : goal.mark_masks-requires
-mark_masks-requires c = refl
+    let front_is : take c.note_cells-count.result c.note_cells-count.new.work ≡ sets topped = ap (λ (n : ℕ). take n c.note_cells-count.new.work) c.note_cells-count.ensures.0 ∙ c.note_cells-count.ensures.1.front in (
+      subst (λ (k : List ℕ). (i : ℕ) → i < length k → get_or k i 0 < 2 ^ max_states) (sym front_is) (λ i b. has_small topped lanes_few (get_or (sets topped) i 0) (listed_has topped i b)),
+      refl,
+    )
 
 pub invariant_of-cells : goal.invariant_of-cells
 invariant_of-cells c =
-    let played : Game = game c.args.moves.accepted.table.words.now in
-    let topped : List ℕ = c.maximal_bits.new.found in
-    let tops_are : sets topped ≡ cells played = c.maximal_bits.ensures.1 ∙ cells_are played c.args.family.now c.requires.0 _ c.states-n.ensures in
-    let same_lanes : length topped ≡ length c.args.family.now = c.maximal_bits.ensures.0 ∙ c.requires.1 in
-    let base_is : c.set_count-base.result ≡ 2 ^ played.states = c.set_count-base.ensures ∙ ap (λ (n : ℕ). 2 ^ n) c.states-n.ensures in
-    let front_is : take c.note_cells-count.result c.note_cells-count.new.work ≡ sets topped = ap (λ (n : ℕ). take n c.note_cells-count.new.work) c.note_cells-count.ensures.0 ∙ c.note_cells-count.ensures.1.front in
+    let front_is = ap (λ (n : ℕ). take n c.note_cells-count.new.work) c.note_cells-count.ensures.0 ∙ c.note_cells-count.ensures.1.front in
     record {
       indexed =
-          settled_index played (accepted c.args.moves.accepted.table.words.now c.args.moves.accepted.checked) c.args.family.now c.requires.0 (few_states c.args.moves.accepted.table.words.now c.args.moves.accepted.table.sized) topped _ _ tops_are same_lanes
+          settled_index (game c.args.moves.accepted.table.words.now) (accepted c.args.moves.accepted.table.words.now c.args.moves.accepted.checked) c.args.family.now c.requires.0 (few_states c.args.moves.accepted.table.words.now c.args.moves.accepted.table.sized) _ _ _
+          (cells_listed (game c.args.moves.accepted.table.words.now) c.args.family.now c.requires.0 c.states-n.result c.states-n.ensures c.maximal_bits.new.found c.maximal_bits.ensures.1) (c.maximal_bits.ensures.0 ∙ c.requires.1)
           (subst (λ (k : List ℕ). Layers k c.mark_layers.new.layers) front_is c.mark_layers.ensures) c.mark_masks.ensures;
     }
 
-pub overflow_cast-count : goal.overflow_cast-count
-overflow_cast-count c =
-    let played : Game = game c.args.moves.accepted.table.words.now in
-    let topped : List ℕ = c.maximal_bits.new.found in
-    let tops_are : sets topped ≡ cells played = c.maximal_bits.ensures.1 ∙ cells_are played c.args.family.now c.requires.0 _ c.states-n.ensures in
-    let same_lanes : length topped ≡ length c.args.family.now = c.maximal_bits.ensures.0 ∙ c.requires.1 in
-    let base_is : c.set_count-base.result ≡ 2 ^ played.states = c.set_count-base.ensures ∙ ap (λ (n : ℕ). 2 ^ n) c.states-n.ensures in
-    omega (arith, c.note_cells-count.ensures.0, c.note_cells-count.ensures.1.few, base_is, few_sets c.args.moves.accepted.table.words.now c.args.moves.accepted.table.sized)
-
 pub invariant_of-grant : goal.invariant_of-grant
 invariant_of-grant c =
-    let played : Game = game c.args.moves.accepted.table.words.now in
-    let topped : List ℕ = c.maximal_bits.new.found in
-    let tops_are : sets topped ≡ cells played = c.maximal_bits.ensures.1 ∙ cells_are played c.args.family.now c.requires.0 _ c.states-n.ensures in
-    let same_lanes : length topped ≡ length c.args.family.now = c.maximal_bits.ensures.0 ∙ c.requires.1 in
-    let base_is : c.set_count-base.result ≡ 2 ^ played.states = c.set_count-base.ensures ∙ ap (λ (n : ℕ). 2 ^ n) c.states-n.ensures in
-    record { listed = record { are = tops_are; wide = same_lanes ∙ c.requires.0.size; all_sets = base_is } }
-
-pub grant-requires : goal.grant-requires
-grant-requires c = (c.note_cells-count.ensures.1, c.note_cells-count.ensures.0)
-
-pub returns : goal.returns
-returns c =
-    let played : Game = game c.args.moves.accepted.table.words.now in
-    let topped : List ℕ = c.maximal_bits.new.found in
-    let tops_are : sets topped ≡ cells played = c.maximal_bits.ensures.1 ∙ cells_are played c.args.family.now c.requires.0 _ c.states-n.ensures in
-    c.grant.ensures ∙ ap (λ (n : ℕ). by_verdict played c.args.card.now (Yes c.args.rounds n)) (c.note_cells-count.ensures.0 ∙ ap length tops_are)
+    record {
+      listed = record {
+        are = cells_listed (game c.args.moves.accepted.table.words.now) c.args.family.now c.requires.0 c.states-n.result c.states-n.ensures c.maximal_bits.new.found c.maximal_bits.ensures.1;
+        wide = c.maximal_bits.ensures.0 ∙ c.requires.1 ∙ c.requires.0.size;
+        all_sets = c.set_count-base.ensures ∙ ap (λ (n : ℕ). 2 ^ n) c.states-n.ensures;
+      };
+    }

@@ -1,14 +1,10 @@
 -- `solver::answer_with` meets its contract: by how the search ends.
-use borrow.Author.Rules.{rules}
 use mathlib.Core.Path.{subst, refl}
 use Rattle.games.specs.Words.{game}
 use Rattle.search.specs.Found.{Searched}
 use Rattle.search.specs.declared.Ended.{Ended}
 use Rattle.solver.proofs.Answers.{decided_no, decided_yes}
 use Rattle.solver.proofs.answer_with.Goals as goal
-
-pub accept-requires : goal.accept-requires
-accept-requires c = ((subst (λ (r : Ended). Searched (game c.args.moves.accepted.table.words.now) r c.search.new.family) c.in-Settled.is c.search.ensures).family, search rules, c.requires.2)
 
 pub returns-in-Lost : goal.returns-in-Lost
 returns-in-Lost c =

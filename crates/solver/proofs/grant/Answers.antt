@@ -1,8 +1,7 @@
 -- `solver::grant` meets its contract: 9 where the card room is short, else what `write_card` ensures.
-use mathlib.Core.Path.{◌≡◌, ap, ◌∙◌, subst}
-use Prim.Native.Nat.{ℕ, ◌≤◌}
+use mathlib.Core.Path.{◌≡◌, ap, ◌∙◌}
+use Prim.Native.Nat.{ℕ}
 use native.Mathlib.Omega.{arith}
-use lib.ListN.{length}
 use Rattle.games.specs.Words.{game, card_length}
 use Rattle.tables.proofs.Bounds.{few_observations}
 use Rattle.solver.proofs.Answers.{granted_short, granted_written}
@@ -16,12 +15,6 @@ returns-then-card-need c =
     let needed : ℕ = card_length c.args.count (game c.args.settled.moves.accepted.table.words.now).observations in
     let need_is : c.card_length-need.result ≡ needed = c.card_length-need.ensures ∙ ap (card_length _) c.observations.ensures in
     rw c.at.ensures (granted_short (game c.args.settled.moves.accepted.table.words.now) c.args.card.now c.args.rounds c.args.count _ need_is c.if-card-need.true)
-
-pub write_card-requires : goal.write_card-requires
-write_card-requires c =
-    let needed : ℕ = card_length c.args.count (game c.args.settled.moves.accepted.table.words.now).observations in
-    let need_is : c.card_length-need.result ≡ needed = c.card_length-need.ensures ∙ ap (card_length _) c.observations.ensures in
-    (c.requires.0, c.requires.1, subst (λ (n : ℕ). n ≤ length c.args.card.now) need_is c.if-card-need.false)
 
 pub returns : goal.returns
 returns c =

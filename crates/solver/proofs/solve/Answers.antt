@@ -1,9 +1,8 @@
 -- `solver::solve` meets its contract: a refusal of the table, 8, or what `decide` ensures; the promise follows from the outcome.
 use mathlib.Core.List.{List}
-use mathlib.Core.Path.{◌≡◌, sym, ap, ◌∙◌, subst}
+use mathlib.Core.Path.{◌≡◌, sym, ap, subst}
 use Prim.Native.Nat.{ℕ, ◌*◌, ◌≤◌}
 use native.Mathlib.Omega.{arith}
-use lib.Seq.{length-take-le}
 use Rattle.sets.proofs.Fills.{cleared}
 use Rattle.games.specs.Format.{max_states}
 use Rattle.games.specs.Words.{game}
@@ -27,18 +26,13 @@ returns-in_err-accepted c =
 
 pub set_count-need-requires : goal.set_count-need-requires
 set_count-need-requires c =
-    let same = ap (λ b. b.now) c.in_ok-accepted.ensures.table in
     let table : List ℕ = c.in_ok-accepted.accepted.table.words.now in
-    let fine : checked table ≡ Ok tt = c.in_ok-accepted.accepted.checked in
-    subst (λ (m : ℕ). m ≤ max_states) (sym c.states.ensures) (few_states table (sized table fine))
+    subst (λ (m : ℕ). m ≤ max_states) (sym c.states.ensures) (few_states table (sized table c.in_ok-accepted.accepted.checked))
 
 pub overflow_mul-need : goal.overflow_mul-need
 overflow_mul-need c =
-    let same = ap (λ b. b.now) c.in_ok-accepted.ensures.table in
     let table : List ℕ = c.in_ok-accepted.accepted.table.words.now in
-    let fine : checked table ≡ Ok tt = c.in_ok-accepted.accepted.checked in
-    let need_is : 4 * c.set_count-need.result ≡ work_words (game table).states = ap (λ (n : ℕ). 4 * n) (size_is (game table) c.states.result c.set_count-need.result c.states.ensures c.set_count-need.ensures) in
-    omega (arith, need_is, few_sets table (sized table fine))
+    omega (arith, size_is (game table) c.states.result c.set_count-need.result c.states.ensures c.set_count-need.ensures, few_sets table (sized table c.in_ok-accepted.accepted.checked))
 
 pub returns-then-work-need : goal.returns-then-work-need
 returns-then-work-need c =
@@ -48,17 +42,6 @@ returns-then-work-need c =
     let need_is : 4 * c.set_count-need.result ≡ work_words (game table).states = ap (λ (n : ℕ). 4 * n) (size_is (game table) c.states.result c.set_count-need.result c.states.ensures c.set_count-need.ensures) in
     let e : leaves (Err c.at.result) (buffers c.args.work.now c.args.card.now) ≡ solved c.args.table.now c.args.work.now c.args.card.now = rw (c.at.ensures, sym same) (solved_short table c.args.work.now c.args.card.now fine _ need_is c.if-work-need.true) in
     record { determined = e; promised = promised c.args.table.now c.args.work.now c.args.card.now _ _ _ e }
-
-pub slice_bounds-decide-end-2 : goal.slice_bounds-decide-end-2
-slice_bounds-decide-end-2 c = sym (length-take-le _ _ c.if-work-need.false)
-
-pub decide-answer-requires : goal.decide-answer-requires
-decide-answer-requires c =
-    let same = ap (λ b. b.now) c.in_ok-accepted.ensures.table in
-    let table : List ℕ = c.in_ok-accepted.accepted.table.words.now in
-    let fine : checked table ≡ Ok tt = c.in_ok-accepted.accepted.checked in
-    let need_is : 4 * c.set_count-need.result ≡ work_words (game table).states = ap (λ (n : ℕ). 4 * n) (size_is (game table) c.states.result c.set_count-need.result c.states.ensures c.set_count-need.ensures) in
-    (length-take-le _ _ c.if-work-need.false ∙ need_is)
 
 pub returns : goal.returns
 returns c =
