@@ -72,7 +72,7 @@ module _ (g : Game) (A : Accepted g) where
           falls = λ s l h. w.at s l ∙ good_falls g k s (sym (stepped_good s) ∙ h);
         }
 
-    pub good_next : (next : List ℕ) → Bits g.states (step g (has bits)) next → Bits g.states (good g (k + 1)) next
+    good_next : (next : List ℕ) → Bits g.states (step g (has bits)) next → Bits g.states (good g (k + 1)) next
     good_next next v =
         record {
           size = v.size;
@@ -142,7 +142,11 @@ module _ (g : Game) (A : Accepted g) where
     pub searching_bound : k < 2 ^ g.states
     searching_bound = let s = settles g A in omega (arith, s.below, not_over k (settling g) (λ l. clash s.agrees (w.unsettled (settling g) l)))
 
-    module _ (next : List ℕ) (v : Bits g.states (good g (k + 1)) next) where
+    -- the next family is what the step leaves
+    module _ (next : List ℕ) (stepped : Bits g.states (step g (has bits)) next) where
+      v : Bits g.states (good g (k + 1)) next
+      v = good_next k bits w.family next stepped
+
       pub turn_lost : starts_in g (has next) ≡ false → (verdict g ≡ No (k + 1)) × (k + 1 < 2 ^ g.states)
       turn_lost h = lost_verdict (k + 1) (sym (starts_good (k + 1) next v) ∙ h) w.starts
 

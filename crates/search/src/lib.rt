@@ -96,7 +96,11 @@ impl Round<'_> {
             (step (game self.entry.moves.accepted.table.words.now) (is_in self.entry.family.now)) next.new }
     {
         for lane in (0..self.family.len()).rev() {
-            let covered = Lane { bits: next, index: lane }.larger();
+            let covered = Lane {
+                bits: next,
+                index: lane,
+            }
+            .larger();
             next[lane] = self.pass_lane(lane as u32, covered);
         }
     }

@@ -1,16 +1,9 @@
-use mathlib.Core.Path.{◌≡◌}
 use native.Mathlib.Omega.{arith}
 use Rattle.games.specs.Words.{game}
 use Rattle.tables.proofs.Bounds.{few_states}
-use Rattle.search.proofs.First.{states_none, states_hit, states_skip}
+use Rattle.search.proofs.First.{states_hit, states_skip}
 use Rattle.search.proofs.enabled_states.Goals as goal
 use Rattle.search.proofs.enabled_states.Goals.{then-safely_enabled, else-safely_enabled}
-
-pub loop-i-init : goal.loop-i-init
-loop-i-init c = states_none (game c.args.table.words.now) c.args.a.0
-
-pub safely_enabled-requires : goal.safely_enabled-requires
-safely_enabled-requires c = (c.requires, omega arith)
 
 pub single-mask-requires : goal.single-mask-requires
 single-mask-requires c = omega (arith, few_states c.args.table.words.now c.args.table.sized)
@@ -22,9 +15,3 @@ loop-i-preserved c =
       | then-safely_enabled w ↦ rw (w.mask-is, w.single-mask.ensures) (states_hit g c.args.a.0 c.loop-i.i c.loop-i.mask c.loop-i.invariant (cc))
       | else-safely_enabled w ↦ rw w.mask-is (states_skip g c.args.a.0 c.loop-i.i c.loop-i.mask c.loop-i.invariant (cc))
     ]
-
-pub returns : goal.returns
-returns c =
-    let g = game c.args.table.words.now in
-    let e : c.loop-i.i ≡ g.states = omega arith in
-    rw e at c.loop-i.invariant

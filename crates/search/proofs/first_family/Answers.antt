@@ -1,22 +1,15 @@
-use borrow.Author.Rules.{rules}
 use mathlib.Core.Path.{◌≡◌, sym, ◌∙◌, subst}
 use mathlib.Core.List.{List}
 use Prim.Native.Nat.{ℕ, ◌≤◌}
 use native.Mathlib.Omega.{arith}
-use lib.ListN.{length, take, length-set, replicate}
+use lib.ListN.{length, take, length-set}
 use lib.Seq.{length-take-le}
-use Rattle.games.specs.Format.{max_actions, max_states}
+use Rattle.games.specs.Format.{max_states}
 use Rattle.games.specs.Game.{Game}
 use Rattle.games.specs.Words.{game}
 use Rattle.tables.proofs.Bounds.{few_states, few_actions}
-use Rattle.search.proofs.First.{ByAction, actions_none, actions_more, actions_front, actions_below, first_bits}
+use Rattle.search.proofs.First.{ByAction, actions_more, actions_front, actions_below, first_bits}
 use Rattle.search.proofs.first_family.Goals as goal
-
-pub loop-a-init : goal.loop-a-init
-loop-a-init c = (search rules, actions_none (game c.args.table.words.now) (replicate max_actions 0))
-
-pub enabled_states-requires : goal.enabled_states-requires
-enabled_states-requires c = omega arith
 
 pub bounds-masks-a : goal.bounds-masks-a
 bounds-masks-a c = omega (arith, c.actions-actions.ensures, few_actions c.args.table.words.now c.args.table.sized)
@@ -45,9 +38,6 @@ below-requires c =
       masks = λ s m. rw c.states.ensures (actions_below (game c.args.table.words.now) _ f.0 f.1 s m);
       size = rw c.states.ensures c.requires;
     }
-
-pub shape_of-family : goal.shape_of-family
-shape_of-family c = rw c.states.ensures at c.below.ensures.size ∙ sym c.requires
 
 pub returns : goal.returns
 returns c =

@@ -9,9 +9,6 @@ use Rattle.search.proofs.safely_enabled.Goals as goal
 pub member-bad-requires : goal.member-bad-requires
 member-bad-requires c = omega (arith, c.requires.1, few_states c.args.table.words.now c.args.table.sized)
 
-pub enabled-requires : goal.enabled-requires
-enabled-requires c = (c.requires.0, c.requires.1)
-
 pub returns : goal.returns
 unfolding safely_enabled
 returns c = ap₂ (λ (x y : Bool). x && not y) c.enabled.ensures (rw c.bad.ensures at c.member-bad.ensures)

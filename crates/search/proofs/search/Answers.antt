@@ -1,9 +1,9 @@
 -- `search::search` meets its contract: what the first family says, then what `settle` ensures.
 use borrow.Author.Rules.{rules}
-use mathlib.Core.Path.{◌≡◌, sym, ap, ◌∙◌, subst}
-use Prim.Native.Nat.{ℕ, ◌-◌, ◌≤◌, ◌^◌}
+use mathlib.Core.Path.{◌≡◌, sym, ap, ◌∙◌}
+use Prim.Native.Nat.{ℕ, ◌-◌, ◌^◌}
 use native.Mathlib.Omega.{arith}
-use lib.Pow.{pow_pos, ones_lt}
+use lib.Pow.{ones_lt}
 use Rattle.families.proofs.Lanes.{lane_there}
 use Rattle.games.specs.Game.{Game, Accepted}
 use Rattle.games.specs.Words.{game}
@@ -14,12 +14,6 @@ use Rattle.search.proofs.search.Goals as goal
 
 pub single-all-requires : goal.single-all-requires
 single-all-requires c = omega (arith, c.states.ensures, few_states c.args.moves.accepted.table.words.now c.args.moves.accepted.table.sized)
-
-pub overflow_sub-all : goal.overflow_sub-all
-overflow_sub-all c =
-    let played : Game = game c.args.moves.accepted.table.words.now in
-    let sets_are : c.single-all.result ≡ 2 ^ played.states = c.single-all.ensures ∙ ap (λ (n : ℕ). 2 ^ n) c.states.ensures in
-    subst (λ (x : ℕ). 1 ≤ x) (sym sets_are) (pow_pos played.states)
 
 pub returns-then-not-starts_in : goal.returns-then-not-starts_in
 returns-then-not-starts_in c =

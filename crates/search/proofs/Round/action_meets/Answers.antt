@@ -6,9 +6,6 @@ use Rattle.tables.proofs.Checks.{accepted}
 use Rattle.moves.proofs.Posting.{posted_below, meets_blocked, meets_shown}
 use Rattle.search.proofs.Round.action_meets.Goals as goal
 
-pub post-requires : goal.post-requires
-post-requires c = (c.requires.0, c.requires.1)
-
 pub returns-in_default : goal.returns-in_default
 returns-in_default c = meets_blocked (game c.args.self.moves.accepted.table.words.now) (has c.args.self.family.now) c.args.s c.args.a.0 c.post.result c.post.ensures c.in_default.is
 

@@ -3,11 +3,8 @@ use Prim.Native.Nat.{◌-◌}
 use native.Mathlib.Omega.{arith}
 use Rattle.games.specs.Words.{game}
 use Rattle.search.proofs.Turns.{table_lanes}
-use Rattle.search.proofs.Passes.{passing_none, covered_sound, passing_more, passing_end}
+use Rattle.search.proofs.Passes.{covered_sound, passing_more, passing_end}
 use Rattle.search.proofs.Round.pass.Goals as goal
-
-pub loop-lane-init : goal.loop-lane-init
-loop-lane-init c = passing_none (game c.args.self.moves.accepted.table.words.now) c.args.self.family.now c.args.self.stage c.args.next.now c.requires
 
 pub overflow_cast-lane : goal.overflow_cast-lane
 overflow_cast-lane c = omega (arith, c.args.self.stage.size, table_lanes c.args.self.moves.accepted.table.words.now c.args.self.moves.accepted.table.sized)

@@ -5,19 +5,11 @@ use Rattle.sets.proofs.Mask.{single_le}
 use Rattle.families.proofs.Lanes.{shift_one}
 use Rattle.games.specs.Words.{game}
 use Rattle.search.proofs.Turns.{table_lanes}
-use Rattle.search.proofs.Passes.{Highest, highest, few_zeros, trying_none, top_below, hit_less, trying_hit, miss_less, trying_miss, trying_end}
+use Rattle.search.proofs.Passes.{Highest, highest, trying_none, top_below, hit_less, trying_hit, trying_miss}
 use Rattle.search.proofs.Round.pass_lane.Goals as goal
-
-pub offset_bounds-self-lane : goal.offset_bounds-self-lane
-offset_bounds-self-lane c =
-    let small : c.args.lane < 64 = omega (arith, c.requires.0, c.args.self.stage.size, table_lanes c.args.self.moves.accepted.table.words.now c.args.self.moves.accepted.table.sized) in
-    omega (arith, small)
 
 pub loop-left-init : goal.loop-left-init
 loop-left-init c = trying_none (game c.args.self.moves.accepted.table.words.now) c.args.self.family.now c.args.self.stage c.args.lane c.args.covered (omega arith) c.requires.1
-
-pub overflow_sub-h : goal.overflow_sub-h
-overflow_sub-h c = few_zeros c.loop-left.left c.loop-left.invariant.narrow c.loop-left-test.true
 
 pub overflow_mul-lane : goal.overflow_mul-lane
 overflow_mul-lane c =
@@ -33,11 +25,6 @@ pub meets_step-requires : goal.meets_step-requires
 meets_step-requires c =
     let top : Highest c.loop-left.left (63 - count_leading_zeros 64 c.loop-left.left) = highest c.loop-left.left c.loop-left.invariant.narrow c.loop-left-test.true in
     top_below (game c.args.self.moves.accepted.table.words.now) c.args.self.family.now c.args.self.stage c.args.lane c.loop-left.found c.loop-left.left c.loop-left.invariant _ top
-
-pub subsets-below-requires : goal.subsets-below-requires
-subsets-below-requires c =
-    let top : Highest c.loop-left.left (63 - count_leading_zeros 64 c.loop-left.left) = highest c.loop-left.left c.loop-left.invariant.narrow c.loop-left-test.true in
-    top.small
 
 pub loop-left-smaller-then-meets_step : goal.loop-left-smaller-then-meets_step
 loop-left-smaller-then-meets_step c =
@@ -55,17 +42,8 @@ overflow_sub-left c =
     let h = 63 - count_leading_zeros 64 c.loop-left.left in
     rw (shift_one 64 h top.small) (single_le c.loop-left.left h top.here)
 
-pub loop-left-smaller : goal.loop-left-smaller
-loop-left-smaller c =
-    let top : Highest c.loop-left.left (63 - count_leading_zeros 64 c.loop-left.left) = highest c.loop-left.left c.loop-left.invariant.narrow c.loop-left-test.true in
-    let h = 63 - count_leading_zeros 64 c.loop-left.left in
-    rw (shift_one 64 h top.small) (miss_less (game c.args.self.moves.accepted.table.words.now) c.args.self.family.now c.args.self.stage c.args.lane c.loop-left.found c.loop-left.left c.loop-left.invariant h top)
-
 pub loop-left-preserved : goal.loop-left-preserved
 loop-left-preserved c =
     let top : Highest c.loop-left.left (63 - count_leading_zeros 64 c.loop-left.left) = highest c.loop-left.left c.loop-left.invariant.narrow c.loop-left-test.true in
     let h = 63 - count_leading_zeros 64 c.loop-left.left in
     rw (shift_one 64 h top.small) (trying_miss (game c.args.self.moves.accepted.table.words.now) c.args.self.family.now c.args.self.stage c.args.lane c.loop-left.found c.loop-left.left c.loop-left.invariant h top (cc))
-
-pub returns : goal.returns
-returns c = trying_end (game c.args.self.moves.accepted.table.words.now) c.args.self.family.now c.args.self.stage c.args.lane c.loop-left.found c.loop-left.left c.loop-left.invariant c.loop-left-test.false
