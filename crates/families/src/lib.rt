@@ -238,6 +238,7 @@ pub fn write(bits: &[u64], out: &mut [u32]) -> usize
     requires { (length bits.now ≤ max_lanes) × (length (sets bits.now) ≤ length out.old) }
     ensures { (result ≡ length (sets bits.now)) × (out.new ≡ sets bits.now ++ drop result out.old) }
 {
+    // (No `map` and `sum`: where a word's sets go is the count so far.)
     let mut k = 0;
     for (lane, word) in bits.iter().enumerate() {
         k += unpack(*word, lane as u32 * LANE_SETS, &mut out[k..]);

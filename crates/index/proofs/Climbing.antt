@@ -192,3 +192,5 @@ module _ (tops : List ℕ) (t : ℕ) where
         let a = c.none v.0 v.1 v.2 in
         let b = count_few v.0 in
         omega (arith, a, b)
+
+pub ruleset climbing = (told_set, told_nothing, own_tightest, climbed_first, fits, found_tightest, climbed_more, climbed_end)

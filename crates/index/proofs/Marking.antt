@@ -17,6 +17,9 @@ use Rattle.sets.proofs.Logic.{decided, and_false_left}
 use Rattle.sets.proofs.Bounded.{any_zero, any_more}
 use Rattle.sets.proofs.Mask.{member_zero, member_or}
 use Rattle.families.specs.Bits.{lane_states, lane_sets}
+use Rattle.families.proofs.Lanes.{shift_one}
+use Rattle.games.proofs.Holding.{count_few}
+use Rattle.index.proofs.Sizes.{by_ones}
 use Rattle.families.proofs.Inserting.{cleared_length, cleared_at, single_is}
 use Rattle.games.specs.Format.{max_states}
 use Rattle.games.specs.Automaton.{state_count}
@@ -52,15 +55,22 @@ module _ (list : List ℕ) (c : ℕ) (layers : List ℕ) (w : Layered list c lay
       ∙ sym (ap (λ (b : Bool). member (get_or layers k 0) lane || b) (and_false_left (eqb (s / lane_sets) lane) e) ∙ or-false (member (get_or layers k 0) lane)))
       (decided (eqb (state_count s) k))
 
-  pub layered_more : Layered list (c + 1) (set layers (state_count s) (union old (2 ^ (s / lane_sets))))
+  layered_more : Layered list (c + 1) (set layers (state_count s) (union old (2 ^ (s / lane_sets))))
   layered_more =
       record {
         size = length-set layers (state_count s) (union old (2 ^ (s / lane_sets))) ∙ w.size;
         at = λ k lane. stored k lane ∙ ap₂ ◌||◌ (w.at k lane) (ap (stands_in k lane) is) ∙ sym (any_more c (λ i. stands_in k lane (get_or list i 0)));
       }
 
+  -- the layer is told by binary digits
+  pub layered_at : (k single : ℕ) → k ≡ state_count s → single ≡ 2 ^ (s / lane_sets) → Layered list (c + 1) (set layers k (union (get_or layers k 0) single))
+  layered_at k single d e = rw (d, e) layered_more
+
 pub layered_end : (list : List ℕ) (c : ℕ) (layers : List ℕ) → Layered list c layers → c ≡ length list → Layers list layers
 layered_end list c layers w e = record { size = w.size; at = λ k lane. w.at k lane ∙ ap (λ (n : ℕ). any n (λ i. stands_in k lane (get_or list i 0))) e }
+
+-- what the loop's steps go by
+pub ruleset layering = (by_ones, count_few, shift_one, layered_end, cleared_length)
 
 -- ---- the masks
 

@@ -1,17 +1,16 @@
 -- Laws of the notes: as the cells are noted, and as what is found is.
 -- Assumes nothing.
-use mathlib.Core.Path.{◌≡◌, refl, sym, ap, ◌∙◌, subst}
+use mathlib.Core.Path.{◌≡◌, sym, ap, ◌∙◌, subst}
 use mathlib.Core.Logic.{⊎_elim}
 use mathlib.Core.Bool.{true}
-use mathlib.Core.List.{List, ◌++◌, append_assoc}
-use Prim.Native.Nat.{ℕ, ◌+◌, ◌-◌, ◌≤◌, ◌<◌}
+use mathlib.Core.List.{List}
+use Prim.Native.Nat.{ℕ, ◌+◌, ◌≤◌, ◌<◌}
 use native.Mathlib.Omega.{arith}
 use lib.Dec.{eqb}
-use lib.ListN.{length, get_or, take, drop, set, replicate, length-set, get_or-append, length-replicate, get_or-replicate}
-use lib.Seq.{get_or-set_same, get_or-set_other, take-set-le, take_at, get_or-drop, get_or-take, get_or-append-add, length-take-le}
+use lib.ListN.{length, get_or, take, set, length-set}
+use lib.Seq.{get_or-set_same, get_or-set_other, take-set-le, get_or-take}
 use borrow.Author.Tests.{eqb-true, eqb-false}
-use borrow.Rule.Slice.PartMut.{put_mid, post_of}
-use Rattle.sets.specs.Bounded.{count, fill}
+use Rattle.sets.specs.Bounded.{count}
 use Rattle.sets.specs.Family.{holds}
 use Rattle.sets.proofs.Logic.{decided}
 use Rattle.sets.proofs.Mask.{subset_refl}
@@ -19,7 +18,7 @@ use Rattle.sets.proofs.Family.{holds_intro}
 use Rattle.families.specs.Bits.{max_lanes, has, sets}
 use Rattle.games.specs.Automaton.{holding}
 use Rattle.games.proofs.Holding.{holding_only}
-use Rattle.index.specs.Index.{Room, Noted}
+use Rattle.index.specs.Index.{Noted}
 use Rattle.index.proofs.Sizes.{has_listed, listed_has}
 use Rattle.index.proofs.Climbing.{own_tightest}
 use Rattle.index.proofs.Answer.{place_lt, place_at, place_is, tightest_cell}
@@ -46,48 +45,24 @@ pub record Noting (tops : List ℕ) (base c : ℕ) (work : List ℕ) : Type 0 wh
   pub only : (t : ℕ) → t < base → (get_or work (base + t) 0 ≡ 0 → ⊥) → has tops t ≡ true
 
 module _ (tops : List ℕ) (base : ℕ) where
-  -- the notes are cleared, then the cells are written in front
-  pub noting_none : (work cleared : List ℕ) → Room tops base work → (e : ℕ) → e ≡ base + base → cleared ≡ fill base 0 (take (e - base) (drop base work)) → (r : ℕ) → r ≡ length (sets tops) → (out : List ℕ) →
-      length out ≡ length work → out ≡ sets tops ++ drop r (put_mid base (e - base) work cleared) → Noting tops base 0 out
-  noting_none work cleared w e end is r number out same put =
-      record {
-        room = subst (λ (n : ℕ). base + base ≤ n) (sym same) w.room;
-        front = ap (take (length (sets tops))) put ∙ take_at (sets tops) (drop r (put_mid base (e - base) work cleared)) (length (sets tops)) refl;
-        cells = λ s h l. absurd (omega (arith, l));
-        only = λ t l some. absurd (some (zero t l));
-      }
-    where
-      zero : (t : ℕ) → t < base → get_or out (base + t) 0 ≡ 0
-      zero t l =
-          let mid : List ℕ = put_mid base (e - base) work cleared in
-          let d : base + t ≡ length (sets tops) + (base + t - length (sets tops)) = omega (arith, w.few) in
-          let back : r + (base + t - length (sets tops)) ≡ base + t = omega (arith, w.few, number) in
-          let long : length (take base work) ≡ base = length-take-le base work (omega (arith, w.room)) in
-          ap (λ (k : List ℕ). get_or k (base + t) 0) put
-          ∙ ap (λ (i : ℕ). get_or (sets tops ++ drop r mid) i 0) d
-          ∙ get_or-append-add (sets tops) (drop r mid) (base + t - length (sets tops)) 0
-          ∙ get_or-drop r mid (base + t - length (sets tops)) 0
-          ∙ ap (λ (i : ℕ). get_or mid i 0) (back ∙ ap (λ (n : ℕ). n + t) (sym long))
-          ∙ get_or-append-add (take base work) (cleared ++ post_of base (e - base) work) t 0
-          ∙ ap (λ (k : List ℕ). get_or (k ++ post_of base (e - base) work) t 0) is
-          ∙ ap (λ (k : List ℕ). get_or k t 0) (append_assoc (replicate base 0) (drop base (take (e - base) (drop base work))) (post_of base (e - base) work))
-          ∙ get_or-append (replicate base 0) (drop base (take (e - base) (drop base work)) ++ post_of base (e - base) work) 0 t (subst (λ (n : ℕ). t < n) (sym (length-replicate base 0)) l)
-          ∙ get_or-replicate base t 0 0 l
-
   module _ (c : ℕ) (work : List ℕ) (w : Noting tops base c work) (l : c < length (sets tops)) (few : length (sets tops) ≤ base) (below : (s : ℕ) → has tops s ≡ true → s < base) where
     -- the cell at hand
     abbrev set_of_lem : ℕ
     set_of_lem = get_or (sets tops) c 0
 
-    pub noting_read : get_or work c 0 ≡ set_of_lem
+    noting_read : get_or work c 0 ≡ set_of_lem
     noting_read = sym (get_or-take (length (sets tops)) work c 0 l) ∙ ap (λ (k : List ℕ). get_or k c 0) w.front
 
-    pub noting_below : set_of_lem < base
+    noting_below : set_of_lem < base
     noting_below = below set_of_lem (listed_has tops c l)
 
-    pub noting_more : Noting tops base (c + 1) (set work (base + set_of_lem) (c + 1))
+    pub read_below : get_or work c 0 < base
+    read_below = rw noting_read noting_below
+
+    pub noting_more : Noting tops base (c + 1) (set work (base + get_or work c 0) (c + 1))
     noting_more =
-        let there : base + set_of_lem < length work = omega (arith, noting_below, w.room) in
+        rw noting_read
+        (let there : base + set_of_lem < length work = omega (arith, noting_below, w.room) in
         record {
           room = subst (λ (n : ℕ). base + base ≤ n) (sym (length-set work (base + set_of_lem) (c + 1))) w.room;
           front = stored_front base work set_of_lem (c + 1) (length (sets tops)) few ∙ w.front;
@@ -103,7 +78,7 @@ module _ (tops : List ℕ) (base : ℕ) where
               (λ e. subst (λ (x : ℕ). has tops x ≡ true) (sym (eqb-true t set_of_lem e)) (listed_has tops c l))
               (λ e. w.only t b (λ z. some (stored_other base work set_of_lem (c + 1) t (eqb-false t set_of_lem e) ∙ z)))
               (decided (eqb t set_of_lem));
-        }
+        })
       where
         number_apart : (s : ℕ) → has tops s ≡ true → (s ≡ set_of_lem → ⊥) → count s (has tops) ≡ c → ⊥
         number_apart s h d e = d (sym (place_at tops s h) ∙ ap (λ (i : ℕ). get_or (sets tops) i 0) e)

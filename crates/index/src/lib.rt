@@ -19,6 +19,7 @@ pub const MASKS: usize = LANE_SETS as usize + LANE_STATES as usize + 1;
 
 // The cells in front of the work, and from `base` on a note for each set: at a cell's set one more than its number, else 0.
 // (No `Option<Cell>`: the lent work is fixed memory, of words; 0 is none.)
+#[tactic(auto, using(crate::proofs::Noting::read_below))]
 pub fn note_cells(tops: &[u64], base: usize, work: &mut [u32]) -> usize
     requires { Room tops.now base work.old }
     ensures { (result ≡ length (sets tops.now)) × Noted tops.now base work.new }
@@ -26,6 +27,7 @@ pub fn note_cells(tops: &[u64], base: usize, work: &mut [u32]) -> usize
     let end = base + base;
     sets::fill(&mut work[base..end], base, 0);
     let count = families::write(tops, work);
+    // (By index: the words that it goes along are those that it writes.)
     for c in 0..count {
         let s = work[c];
         work[base + s as usize] = c as u32 + 1;
@@ -34,18 +36,20 @@ pub fn note_cells(tops: &[u64], base: usize, work: &mut [u32]) -> usize
 }
 
 // For each number of states, the lanes of the cells that have so many.
+#[tactic(auto, using(crate::proofs::Marking::layering))]
 pub fn mark_layers(cells: &[u32], layers: &mut [u64])
     requires { ((c : ℕ) → c < length cells.now → get_or cells.now c 0 < 2 ^ max_states)
         × (layers.old ≡ replicate (1 + max_states) 0) }
     ensures { Layers cells.now layers.new }
 {
     for &s in cells {
-        let k = u32::count_ones(s) as usize;
-        layers[k] = layers[k] | (1 << (s / LANE_SETS));
+        let k = s.count_ones() as usize;
+        layers[k] |= 1 << (s / LANE_SETS);
     }
 }
 
 // The mask at place i: the sets that hold i, or behind these the sets of so many states.
+#[tactic(auto, using(crate::proofs::Marking::mask_set, crate::proofs::Marking::mask_size))]
 fn mask_at(i: u32) -> u64
     requires { i < mask_count }
     ensures { (t : ℕ) → t < lane_sets → member result t ≡ mask_has i t }
@@ -57,6 +61,7 @@ fn mask_at(i: u32) -> u64
 }
 
 // All masks. (As constants they would be built anew at each call.)
+#[tactic(auto, using(crate::proofs::Marking::masking_none, crate::proofs::Marking::masking_more, crate::proofs::Marking::masking_end))]
 pub fn mark_masks(masks: &mut [u64])
     requires { length masks.old ≡ mask_count }
     ensures { Masks masks.new }
@@ -85,6 +90,7 @@ pub struct Cells<'a> {
 
 impl Cells<'_> {
     // The lowest cell of k states, of those in the lanes, that `above` has.
+    #[tactic(auto, using(crate::proofs::Layering::layer_steps))]
     fn in_layer(self, lanes: u64, above: u64, k: u32) -> Option<u32>
         requires { Fits self.tops.now lanes k }
         ensures { result ≡ told (lowest_in self.entry.tops.now lanes above k) }
@@ -92,19 +98,20 @@ impl Cells<'_> {
         let mut rest = lanes;
         // (No range: each turn takes the lowest bit off, and no index is counted.)
         while rest != 0 {
-            let x = u64::trailing_zeros(rest);
+            let x = rest.trailing_zeros();
             let lane = x as usize;
-            let size = (LANE_SETS + k - u32::count_ones(x)) as usize;
+            let size = (LANE_SETS + k - x.count_ones()) as usize;
             let hit = self.tops[lane] & above & self.masks[size];
             if hit != 0 {
-                return Some(x * LANE_SETS + u64::trailing_zeros(hit));
+                return Some(x * LANE_SETS + hit.trailing_zeros());
             }
-            rest = rest - (1 << x);
+            rest -= 1 << x;
         }
         None
     }
 
     // The tightest cell's set that holds t. A set of as many states as t that holds it is t; then the layers are gone through.
+    #[tactic(auto, using(crate::proofs::Climbing::climbing))]
     fn tightest(self, t: u32) -> u32
         requires { (t / lane_sets < length self.tops.now) × (holds (sets self.tops.now) t ≡ true) }
         ensures { TightestSet self.entry.tops.now t result }
@@ -114,7 +121,8 @@ impl Cells<'_> {
         }
         let held = self.masks[(t / LANE_SETS) as usize];
         let above = self.masks[(t % LANE_SETS) as usize];
-        for k in u32::count_ones(t) + 1..=MAX_STATES {
+        // (No `find_map`: each call of its closure and the run of the range would have to be proved, which is longer; tried.)
+        for k in t.count_ones() + 1..=MAX_STATES {
             let lanes = self.layers[k as usize] & held;
             if let Some(s) = self.in_layer(lanes, above, k) {
                 return s;

@@ -73,3 +73,6 @@ module _ (n : ℕ) (k l : List ℕ) where
     -- and the lists are as the work asks for them
     pub masks : foreign n k ≡ nothing → foreign n l ≡ nothing → Masks n k l
     masks a b = record { width = within_high n max_states w; first = reaches_within n k a; second = reaches_within n l b }
+
+-- each way out of the check is one case of the outcome
+pub ruleset checking = (refused_width, refused_first, refused_second, allowed, masks)

@@ -39,6 +39,7 @@ impl Combination for Either {
 
     ghost laws = { join_laws };
 
+    #[tactic(auto, using(sets::proofs::Mask::member_or))]
     fn word(a: u64, b: u64) -> u64 {
         a | b
     }
@@ -54,6 +55,7 @@ impl Combination for Both {
 
     ghost laws = { meet_laws };
 
+    #[tactic(auto, using(sets::proofs::Mask::member_and))]
     fn word(a: u64, b: u64) -> u64 {
         a & b
     }
@@ -79,6 +81,7 @@ fn foreign(n: u32, list: &[u32]) -> Option<usize>
 }
 
 // The two, where all of their masks are of n states.
+#[tactic(auto, using(crate::proofs::Outcomes::checking))]
 fn checked<'t>(n: u32, first: &'t [u32], second: &'t [u32]) -> Result<Lists<'t>, Refusal>
     ensures { MatchResult result
         (λ lists. (lists.n ≡ n) × (lists.first.now ≡ first.now) × (lists.second.now ≡ second.now)
@@ -109,6 +112,7 @@ fn merge<C: Combination>(a: &mut [u64], b: &[u64])
 }
 
 // The sets in front of `out`, ascending; refused where there are more than places.
+#[tactic(auto, using(crate::proofs::Outcomes::fitted_long, crate::proofs::Outcomes::fitted_fits))]
 fn fit(bits: &[u64], out: &mut [u32]) -> Result<usize, Refusal>
     requires { length bits.now ≤ max_lanes }
     ensures { leaves result out.new ≡ fitted (sets bits.now) out.old }
@@ -132,6 +136,7 @@ impl Lists<'_> {
     }
 
     // The result in front of `out`, where it fits. `a` and `b` are work room.
+    #[tactic(auto, using(families::proofs::Lanes::lanes_few))]
     fn find<C: Combination>(
         self,
         a: &mut [u64],
@@ -147,6 +152,7 @@ impl Lists<'_> {
     }
 
     // The same, with its work room.
+    #[tactic(auto, using(crate::proofs::Merging::enough, crate::proofs::Merging::front))]
     fn deliver<C: Combination>(self, out: &mut [u32]) -> Result<usize, Refusal>
         ensures { leaves result out.new ≡ fitted (C.made self.entry.n self.entry.first.now self.entry.second.now) out.old }
     {

@@ -3,8 +3,6 @@ use mathlib.Core.Path.{ap, ◌∙◌}
 use mathlib.Core.List.{List}
 use Prim.Native.Nat.{ℕ}
 use borrow.Author.Rules.{rules}
-use native.Mathlib.Omega.{arith}
-use Rattle.families.proofs.Lanes.{lanes_few}
 use Rattle.lists.specs.Lists.{fitted}
 use Rattle.lists.proofs.Merging.{held_closed, held_result}
 use Rattle.lists.proofs.Lists.find.Goals as goal
@@ -12,9 +10,6 @@ use Rattle.lists.proofs.Lists.find.Goals as goal
 pub maximal_bits-requires : goal.maximal_bits-requires
 maximal_bits-requires g c =
     (held_closed g.C.Combination.keeps g.C.Combination.made g.met.C.Combination.laws c.args.self.n c.args.self.first.now c.args.self.second.now c.hold.new.a c.hold.ensures c.args.self.masks, search rules)
-
-pub fit-requires : goal.fit-requires
-fit-requires g c = omega (arith, c.maximal_bits.ensures.0, lanes_few c.args.self.n c.args.self.masks.width, c.requires.1)
 
 pub returns : goal.returns
 returns g c =
