@@ -1,6 +1,6 @@
 -- Laws of the check of a card's words.
 -- Assumes nothing.
-use Rattle.std.proofs.Common.{◌≡◌, ℕ, suc, ◌+◌, ◌*◌, ◌%◌, ◌^◌, ◌<◌, ◌≤◌, Bool, true, false, not, ◌&&◌, ◌||◌, eqb, ltb, ◌⊎◌, List, length, get_or, sym, ap, ◌∙◌, subst, inl, inr, ⊎_elim, mul-le-mul_right, suc-mul, add-one, arith, ltb-true, le-ltb, lt-ltb, eq-eqb, ne_eqb, eqb-true}
+use Rattle.std.proofs.Common.{◌≡◌, ℕ, suc, ◌+◌, ◌*◌, ◌%◌, ◌^◌, ◌<◌, ◌≤◌, Bool, true, false, not, ◌&&◌, ◌||◌, eqb, ltb, ◌⊎◌, List, length, get_or, sym, ap, ap₂, ◌∙◌, subst, inl, inr, ⊎_elim, mul-le-mul_right, suc-mul, add-one, arith, ltb-true, le-ltb, lt-ltb, eq-eqb, ne_eqb, eqb-true}
 use borrow.Author.Tests.{not-false}
 use Rattle.sets.specs.Bounded.{Found, first, at_found}
 use Rattle.sets.proofs.Logic.{same_truth, and_left, and_right, and_four, and_intro, or_cases, lt_or_le}
@@ -17,7 +17,8 @@ use Rattle.cards.specs.Card.{card_cells, card_observations, card_actions, automa
 use Rattle.cards.specs.Card.{head_fits, cell_named, cell_fits, fits_at, word_fits, words_checked, checked}
 use Rattle.cards.proofs.Spots.{spot_head, spot_first, spot_cell, spot_next}
 use Rattle.cards.proofs.Passing.{pass_stop, pass_all, pass_on, row_stop, row_pass}
-use Rattle.cards.specs.Checking.{Shaped, FitsBelow, names, RightNames}
+use Rattle.cards.specs.Checking.{HeadOf, Shaped, FitsBelow, names, RightNames}
+use Rattle.cards.specs.declared.shape.Head.{Head}
 use Rattle.games.specs.declared.Reason.TheVariants as reason
 use Rattle.std.specs.Prelude.{Ok}
 
@@ -57,17 +58,6 @@ named_told k m j x d y kl ml jl dl e f =
     rw (le-ltb d m (omega arith), ne_eqb d no_cell (λ h. omega arith), ne_eqb x (word k (low_field x) j 0) other))
     (lt_or_le d low_values)
 
--- four in a row, by the place of the first
-pub four_told : (w : List ℕ) (k at j m : ℕ) → m ≡ card_cells w
-    → (cell_named k m j (get_or w (at + j) 0) && cell_named k m (j + 1) (get_or w (at + j + 1) 0)
-    && cell_named k m (j + 2) (get_or w (at + j + 2) 0) && cell_named k m (j + 3) (get_or w (at + j + 3) 0))
-    ≡ (names w k at j && names w k at (j + 1) && names w k at (j + 2) && names w k at (j + 3))
-four_told w k at j m e =
-    let one : at + j + 1 ≡ at + (j + 1) = omega arith in
-    let two : at + j + 2 ≡ at + (j + 2) = omega arith in
-    let three : at + j + 3 ≡ at + (j + 3) = omega arith in
-    rw (e, one, two, three)
-
 -- a cell's own word by how far it is above the frame of its kind: its set and its action, more than any where it has another frame
 pub cell_told : (a x d y : ℕ) → a < action_values → d < 2 ^ 32 → y ≡ word kind_cell 0 0 0 → (d + y) % 2 ^ 32 ≡ x
     → (ltb (d % action_at) max_sets && ltb d (a * action_at)) ≡ cell_fits a x
@@ -88,11 +78,10 @@ cell_told a x d y al dl e f =
     let most : action < a = ltb-true action a (and_right (eqb x whole && ltb set max_sets) (ltb action a) h) in
     and_intro (lt-ltb (d % action_at) max_sets (omega arith)) (lt-ltb d (a * action_at) (omega arith)))
 
-pub head_told : (x low number action y : ℕ) (p q r : Bool) → low ≡ low_field x → number ≡ number_field x → action ≡ action_field x
-    → y ≡ card_head low number action → p ≡ within low max_cells → q ≡ within number max_observations → r ≡ within action max_actions
-    → (eqb x y && p && q && r) ≡ head_fits x
+pub head_told : (x : ℕ) (h : Head) (y : ℕ) (p q r : Bool) → HeadOf x h → y ≡ card_head h.cells h.observations h.actions → p ≡ within h.cells max_cells
+    → q ≡ within h.observations max_observations → r ≡ within h.actions max_actions → (eqb x y && p && q && r) ≡ head_fits x
 unfolding head_fits
-head_told x low number action y p q r e h g f i j k = rw (i, j, k, f, e, h, g)
+head_told x h y p q r e f i j k = rw (i, j, k, f, e.cells, e.observations, e.actions)
 
 -- ---- the check goes through the words in order
 
@@ -129,15 +118,26 @@ pub wrong_head : (w : List ℕ) → (length w ≡ 0 → ⊥) → head_fits (get_
 unfolding checked
 wrong_head w n h = rw (checked, ne_eqb (length w) 0 n, h)
 
-pub wrong_length : (w : List ℕ) → (length w ≡ 0 → ⊥) → head_fits (get_or w 0 0) ≡ true
-    → (length w ≡ card_length (card_cells w) (card_observations w) → ⊥) → checked w ≡ refused reason.NoCard (length w)
-unfolding checked
-wrong_length w n h m = rw (checked, ne_eqb (length w) 0 n, h, ne_eqb (length w) (card_length (card_cells w) (card_observations w)) m)
+-- the length that a head asks for, by its numbers
+as_many : (w : List ℕ) (h : Head) → HeadOf (get_or w head_place 0) h → (asked : ℕ) → asked ≡ card_length h.cells h.observations
+    → asked ≡ card_length (card_cells w) (card_observations w)
+as_many w h e asked a = a ∙ ap₂ (λ (m o : ℕ). card_length m o) e.cells e.observations
 
-pub only_words : (w : List ℕ) → (length w ≡ 0 → ⊥) → head_fits (get_or w 0 0) ≡ true
-    → length w ≡ card_length (card_cells w) (card_observations w) → checked w ≡ words_checked w
+pub wrong_length : (w : List ℕ) → (length w ≡ 0 → ⊥) → head_fits (get_or w 0 0) ≡ true
+    → (h : Head) → HeadOf (get_or w head_place 0) h → (asked : ℕ) → asked ≡ card_length h.cells h.observations → (length w ≡ asked → ⊥)
+    → checked w ≡ refused reason.NoCard (length w)
 unfolding checked
-only_words w n h e = rw (checked, ne_eqb (length w) 0 n, h, eq-eqb (length w) (card_length (card_cells w) (card_observations w)) e)
+wrong_length w n r h e asked a m =
+    let as_head : asked ≡ card_length (card_cells w) (card_observations w) = as_many w h e asked a in
+    rw (checked, ne_eqb (length w) 0 n, r, ne_eqb (length w) (card_length (card_cells w) (card_observations w)) (λ z. m (z ∙ sym as_head)))
+
+pub shaped_as_read : (w : List ℕ) → head_fits (get_or w 0 0) ≡ true → (h : Head) → HeadOf (get_or w head_place 0) h
+    → (asked : ℕ) → asked ≡ card_length h.cells h.observations → length w ≡ asked → Shaped w
+shaped_as_read w r h e asked a m = record { head = r; long = m ∙ as_many w h e asked a }
+
+pub only_words : (w : List ℕ) → (length w ≡ 0 → ⊥) → Shaped w → checked w ≡ words_checked w
+unfolding checked
+only_words w n s = rw (checked, ne_eqb (length w) 0 n, s.head, eq-eqb (length w) (card_length (card_cells w) (card_observations w)) s.long)
 
 -- what a check that comes out fine has seen
 pub record Sound (w : List ℕ) : Type 0 where
@@ -225,37 +225,52 @@ module _ (w : List ℕ) (s : Shaped w) where
     pub firsts_fit : seen ≤ r → FitsBelow w (front_length seen)
     firsts_fit = row_pass (word_fits w) (length w) (names w kind_first 1) 1 seen r (word_begins w) firsts_in (fits_head w s) found
 
-  -- the part of cell c, at place p
-  module _ (c p : ℕ) (l : c < card_cells w) (g : p ≡ cell_place seen c) where
-    pub part_in : p + part_length seen ≤ length w
-    part_in = let e : cell_place seen c + seen < card_length (card_cells w) seen = part_within (card_cells w) seen c seen l (omega arith) in omega (arith, s.long)
+  -- the part of cell c lies in the words
+  pub part_in : (c p : ℕ) → c < card_cells w → p ≡ cell_place seen c → p + part_length seen ≤ length w
+  part_in c p l g = let e : cell_place seen c + seen < card_length (card_cells w) seen = part_within (card_cells w) seen c seen l (omega arith) in omega (arith, s.long)
 
-    own_fits : word_fits w p ≡ cell_fits (card_actions w) (get_or w p 0)
-    own_fits = subst (λ (i : ℕ). word_fits w i ≡ cell_fits (card_actions w) (get_or w i 0)) (sym g) (word_cell w c)
+  -- by the numbers that were read of the head: the part of cell c, at place p
+  module _ (h : Head) (e : HeadOf (get_or w head_place 0) h) (c p : ℕ) (l : c < h.cells) (g : p ≡ cell_place h.observations c) where
+    place : p ≡ cell_place seen c
+    place = g ∙ ap (λ (o : ℕ). cell_place o c) e.observations
+
+    inside : p + part_length seen ≤ length w
+    inside = part_in c p (omega (arith, e.cells)) place
+
+    own_fits : word_fits w p ≡ cell_fits h.actions (get_or w p 0)
+    own_fits =
+        subst (λ (i : ℕ). word_fits w i ≡ cell_fits (card_actions w) (get_or w i 0)) (sym place) (word_cell w c)
+        ∙ ap (λ (a : ℕ). cell_fits a (get_or w p 0)) (sym e.actions)
 
     next_fits : (j : ℕ) → j < seen → word_fits w (p + 1 + j) ≡ names w kind_next (p + 1) j
-    next_fits j k = subst (λ (i : ℕ). word_fits w (i + 1 + j) ≡ cell_named kind_next (card_cells w) j (get_or w (i + 1 + j) 0)) (sym g) (word_next w c j k)
+    next_fits j k = subst (λ (i : ℕ). word_fits w (i + 1 + j) ≡ cell_named kind_next (card_cells w) j (get_or w (i + 1 + j) 0)) (sym place) (word_next w c j k)
 
-    module _ (below : FitsBelow w (cell_place seen c)) where
+    module _ (below : FitsBelow w (cell_place seen c)) (t : Bool) (own : t ≡ cell_fits h.actions (get_or w p 0)) where
       here : FitsBelow w p
-      here = subst (FitsBelow w) (sym g) below
+      here = subst (FitsBelow w) (sym place) below
 
-      pub own_stop : cell_fits (card_actions w) (get_or w p 0) ≡ false → words_checked w ≡ refused reason.NoCard p
-      own_stop e = stopped w p here (omega (arith, part_in)) (own_fits ∙ e)
+      pub own_stop : t ≡ false → words_checked w ≡ refused reason.NoCard p
+      own_stop f = stopped w p here (omega (arith, inside)) (own_fits ∙ sym own ∙ f)
 
-      module _ (own : cell_fits (card_actions w) (get_or w p 0) ≡ true) (r : ℕ) (found : RightNames w kind_next (p + 1) seen r) where
+      module _ (right : t ≡ true) (r : ℕ) (found : RightNames w kind_next (p + 1) seen r) where
         behind_own : FitsBelow w (p + 1)
         behind_own =
-            pass_on (word_fits w) (length w) p 1 here (omega (arith, part_in))
-            (λ i k. let e : p ≡ p + i = omega arith in subst (λ (q : ℕ). word_fits w q ≡ true) e (own_fits ∙ own))
+            pass_on (word_fits w) (length w) p 1 here (omega (arith, inside))
+            (λ i k. let z : p ≡ p + i = omega arith in subst (λ (q : ℕ). word_fits w q ≡ true) z (own_fits ∙ sym own ∙ right))
 
-        pub nexts_stop : r < seen → words_checked w ≡ refused reason.NoCard (p + 1 + r)
-        nexts_stop = names_stop w kind_next (p + 1) seen r next_fits (omega (arith, part_in)) behind_own found
+        pub nexts_stop : r < h.observations → words_checked w ≡ refused reason.NoCard (p + 1 + r)
+        nexts_stop k = names_stop w kind_next (p + 1) seen r next_fits (omega (arith, inside)) behind_own found (omega (arith, e.observations))
 
-        pub nexts_fit : seen ≤ r → FitsBelow w (cell_place seen (c + 1))
+        pub nexts_fit : h.observations ≤ r → FitsBelow w (cell_place seen (c + 1))
         nexts_fit k =
-            let e : p + 1 + seen ≡ cell_place seen (c + 1) = omega (arith, part_behind seen c) in
-            subst (FitsBelow w) e (row_pass (word_fits w) (length w) (names w kind_next (p + 1)) (p + 1) seen r next_fits (omega (arith, part_in)) behind_own found k)
+            let z : p + 1 + seen ≡ cell_place seen (c + 1) = omega (arith, part_behind seen c, place) in
+            subst (FitsBelow w) z (row_pass (word_fits w) (length w) (names w kind_next (p + 1)) (p + 1) seen r next_fits (omega (arith, inside)) behind_own found (omega (arith, e.observations)))
+
+  pub parts_fit : (h : Head) → HeadOf (get_or w head_place 0) h → (c : ℕ) → FitsBelow w (cell_place seen c) → h.cells ≤ c → c ≤ h.cells → words_checked w ≡ Ok tt
+  parts_fit h e c below most least =
+      let all : c ≡ card_cells w = omega (arith, e.cells) in
+      let end : cell_place seen c ≡ length w = ap (cell_place seen) all ∙ sym s.long in
+      fits_all w (subst (FitsBelow w) end below)
 
 -- what right words say
 pub named : (k m j x : ℕ) → cell_named k m j x ≡ true → (low_field x < m) ⊎ (low_field x ≡ no_cell)

@@ -194,7 +194,7 @@ module _ (A : Automaton) (a o : ℕ) (F : Fitting A a o) where
   pub written_checked : checked (card_words A a o) ≡ Ok tt
   written_checked =
       let w = card_words A a o in
-      only_words w (λ e. omega (arith, card_long A a o)) head_word_lem written_long
+      only_words w (λ e. omega (arith, card_long A a o)) (record { head = head_word_lem; long = written_long })
       ∙ fits_all w (record { within = omega arith; right = every_word })
 
   -- the card means the automaton that it was written of

@@ -1,8 +1,16 @@
 -- What the functions of a card's check promise each other.
 -- Assumes nothing.
 use Rattle.std.specs.Prelude.{◌≡◌, ℕ, ◌+◌, ◌<◌, ◌≤◌, Bool, true, false, List, length, slice_index}
+use Rattle.games.specs.Fields.{low_field, number_field, action_field}
 use Rattle.games.specs.Words.{card_length}
 use Rattle.cards.specs.Card.{head_place, card_cells, card_observations, head_fits, cell_named, word_fits}
+use Rattle.cards.specs.declared.shape.Head.{Head}
+
+-- the numbers of a head
+pub record HeadOf (x : ℕ) (h : Head) : Type 0 where
+  pub cells : h.cells ≡ low_field x
+  pub observations : h.observations ≡ number_field x
+  pub actions : h.actions ≡ action_field x
 
 -- the head is right, and the words are as many as it asks for
 pub record Shaped (w : List ℕ) : Type 0 where

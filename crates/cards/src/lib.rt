@@ -14,7 +14,7 @@ mod shape;
 mod words;
 
 use games::{Action, Cell, Kind, Observation, Reason, Refusal};
-use shape::Draft;
+use shape::{Draft, Head};
 pub use words::Card;
 
 // A cell that was entered, and its action.
@@ -69,13 +69,11 @@ pub fn heading(cells: u32, o: u32, a: u32) -> u32
 fn head_fits(x: u32) -> bool
     ensures { result ≡ head_fits x }
 {
-    let low = games::low_field(x);
-    let number = games::number_field(x);
-    let action = games::action_field(x);
-    (x == heading(low, number, action))
-        & games::within(low, games::MAX_CELLS)
-        & games::within(number, games::MAX_OBSERVATIONS)
-        & games::within(action, games::MAX_ACTIONS)
+    let head = Head::of(x);
+    (x == heading(head.cells, head.observations, head.actions))
+        & games::within(head.cells, games::MAX_CELLS)
+        & games::within(head.observations, games::MAX_OBSERVATIONS)
+        & games::within(head.actions, games::MAX_ACTIONS)
 }
 
 // A first or next word, by its kind, for observation j: it names a cell below m, or none. The cell is what the word has above the frame
@@ -104,15 +102,14 @@ pub fn check(card: &[u32]) -> Result<(), Refusal>
     if card.len() == 0 {
         return Err(Reason::NoCard.at(0));
     }
-    let head = card[0];
-    if !head_fits(head) {
+    if !head_fits(card[0]) {
         return Err(Reason::NoCard.at(0));
     }
-    let words = games::card_length(games::low_field(head), games::number_field(head));
-    if card.len() != words {
+    let head = Head::of(card[0]);
+    if card.len() != games::card_length(head.cells, head.observations) {
         return Err(Reason::NoCard.at(card.len()));
     }
-    Draft { words: card }.check()
+    Draft { words: card, head }.check()
 }
 
 // Where a cell's part begins: behind the front and the parts of the cells before it.

@@ -3,9 +3,11 @@
 ghost use Rattle.std.specs.Prelude.{◌≡◌, ◌<◌, Ok, slice_index, IfOk, IfErr};
 ghost use Rattle.std.specs.Option.{ForSome};
 ghost use Rattle.games.specs.Fields.{low_field};
-ghost use Rattle.cards.specs.Card.{checked, automaton, card_cells, card_observations, card_actions, cell_place};
+ghost use Rattle.cards.specs.Card.{head_place, checked, automaton, card_cells, card_observations, card_actions, cell_place};
+ghost use Rattle.cards.specs.Checking.{HeadOf};
 ghost use Rattle.cards.specs.Run.{led, enters_if, begun, followed};
 
+use crate::shape::Head;
 use crate::{Entered, Move};
 use games::{Action, Cell, Observation, Reason, Refusal};
 
@@ -48,26 +50,30 @@ impl<'c> Card<'c> {
         Ok(Card { words })
     }
 
-    // The numbers of its head.
+    // Its head, and the numbers there.
     #[tactic(auto, using(crate::proofs::Checked::some_word))]
+    fn head(self) -> Head
+        ensures { HeadOf (slice_index self.entry.words.now head_place) result }
+    {
+        Head::of(self.words[0])
+    }
+
     pub fn cells(self) -> u32
         ensures { result ≡ card_cells self.entry.words.now }
     {
-        games::low_field(self.words[0])
+        self.head().cells
     }
 
-    #[tactic(auto, using(crate::proofs::Checked::some_word))]
     pub fn observations(self) -> u32
         ensures { result ≡ card_observations self.entry.words.now }
     {
-        games::number_field(self.words[0])
+        self.head().observations
     }
 
-    #[tactic(auto, using(crate::proofs::Checked::some_word))]
     pub fn actions(self) -> u32
         ensures { result ≡ card_actions self.entry.words.now }
     {
-        games::action_field(self.words[0])
+        self.head().actions
     }
 
     // Where a cell's part begins.

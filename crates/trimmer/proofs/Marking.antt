@@ -19,7 +19,8 @@ use Rattle.trimming.specs.Trim.{reached}
 use Rattle.trimming.proofs.Reaching.{Closed, marks_reached}
 use Rattle.trimming.proofs.Numbers.{kept_length}
 use Rattle.trimmer.specs.Halves.{half_values, lower_half, upper_half, put_lower, put_upper, marked}
-use Rattle.trimmer.specs.Marking.{Waits, Listing, Added, NamesInside, named_or, Own, FirstNamed, Taking, Marked}
+use Rattle.trimmer.specs.Marking.{Waits, Listing, Added, Adds, named_from, NamesInside, named_or, Naming, Own, FirstNamed, Taking, TakingOf, Marked}
+use Rattle.trimmer.specs.declared.Marks.{Marks}
 use Rattle.trimmer.proofs.Halves.{at_each, put_lower_length, put_upper_length, lower_here, lower_there, lower_stays, upper_here, upper_there, upper_stays, marks, same_mark}
 
 -- ---- the cell that is tested for a word
@@ -147,6 +148,32 @@ module _ (w : List ℕ) (n next c : ℕ) (L : Listing w n next) where
                 (λ d e h. inr (inl (omega arith, sym e), (0, omega arith, sym e))) (λ d z h. inl (sym (there d z) ∙ h));
           }
 
+-- the cell that is tested for it, and the test
+module _ (w : List ℕ) (n next c own : ℕ) (L : Listing w n next) (O : Own w own) (N : NamesInside c (length w)) (few : length w ≤ no_cell)
+    (tested : ℕ) (is : tested ≡ named_or c own) where
+  pub named_inside : tested < length w
+  named_inside = subst (λ (i : ℕ). i < length w) (sym is) (tested_inside w c own O few N)
+
+  module _ (t : Bool) (read : t ≡ marked w tested) where
+    pub marked_stays : t ≡ true → Added (λ _. c) 1 w n next w n next
+    marked_stays e =
+        mark_stays w n next c L (tested_marked w c own O few N (subst (λ (i : ℕ). marked w i ≡ true) is (sym read ∙ e)))
+
+    module _ (e : t ≡ false) where
+      free : (c < length w) × (marked w c ≡ false)
+      free = tested_free w c own O few N (subst (λ (i : ℕ). marked w i ≡ false) is (sym read ∙ e))
+
+      pub free_inside : c < length w
+      free_inside = free.0
+
+      pub free_room : n < length w
+      free_room = mark_room w n next c L free.0 free.1
+
+      pub free_adds : (x y : List ℕ) → x ≡ put_lower w c 1 → y ≡ put_upper x n next → Added (λ _. c) 1 w n next y (n + 1) c
+      free_adds x y f g =
+          subst (λ (z : List ℕ). Added (λ _. c) 1 w n next z (n + 1) c) (sym (g ∙ ap (λ (z : List ℕ). put_upper z n next) f))
+          (mark_adds w n next c L free.0 free.1 (omega arith))
+
 -- ---- names in a row
 
 module _ (name : ℕ → ℕ) (w : List ℕ) (n next : ℕ) where
@@ -181,6 +208,26 @@ module _ (name : ℕ → ℕ) (w : List ℕ) (n next : ℕ) where
             ⊎_elim (λ e. ⊎_elim (λ f. inl f) (λ f. inr (E.keeps c f.0, (f.1.0, omega (arith, f.1.1), f.1.2))) (D.only c e))
             (λ e. inr (e.0, (j, omega arith, e.1.2))) (E.only c h);
       }
+
+-- the next name's cell may be marked
+pub more_needs : (names : List ℕ) (own : ℕ) (m : Marks) → Naming names 0 (length names) (length m.work.now) → Own m.work.now own → (v : Marks) {i : ℕ}
+    → Adds (named_from names 0) i m v → (x : ℕ) → i < length names → x ≡ named_from names 0 i
+    → Listing v.work.now v.waiting v.next.0 × Own v.work.now own × NamesInside x (length v.work.now) × (length v.work.now ≤ no_cell)
+more_needs names own m N O v {i} D x l e =
+    let same = D.added.same in (
+      D.added.listing,
+      record { inside = omega (arith, same, O.inside); is_marked = D.added.marks own O.is_marked },
+      subst (λ (k : ℕ). NamesInside x k) (sym same) (subst (λ (y : ℕ). NamesInside y (length m.work.now)) (sym e) (N.named i l)),
+      omega (arith, same, N.few),
+    )
+
+pub adds_more : (name : ℕ → ℕ) (m v : Marks) (i : ℕ) → Adds name i m v → (x : ℕ) → x ≡ name i → (u : Marks) → Adds (λ _. x) 1 v u → Adds name (i + 1) m u
+adds_more name m v i D x e u E =
+    record {
+      same_work = E.same_work ∙ D.same_work;
+      added = added_more name m.work.now m.waiting m.next.0 i v.work.now v.waiting v.next.0 u.work.now u.waiting u.next.0 D.added
+          (subst (λ (y : ℕ). Added (λ _. y) 1 v.work.now v.waiting v.next.0 u.work.now u.waiting u.next.0) e E.added);
+    }
 
 -- the same names
 pub added_ext : (f g : ℕ → ℕ) (many : ℕ) (w : List ℕ) (n next : ℕ) (v : List ℕ) (k top : ℕ) → ((j : ℕ) → j < many → f j ≡ g j) → Added f many w n next v k top → Added g many w n next v k top
@@ -311,3 +358,7 @@ module _ (A : Automaton) (o t : ℕ) (w : List ℕ) (n next : ℕ) (T : Taking A
         just = just;
         many = omega (arith, T.many, count_ext A.size (marked w) (reached A o) just, kept_length A o);
       }
+
+-- so the work says, once it comes back
+pub taken_all : (A : Automaton) (o t : ℕ) (m : Marks) → TakingOf A o t m → m.waiting ≤ 0 → (v : List ℕ) → v ≡ m.work.now → Marked A o v t
+taken_all A o t m T none v e = subst (λ (w : List ℕ). Marked A o w t) (sym e) (taking_end A o t m.work.now m.waiting m.next.0 T none)

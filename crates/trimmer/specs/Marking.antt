@@ -7,6 +7,7 @@ use Rattle.games.specs.Fields.{low_field}
 use Rattle.trimming.specs.Reach.{Names, Reached}
 use Rattle.trimming.specs.Trim.{reached, kept}
 use Rattle.trimmer.specs.Halves.{half_values, upper_half, marked}
+use Rattle.trimmer.specs.declared.Marks.{Marks}
 
 -- of n cells that wait, the one that is next is held apart; those behind it stand in the upper halves of the words from 1 up to n
 abbrev pub Waits : (w : List ℕ) (n next : ℕ) → (c : ℕ) → Type 0
@@ -75,3 +76,24 @@ pub record Marked (A : Automaton) (o : ℕ) (w : List ℕ) (n : ℕ) : Type 0 wh
   pub size : length w ≡ A.size
   pub just : (c : ℕ) → c < A.size → marked w c ≡ reached A o c
   pub many : n ≡ length (kept A o)
+
+-- ---- the same of the marks as the code holds them, with the cells that wait
+
+abbrev pub ListingOf : Marks → Type 0
+ListingOf m = Listing m.work.now m.waiting m.next.0
+
+abbrev pub TakingOf : Automaton → (o t : ℕ) → Marks → Type 0
+TakingOf A o t m = Taking A o t m.work.now m.waiting m.next.0
+
+-- the marks m became v: they still stand in the same work
+pub record Adds (name : ℕ → ℕ) (many : ℕ) (m v : Marks) : Type 0 where
+  pub same_work : v.work.ghost_name ≡ m.work.ghost_name
+  pub added : Added name many m.work.now m.waiting m.next.0 v.work.now v.waiting v.next.0
+
+-- one cell less waits, and the one behind it is next; no word changed
+pub record TakenOff (m v : Marks) : Type 0 where
+  pub same_work : v.work.ghost_name ≡ m.work.ghost_name
+  pub unchanged : v.work.now ≡ m.work.now
+  pub less : v.waiting + 1 ≡ m.waiting
+  pub behind : v.next.0 ≡ upper_half m.work.now v.waiting
+  pub fits : v.next.0 < half_values

@@ -3,7 +3,7 @@
 // and an entry of the list of kept cells.
 #![tactic(auto)]
 
-ghost use Rattle.std.specs.Prelude.{◌≡◌, ◌++◌, ◌+◌, ◌<◌, ◌≤◌, length, drop};
+ghost use Rattle.std.specs.Prelude.{◌≡◌, ◌++◌, ◌+◌, ◌-◌, ◌<◌, ◌≤◌, length, drop};
 ghost use Rattle.games.specs.Answers.{leaves};
 ghost use Rattle.games.specs.Automaton.{no_cell};
 ghost use Rattle.games.specs.Kinds.{kind_number};
@@ -11,7 +11,7 @@ ghost use Rattle.games.specs.Format.{number_values};
 ghost use Rattle.cards.specs.Card.{card_cells, card_observations, automaton};
 ghost use Rattle.trimming.specs.Trim.{trimmed};
 ghost use Rattle.trimmer.specs.Halves.{half_values, lower_half, upper_half, put_lower, put_upper, marked};
-ghost use Rattle.trimmer.specs.Marking.{Listing, Added, named_from, named_or, NamesInside, Naming, Own, FirstNamed, Taking, Marked};
+ghost use Rattle.trimmer.specs.Marking.{ListingOf, Adds, TakenOff, TakingOf, named_from, named_or, NamesInside, Naming, Own, FirstNamed, Marked};
 ghost use Rattle.trimmer.specs.Numbering.{Numbered, Renumbering, numbered_as, new_name, row_words};
 ghost use Rattle.trimmer.specs.Trimmer.{kept_cells, by_room, buffers, trimmed_into, Trims};
 
@@ -30,7 +30,8 @@ pub fn lower(work: &[u32], i: usize) -> u32
 
 fn upper(work: &[u32], i: usize) -> u32
     requires { i < length work.now }
-    ensures { result ≡ upper_half work.now i }
+    ensures half { result ≡ upper_half work.now i }
+    ensures fits { result < half_values }
 {
     work[i] / HALF_VALUES
 }
@@ -51,14 +52,6 @@ fn put_upper(work: &mut [u32], i: usize, x: u32)
     work[i] = x * HALF_VALUES + old % HALF_VALUES;
 }
 
-// The cells that wait to be taken up: how many, and the one that is next. Those behind it stand in the upper halves of the work; it is
-// held apart, so that a chain of cells is followed without waiting for the memory.
-#[derive(Clone, Copy)]
-struct Waiting {
-    cells: usize,
-    next: Cell,
-}
-
 // The cell that a word names; the other one where it names none.
 // No `Option`: its branch for each word was tried, 250 µs for a card of 4,096 cells that names none every second time, and 81 so.
 fn named_or(cell: Cell, other: Cell) -> Cell
@@ -68,40 +61,6 @@ fn named_or(cell: Cell, other: Cell) -> Cell
         return other;
     }
     cell
-}
-
-// Marks the cell that a word names and puts it in front of those that wait, unless it is marked already. A word that names none counts
-// as a cell that is marked, so that one test does for both.
-fn mark(work: &mut [u32], own: Cell, cell: Cell, waiting: Waiting) -> Waiting
-    requires { Listing work.old waiting.cells waiting.next.0 × Own work.old own.0
-        × NamesInside cell.0 (length work.old) × (length work.old ≤ no_cell) }
-    ensures { Added (λ _. cell.0) 1 work.old waiting.cells waiting.next.0 work.new result.cells result.next.0 }
-{
-    let tested = named_or(cell, own);
-    if 0 < lower(work, tested.0 as usize) {
-        return waiting;
-    }
-    let behind = waiting.next;
-    put_lower(work, cell.0 as usize, 1);
-    put_upper(work, waiting.cells, behind.0);
-    Waiting {
-        cells: waiting.cells + 1,
-        next: cell,
-    }
-}
-
-// Marks the cells that first or next words name.
-fn mark_named(names: &[u32], own: Cell, work: &mut [u32], waiting: Waiting) -> Waiting
-    requires { Naming names.now 0 (length names.now) (length work.old)
-        × Listing work.old waiting.cells waiting.next.0 × Own work.old own.0 }
-    ensures { Added (named_from names.now 0) (length names.now) work.old waiting.cells waiting.next.0
-        work.new result.cells result.next.0 }
-{
-    let mut listed = waiting;
-    for name in names {
-        listed = mark(work, own, Cell(games::low_field(*name)), listed);
-    }
-    listed
 }
 
 // The first cell that a first word names; cell 0 where none does.
@@ -117,32 +76,87 @@ fn first_named(card: Card) -> Cell
     Cell(0)
 }
 
-// Marks the cells where a run begins: those that first words name, or cell 0 where no first word names one.
-fn mark_firsts(card: Card, work: &mut [u32]) -> Waiting
-    requires { length work.old ≡ card_cells card.words.now }
-    ensures { Taking (automaton card.entry.words.now) (card_observations card.entry.words.now) 0
-        work.new result.cells result.next.0 }
-{
-    work.fill(0);
-    let first = first_named(card);
-    put_lower(work, first.0 as usize, 1);
-    let waiting = Waiting {
-        cells: 1,
-        next: first,
-    };
-    let o = card.observations() as usize;
-    mark_named(&card.words[1..1 + o], first, work, waiting)
+// The marks of a card's cells, in the lower halves of the work, and the cells that wait to be taken up: how many, and the one that is next.
+// Those behind it stand in the upper halves; it is held apart, so that a chain of cells is followed without waiting for the memory.
+#[derive(Drop)]
+struct Marks<'w> {
+    work: &'w mut [u32],
+    waiting: usize,
+    next: Cell,
 }
 
-// What waits behind the next cell.
-fn behind_next(work: &[u32], waiting: Waiting) -> Waiting
-    requires { (0 < waiting.cells) × (waiting.cells ≤ length work.now) }
-    ensures { (result.cells + 1 ≡ waiting.cells) × (result.next.0 ≡ upper_half work.now result.cells) × (result.next.0 < half_values) }
-{
-    let cells = waiting.cells - 1;
-    Waiting {
-        cells,
-        next: Cell(upper(work, cells)),
+impl<'w> Marks<'w> {
+    // Marks the cells where a run begins: those that first words name, or cell 0 where no first word names one.
+    fn firsts(card: Card, work: &'w mut [u32]) -> Marks<'w>
+        requires { length work.old ≡ card_cells card.words.now }
+        ensures same_work { result.work.ghost_name ≡ work.entry.ghost_name }
+        ensures taking { TakingOf (automaton card.entry.words.now) (card_observations card.entry.words.now) 0 result }
+    {
+        work.fill(0);
+        let first = first_named(card);
+        put_lower(work, first.0 as usize, 1);
+        let mut marks = Marks {
+            work,
+            waiting: 1,
+            next: first,
+        };
+        let o = card.observations() as usize;
+        marks.mark_named(&card.words[1..1 + o], first);
+        marks
+    }
+
+    #[tactic(auto, unfolding(crate::specs::Halves::marked))]
+    fn is_marked(&self, cell: Cell) -> bool
+        requires { cell.0 < length self.now.work.now }
+        ensures { result ≡ marked self.now.work.now cell.0 }
+    {
+        0 < lower(self.work, cell.0 as usize)
+    }
+
+    // Marks the cell that a word names and puts it in front of those that wait, unless it is marked already. A word that names none counts
+    // as a cell that is marked, so that one test does for both.
+    fn mark(&mut self, own: Cell, cell: Cell)
+        requires { ListingOf self.old × Own self.old.work.now own.0
+            × NamesInside cell.0 (length self.old.work.now) × (length self.old.work.now ≤ no_cell) }
+        ensures { Adds (λ _. cell.0) 1 self.old self.new }
+    {
+        if self.is_marked(named_or(cell, own)) {
+            return;
+        }
+        put_lower(self.work, cell.0 as usize, 1);
+        put_upper(self.work, self.waiting, self.next.0);
+        self.waiting += 1;
+        self.next = cell;
+    }
+
+    // Marks the cells that first or next words name.
+    fn mark_named(&mut self, names: &[u32], own: Cell)
+        requires { Naming names.now 0 (length names.now) (length self.old.work.now) × ListingOf self.old × Own self.old.work.now own.0 }
+        ensures { Adds (named_from names.now 0) (length names.now) self.old self.new }
+    {
+        for name in names {
+            self.mark(own, Cell(games::low_field(*name)));
+        }
+    }
+
+    // The cell behind the next one.
+    fn behind(&self) -> Cell
+        requires { (0 < self.now.waiting) × (self.now.waiting ≤ length self.now.work.now) }
+        ensures { (result.0 ≡ upper_half self.now.work.now (self.now.waiting - 1)) × (result.0 < half_values) }
+    {
+        Cell(upper(self.work, self.waiting - 1))
+    }
+
+    // Takes the next cell off those that wait.
+    fn take_next(&mut self) -> Cell
+        requires { (0 < self.old.waiting) × (self.old.waiting ≤ length self.old.work.now) }
+        ensures off { TakenOff self.old self.new }
+        ensures next { result.0 ≡ self.old.next.0 }
+    {
+        let cell = self.next;
+        self.next = self.behind();
+        self.waiting -= 1;
+        cell
     }
 }
 
@@ -153,14 +167,13 @@ pub fn mark_reached(card: Card, work: &mut [u32]) -> usize
     ensures { Marked (automaton card.entry.words.now) (card_observations card.entry.words.now) work.new result }
 {
     let o = card.observations() as usize;
-    let mut waiting = mark_firsts(card, work);
+    let mut marks = Marks::firsts(card, work);
     let mut taken: usize = 0;
     // no index is counted: a cell that is taken up may let others wait
-    while 0 < waiting.cells {
-        let cell = waiting.next;
+    while 0 < marks.waiting {
+        let cell = marks.take_next();
         let at = card.cell_place(cell) + 1;
-        let others = behind_next(work, waiting);
-        waiting = mark_named(&card.words[at..at + o], cell, work, others);
+        marks.mark_named(&card.words[at..at + o], cell);
         taken += 1;
     }
     taken

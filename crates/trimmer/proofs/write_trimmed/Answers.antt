@@ -125,7 +125,7 @@ cell_place-from-requires c =
     let o : ℕ = c.observations-o.result in
     let fine : checked words ≡ Ok tt = c.args.card.checked in
     let o_is : o ≡ seen = c.observations-o.ensures in
-    let inside : c.upper.result < card_cells words = kept_inside words fine c.args.work.now c.requires.0 o many o_is c.requires.1 c.loop-i.i c.upper.result c.loop-i-test.true c.upper.ensures in
+    let inside : c.upper.result < card_cells words = kept_inside words fine c.args.work.now c.requires.0 o many o_is c.requires.1 c.loop-i.i c.upper.result c.loop-i-test.true c.upper.ensures.half in
     inside
 
 pub bounds-words-from : goal.bounds-words-from
@@ -136,7 +136,7 @@ bounds-words-from c =
     let o : ℕ = c.observations-o.result in
     let fine : checked words ≡ Ok tt = c.args.card.checked in
     let o_is : o ≡ seen = c.observations-o.ensures in
-    let inside : c.upper.result < card_cells words = kept_inside words fine c.args.work.now c.requires.0 o many o_is c.requires.1 c.loop-i.i c.upper.result c.loop-i-test.true c.upper.ensures in
+    let inside : c.upper.result < card_cells words = kept_inside words fine c.args.work.now c.requires.0 o many o_is c.requires.1 c.loop-i.i c.upper.result c.loop-i-test.true c.upper.ensures.half in
     let from_is : c.cell_place-from.result ≡ cell_place seen c.upper.result = c.cell_place-from.ensures in
     let from_in : c.cell_place-from.result < length words = subst (λ (p : ℕ). p < length words) (sym from_is) (cell_in words fine c.upper.result inside) in
     from_in
@@ -161,7 +161,7 @@ slice_bounds-names-end c =
     let o : ℕ = c.observations-o.result in
     let fine : checked words ≡ Ok tt = c.args.card.checked in
     let o_is : o ≡ seen = c.observations-o.ensures in
-    let inside : c.upper.result < card_cells words = kept_inside words fine c.args.work.now c.requires.0 o many o_is c.requires.1 c.loop-i.i c.upper.result c.loop-i-test.true c.upper.ensures in
+    let inside : c.upper.result < card_cells words = kept_inside words fine c.args.work.now c.requires.0 o many o_is c.requires.1 c.loop-i.i c.upper.result c.loop-i-test.true c.upper.ensures.half in
     let from_is : c.cell_place-from.result ≡ cell_place seen c.upper.result = c.cell_place-from.ensures in
     let from_in : c.cell_place-from.result < length words = subst (λ (p : ℕ). p < length words) (sym from_is) (cell_in words fine c.upper.result inside) in
     let place : c.cell_place-from.result ≡ cell_place o c.upper.result = from_is ∙ ap (λ (n : ℕ). cell_place n c.upper.result) (sym o_is) in
@@ -182,7 +182,7 @@ write_row-requires-in-loop-i c =
     let part_length_is : c.part_length-part.result ≡ part_length seen = c.part_length-part.ensures ∙ ap part_length o_is in
     let work_long : length c.args.work.now ≡ card_cells words = c.requires.0.size ∙ size_of words in
     let some_work : 0 < length c.args.work.now = omega (arith, c.requires.0.size, fits.some_cell) in
-    let inside : c.upper.result < card_cells words = kept_inside words fine c.args.work.now c.requires.0 o many o_is c.requires.1 c.loop-i.i c.upper.result c.loop-i-test.true c.upper.ensures in
+    let inside : c.upper.result < card_cells words = kept_inside words fine c.args.work.now c.requires.0 o many o_is c.requires.1 c.loop-i.i c.upper.result c.loop-i-test.true c.upper.ensures.half in
     let more : c.loop-i.i < many = c.loop-i-test.true in
     let at_is : c.cell_place-at.result ≡ cell_place seen c.loop-i.i = c.cell_place-at.ensures ∙ ap (λ (n : ℕ). cell_place n c.loop-i.i) o_is in
     let from = c.cell_place-from.result in
@@ -211,7 +211,7 @@ loop-i-preserved c =
     let at_is : c.cell_place-at.result ≡ cell_place seen c.loop-i.i = c.cell_place-at.ensures ∙ ap (λ (n : ℕ). cell_place n c.loop-i.i) o_is in
     carded_more seen many parts _ c.loop-i.i c.loop-i.out c.loop-i.invariant more _ _ at_is part_length_is c.write_row-in-loop-i.new.out
     (c.write_row-in-loop-i.ensures
-    ∙ part_is words fine c.args.work.now c.requires.0 o many o_is c.requires.1 c.loop-i.i c.upper.result more c.upper.ensures (c.cell_place-from.result + c.part_length-part.result - (c.cell_place-from.result + 1)) c.cell_place-from.result _ (omega (arith, c.part_length-part.ensures)) (c.cell_place-from.ensures ∙ ap (λ (n : ℕ). cell_place n c.upper.result) (sym o_is)) refl)
+    ∙ part_is words fine c.args.work.now c.requires.0 o many o_is c.requires.1 c.loop-i.i c.upper.result more c.upper.ensures.half (c.cell_place-from.result + c.part_length-part.result - (c.cell_place-from.result + 1)) c.cell_place-from.result _ (omega (arith, c.part_length-part.ensures)) (c.cell_place-from.ensures ∙ ap (λ (n : ℕ). cell_place n c.upper.result) (sym o_is)) refl)
     (cell_length left (card_actions words) seen c.loop-i.i)
 
 pub returns : goal.returns
