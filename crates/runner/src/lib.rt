@@ -107,6 +107,7 @@ impl From<Refusal> for Stopped {
 }
 
 // The card's move on the next observation: it opens the card where no cell was entered yet.
+#[tactic(auto, using(crate::proofs::Laws::opens_fine, crate::proofs::Laws::steps_fine))]
 fn move_from(card: Card, cell: Option<Cell>, seen: Observation) -> Move
     ensures { result ≡ move_from card.entry.words.now cell seen.0 }
 {
@@ -163,6 +164,7 @@ fn run_checked(card: Card, seen: &[u32], out: &mut [u32]) -> Ran
 
 // Runs a card over observations, and writes the action after each into the front of `out`. The card is checked once, whatever the
 // observations. A refused run leaves `out` as it was.
+#[tactic(auto, using(crate::proofs::Laws::into_wrong, crate::proofs::Laws::into_fine))]
 pub fn run(card: &[u32], seen: &[u32], out: &mut [u32]) -> Ran
     ensures { leaves result out.new ≡ ran_into card.now seen.now out.old }
 {

@@ -25,6 +25,7 @@ pub const SHOWN_SLOTS: usize = games::MAX_OBSERVATIONS as usize;
 pub const MOVE_SLOTS: usize = (games::MAX_ACTIONS * games::MAX_STATES) as usize;
 
 // The numbers of states, actions and observations are within the limits.
+#[tactic(auto, unfolding(crate::specs::Check::limits_hold))]
 pub fn limits_hold(s: Shape) -> bool
     ensures { result ≡ limits_hold s }
 {
@@ -33,6 +34,7 @@ pub fn limits_hold(s: Shape) -> bool
             & games::within(s.observations, games::MAX_OBSERVATIONS))
 }
 
+#[tactic(auto, unfolding(crate::specs::Check::head_right))]
 fn head_right(w: u32) -> bool
     ensures { result ≡ head_right w }
 {
@@ -66,6 +68,7 @@ pub struct Sizes {
 
 impl Sizes {
     // The head for these numbers, and the bit where the table marks parked states.
+    #[tactic(auto, using(games::proofs::Places::parked_words_lem))]
     pub fn head_word(self) -> u32
         ensures { result ≡ head_word self.shape }
     {

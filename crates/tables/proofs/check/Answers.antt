@@ -9,9 +9,6 @@ use Rattle.std.proofs.lemmas.Result.{err_from_is_err_and}
 use Rattle.tables.proofs.check.Goals as goal
 use Rattle.std.specs.Prelude.{Ok}
 
-pub check_sets-requires : goal.check_sets-requires
-check_sets-requires c = rw c.shape.ensures c.in_ok-table.table.sized.limits
-
 pub returns-in_err-check_sets : goal.returns-in_err-check_sets
 returns-in_err-check_sets c =
     let w = c.in_ok-table.table.words.now in

@@ -1,7 +1,6 @@
 -- `tables::check_size` meets its contract: one law for each answer.
 use mathlib.Core.Bool.{true}
 use mathlib.Core.Path.{◌≡◌, sym, ap, ◌∙◌}
-use native.Mathlib.Omega.{arith}
 use lib.ListN.{get_or}
 use Rattle.games.specs.Places.{table_length}
 use Rattle.tables.specs.Check.{head_right}
@@ -18,9 +17,6 @@ pub returns-then-not-head_right : goal.returns-then-not-head_right
 returns-then-not-head_right c =
     rw c.at-then-not-head_right.ensures
     (sym (size_head c.args.table.now c.if-words-eq0.false (sym c.head_right.ensures ∙ c.if-not-head_right.true)))
-
-pub table_length-requires : goal.table_length-requires
-table_length-requires c = rw c.shape_of.ensures (omega arith)
 
 pub returns-then-words-table_length : goal.returns-then-words-table_length
 returns-then-words-table_length c =

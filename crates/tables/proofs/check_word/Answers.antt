@@ -11,9 +11,6 @@ use Rattle.tables.proofs.check_word.Goals as goal
 pub returns-then-not-is_placed : goal.returns-then-not-is_placed
 returns-then-not-is_placed c = rw c.at.ensures (sym (word_misplaced _ _ c.requires.0 (sym c.is_placed.ensures ∙ c.if-not-is_placed.true)))
 
-pub single-requires : goal.single-requires
-single-requires c = rw c.shape.ensures (let most = c.args.table.sized.limits.most_states in omega arith)
-
 pub returns-then-single-low_field : goal.returns-then-single-low_field
 returns-then-single-low_field c =
     let full : c.single.result ≡ 2 ^ (shape_in c.args.table.words.now).states = c.single.ensures ∙ ap (λ (s : Shape). 2 ^ s.states) c.shape.ensures in

@@ -9,9 +9,6 @@ use Rattle.tables.specs.Check.{placed}
 use Rattle.tables.proofs.Layouts.{bare_small}
 use Rattle.tables.proofs.is_placed.Goals as goal
 
-pub bare_word-requires : goal.bare_word-requires
-bare_word-requires c = rw c.sizes.ensures (c.requires.0, omega (arith, c.args.table.sized.long))
-
 pub overflow_add-result : goal.overflow_add-result
 overflow_add-result c =
     let bare : c.bare_word.result ≡ bare_word (place_at (shape_in c.args.table.words.now) c.args.p) = c.bare_word.ensures ∙ ap (λ (s : Shape). bare_word (place_at s c.args.p)) c.sizes.ensures in

@@ -1,13 +1,9 @@
 -- `MoveWords::departs` meets its contract: by the parked states, then by the actions.
 use mathlib.Core.Path.{sym, ◌∙◌}
-use native.Mathlib.Omega.{arith}
 use borrow.Author.Rules.{rules}
 use Rattle.tables.specs.Check.{goes_on}
 use Rattle.tables.proofs.Checks.{not_parked, departs_by}
 use Rattle.tables.proofs.MoveWords.departs.Goals as goal
-
-pub member-requires : goal.member-requires
-member-requires c = omega (arith, c.args.self.sizes.limited.most_states, c.requires)
 
 pub returns-then-member : goal.returns-then-member
 returns-then-member c =

@@ -4,7 +4,6 @@ use Prim.Native.Nat.{ℕ}
 use native.Mathlib.Omega.{arith}
 use lib.ListN.{length, get_or, set}
 use Rattle.std.proofs.lemmas.List.{length-replicate}
-use Rattle.sets.specs.Bounded.{filled_by}
 use Rattle.sets.proofs.Fills.{filled_none, filled_more}
 use Rattle.games.specs.Fields.{low_field}
 use Rattle.tables.specs.Fields.{masks_from}
@@ -20,8 +19,3 @@ loop-i-preserved g c =
     let mask : c.low_field.result ≡ f c.loop-i.i = c.low_field.ensures ∙ ap (λ (p : ℕ). low_field (get_or c.args.words.now p 0)) (sym (from_front c.loop-i.i)) in
     let long : length c.filled-slots.result ≡ g.row.N = ap length c.filled-slots.ensures ∙ length-replicate g.row.N 0 in
     ap₂ (λ (l : List ℕ) (x : ℕ). set l c.loop-i.i x) c.loop-i.invariant mask ∙ filled_more f c.loop-i.i c.filled-slots.result (omega (arith, long, c.requires))
-
-pub returns : goal.returns
-returns g c =
-    let all : c.loop-i.i ≡ length c.args.words.now = omega arith in
-    c.loop-i.invariant ∙ ap₂ (λ (k : ℕ) (d : List ℕ). filled_by k (masks_from c.args.words.now 0) d) all c.filled-slots.ensures

@@ -1,19 +1,8 @@
 -- `Table::fields` meets its contract: each field is the table's.
 use mathlib.Core.Path.{refl, ◌∙◌}
-use native.Mathlib.Omega.{arith}
 use Rattle.games.specs.Words.{game}
-use Rattle.games.proofs.Limits.{moves_below}
-use Rattle.tables.proofs.Same.{shown_long, moves_long}
 use Rattle.tables.proofs.Fieldwise.{shown_masks, moves_masks, fields_are}
 use Rattle.tables.proofs.words.Table.fields.Goals as goal
-
-pub masks-requires : goal.masks-requires
-masks-requires c = rw c.shown_words.ensures (omega (arith, shown_long c.args.self.words.now c.args.self.sized, c.args.self.sized.limits.most_observations))
-
-pub masks-requires-2 : goal.masks-requires-2
-masks-requires-2 c =
-    rw c.move_words.ensures
-    (omega (arith, moves_long c.args.self.words.now c.args.self.sized, moves_below _ _ c.args.self.sized.limits.most_actions c.args.self.sized.limits.most_states))
 
 pub returns : goal.returns
 unfolding game
