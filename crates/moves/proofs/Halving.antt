@@ -14,7 +14,7 @@ use lib.Pow.{pow_mono, shr-shr, field, mod-mod-pow, shr_lt}
 use lib.Seq.{get_or-set_same, get_or-set_other, length-take-le, get_or-take, get_or-append-add}
 use borrow.Rule.Slice.PartMut.{put_mid, post_of, same_len_mid, mid_len}
 use borrow.Author.Count.{below_more}
-use borrow.Author.Tests.{ltb-true, ltb-false}
+use borrow.Author.Tests.{ltb-true, ltb-false, lt-ltb, le-ltb}
 use Rattle.sets.specs.Mask.{member, union, union_over}
 use Rattle.sets.proofs.Logic.{decided, same_truth, or_left, or_right, or_cases}
 use Rattle.sets.proofs.Mask.{member_beyond, member_or, member_single, single_le, member_add_same, member_add_other, ext_all, union_over_zero, union_over_hit, union_over_skip, union_over_found, union_over_intro, union_over_ext, union_over_lt}
@@ -27,6 +27,7 @@ use Rattle.tables.specs.Check.{checked}
 use Rattle.tables.proofs.Checks.{sized}
 use Rattle.tables.proofs.Bounds.{few_states}
 use Rattle.std.specs.Prelude.{Option, Some, None, unwrap_or}
+use Rattle.std.specs.Bool.{then_some}
 use Rattle.walk.proofs.Moves.{moved_enabled, moved_blocked}
 use Rattle.moves.specs.Halves.{posted, half_states, half_sets, side_words, blocked_mark, mark, Doubled, Halved, Sided, Tabled}
 use Rattle.std.specs.Prelude.{Ok}
@@ -234,17 +235,14 @@ module _ (g : Game) (A : Accepted g) (few : g.states ≤ max_states) (s a : ℕ)
       (union_over_intro g.states s (mark g a) 16 w.0 w.1 w.2
       (ap (λ (x : ℕ). member x 16) (blocked_mark_lem g a w.0 w.3) ∙ member_single 16))
 
-  pub posted_open : (u : ℕ) → u ≡ union_over g.states s (mark g a) → u < blocked_mark → Some u ≡ posted g s a
+  pub posted_is : (u : ℕ) → u ≡ union_over g.states s (mark g a) → then_some (ltb u blocked_mark) u ≡ posted g s a
   unfolding posted
-  posted_open u e l =
-      ⊎_elim (λ h. ap Some (e ∙ unmarked h) ∙ sym (ap (λ (c : Bool). cond c (Some (post g s a)) None) h))
-      (λ h. let m = mark_shows h in absurd (omega arith)) (decided (enabled_at g s a))
-
-  pub posted_shut : (u : ℕ) → u ≡ union_over g.states s (mark g a) → blocked_mark ≤ u → None ≡ posted g s a
-  unfolding posted
-  posted_shut u e l =
-      ⊎_elim (λ h. let m = unmarked h in let p = post_small in absurd (omega arith))
-      (λ h. sym (ap (λ (c : Bool). cond c (Some (post g s a)) None) h)) (decided (enabled_at g s a))
+  posted_is u e =
+      ⊎_elim (λ h. let m = unmarked h in let p = post_small in
+      rw (lt-ltb u blocked_mark (omega arith)) (ap Some (e ∙ m) ∙ sym (ap (λ (c : Bool). cond c (Some (post g s a)) None) h)))
+      (λ h. let m = mark_shows h in
+      rw (le-ltb u blocked_mark (omega arith)) (sym (ap (λ (c : Bool). cond c (Some (post g s a)) None) h)))
+      (decided (enabled_at g s a))
 
 -- ---- filling a side, one action behind the other
 

@@ -23,6 +23,7 @@ pub const SIDE_WORDS: usize = games::MAX_ACTIONS as usize * HALF_WORDS;
 const BLOCKED: u32 = games::LOW_VALUES;
 
 // The first entries again behind them, united with the successors of one state more.
+// (By an index: it reads the words that it writes, and two halves of `split_at_mut` would have to be said to be one slice again.)
 fn double(half: &mut [u32], size: usize, w: u32)
     requires { size + size ≤ length half.old }
     ensures { Doubled size w half.old half.new }
@@ -50,7 +51,7 @@ fn fill_half(table: Table, a: Action, first: u32, count: u32, half: &mut [u32])
     for i in 0..count {
         double(half, size, mark(table, a, State(first + i)));
         // (No index: the filled front doubles with each state.)
-        size = size + size;
+        size += size;
     }
 }
 
@@ -103,6 +104,6 @@ impl Moves<'_> {
     {
         let at = (a.0 * HALF_SETS) as usize;
         let u = self.low[at + (s % HALF_SETS) as usize] | self.high[at + (s / HALF_SETS) as usize];
-        if u < BLOCKED { Some(u) } else { None }
+        (u < BLOCKED).then_some(u)
     }
 }
