@@ -36,6 +36,7 @@ fn upper(work: &[u32], i: usize) -> u32
     work[i] / HALF_VALUES
 }
 
+#[tactic(auto, unfolding(crate::specs::Halves::put_lower))]
 fn put_lower(work: &mut [u32], i: usize, x: u32)
     requires { (i < length work.old) × (x < half_values) }
     ensures { work.new ≡ put_lower work.old i x }
@@ -44,6 +45,7 @@ fn put_lower(work: &mut [u32], i: usize, x: u32)
     work[i] = old / HALF_VALUES * HALF_VALUES + x;
 }
 
+#[tactic(auto, unfolding(crate::specs::Halves::put_upper))]
 fn put_upper(work: &mut [u32], i: usize, x: u32)
     requires { (i < length work.old) × (x < half_values) }
     ensures { work.new ≡ put_upper work.old i x }
@@ -206,6 +208,7 @@ fn numbered(cell: Cell, number: u32) -> Cell
 }
 
 // The new number of the cell that a word names. Where it names none, that of cell 0 is looked up in vain, so that no branch is taken.
+#[tactic(auto, using(crate::proofs::Writing::asked_name))]
 fn new_name(work: &[u32], cell: Cell) -> Cell
     requires { NamesInside cell.0 (length work.now) × (0 < length work.now) }
     ensures { result.0 ≡ new_name work.now cell.0 }
