@@ -7,7 +7,6 @@ mod rooms;
 mod source;
 mod text_rows;
 
-use rows::input::read_full;
 use source::{Source, Subject};
 use std::{io, str};
 
@@ -39,7 +38,7 @@ fn run(rt: &impl Print, input: &str) -> io::Result<()> {
 
 fn main(rt: HostRuntime) -> io::Result<()> {
     let mut bytes = [0u8; INPUT_BYTES];
-    let input = read_full(&mut rt.stdin(), &mut bytes)?;
+    let input = words::read_full(&mut rt.stdin(), &mut bytes)?;
     match str::from_utf8(input) {
         Ok(text) => run(&rt, text),
         Err(_) => Err(io::Error::from(io::ErrorKind::InvalidData)),

@@ -4,6 +4,5 @@
 
 pub mod check_rows;
 pub mod field_rows;
-pub mod input;
 pub mod print;
 pub mod stations;

@@ -6,20 +6,21 @@ use Prim.Native.Nat.{ℕ, ◌*◌, ◌/◌, ◌%◌, ◌≤◌, ◌<◌}
 use native.Mathlib.Nat.{mul_comm, mul-le-mul_right}
 use native.Mathlib.Omega.{arith}
 use borrow.Author.Tests.{eq-eqb, ne_eqb, lt-ltb, le-ltb}
-use lib.ListN.{length, take}
-use lib.Seq.{length-take-le}
+use lib.ListN.{length, take, drop, replicate, length-replicate}
+use lib.Seq.{length-take-le, take-append_seam}
+use denote.Ref.{Bor}
 use Rattle.solver.proofs.Promises.{Given, yes_given}
 use Rattle.games.specs.Answers.{Leaves, leaves}
 use Rattle.games.specs.Format.{max_observations, low_values, number_values}
 use Rattle.games.specs.Words.{game, part_length, card_length}
 use Rattle.solver.specs.Solve.{Buffers, buffers, solved, written}
 use Rattle.solver.specs.Solve.{Answer, says_yes, says_no}
-use Rattle.text.specs.Text.{Wrote}
 use Rattle.text.specs.Puts.{Puts}
 use Rattle.text.specs.declared.Writer.{Writer}
+use Rattle.text.proofs.Writing.{wrote_front}
 use Rattle.printout.specs.Lines.{yes_line, card_text, no_line, refused_line, answer_text, unread_line}
 use Rattle.words.specs.Bytes.{words_of}
-use Rattle.solve.specs.Program.{input_bytes, buffer_words, blank, card_in, table_text, program_text, Counts, reply_to, reply_text}
+use Rattle.solve.specs.Program.{input_bytes, buffer_words, blank, card_in, table_text, program_text, reply_to, reply_text}
 use Rattle.solve.specs.declared.Stream.TheVariants.{Output, Errors}
 use Rattle.games.specs.declared.Refusal.{Refusal}
 use Rattle.solver.specs.declared.Verdict.TheVariants.{Yes, No}
@@ -30,9 +31,12 @@ use Rattle.std.specs.Prelude.{Result, Ok, Err}
 pub puts_same : {s t : List ℕ} {w v : Writer} → s ≡ t → Puts s w v → Puts t w v
 puts_same {s} {t} {w} {v} h p = subst (λ (x : List ℕ). Puts x w v) h p
 
--- what a writer that began with d leaves: k is the place behind the text, and e the buffer
-pub left_by : {s d : List ℕ} {w v : Writer} (k : ℕ) (e : List ℕ) → w.at ≡ 0 → w.out.now ≡ d → Puts s w v → k ≡ v.at → e ≡ v.out.now → Wrote s 0 d k e
-left_by k e z f p g h = record { next = omega (arith, g, p.wrote.next, z); stored = h ∙ rw (z, f) at p.wrote.stored }
+-- what a writer that began at the front, with room for its text, has written
+pub text_is : {s : List ℕ} {w v : Writer} → w.at ≡ 0 → Puts s w v → v.at ≤ length w.out.now → take v.at v.out.now ≡ s
+text_is {s} {w} {v} z p l =
+    let long : v.at ≡ length s = omega (arith, p.wrote.next, z) in
+    let e : v.out.now ≡ s ++ drop (length s) w.out.now = wrote_front (rw z at p.wrote) (omega arith) in
+    rw (long, e) (take-append_seam s (drop (length s) w.out.now))
 
 -- ---- a table, by solve's answer r, which left d in the card room
 
@@ -70,6 +74,12 @@ module _ (w work card : List ℕ) (r : Answer) (left d : List ℕ) (e : leaves r
       pub front_is : take n d ≡ written w m d
       front_is = ap (λ (k : ℕ). take k d) g
 
+-- the words of an input lie in front of their room
+pub words_long : (b room : List ℕ) → length b ≤ input_bytes → room ≡ replicate 1024 0 → length (take (length b / 4) room) ≡ length b / 4
+words_long b room l e =
+    let long : length room ≡ 1024 = ap length e ∙ length-replicate {0} {A = ℕ} 1024 0 in
+    length-take-le (length b / 4) room (omega arith)
+
 pub same_text : {v w work card : List ℕ} → v ≡ w → work ≡ blank → card ≡ blank → table_text v work card ≡ table_text w blank blank
 same_text e f g = rw (e, f, g)
 
@@ -100,16 +110,11 @@ module _ (b : List ℕ) where
   unfolding program_text
   whole_words l e = rw (program_text, le-ltb input_bytes (length b) l, eq-eqb (length b % 4) 0 e)
 
--- ---- what reading gave
-
-pub counted : {E : Type 0} (r : Result ℕ E) (n k : ℕ) → r ≡ Ok n → Counts k r → n ≤ k
-counted r n k e c = subst (Counts k) e c
-
 -- ---- the reply
 
-module _ {E : Type 0} (input : Result ℕ E) (b : List ℕ) where
-  pub failed_reply : (e : E) → input ≡ Err e → (Errors ≡ reply_to input) × (unread_line ≡ reply_text input b)
+module _ {E : Type 0} (input : Result (Bor (List ℕ)) E) where
+  pub failed_reply : (e : E) → input ≡ Err e → (Errors ≡ reply_to input) × (unread_line ≡ reply_text input)
   failed_reply e f = rw f (refl, refl)
 
-  pub bytes_reply : (n : ℕ) → input ≡ Ok n → (Output ≡ reply_to input) × (program_text (take n b) ≡ reply_text input b)
-  bytes_reply n f = rw f (refl, refl)
+  pub bytes_reply : (b : Bor (List ℕ)) → input ≡ Ok b → (Output ≡ reply_to input) × (program_text b.now ≡ reply_text input)
+  bytes_reply b f = rw f (refl, refl)

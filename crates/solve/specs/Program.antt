@@ -1,6 +1,8 @@
 -- What the solving program prints for the bytes on its standard input (document 01, "Stations to try").
 -- Assumes nothing.
-use Rattle.std.specs.Prelude.{cond, not, List, [], ℕ, ◌+◌, ◌*◌, ◌/◌, ◌%◌, ◌≤◌, eqb, ltb, length, take, replicate, Result, Ok, Err, IfOk}
+use Rattle.std.specs.Prelude.{cond, not, List, [], ℕ, ◌+◌, ◌*◌, ◌/◌, ◌%◌, eqb, ltb, length, replicate, Option, Result, Ok, Err, OnOk}
+use denote.Ref.{Bor}
+use Rattle.std.specs.Io.KnownBytes.{Keeps, Appends}
 use Rattle.games.specs.Format.{max_sets}
 use Rattle.solver.specs.Solve.{Answer, solved, written}
 use Rattle.solver.specs.declared.Verdict.TheVariants.{Yes, No}
@@ -43,17 +45,20 @@ program_text b =
     (cond (not (eqb (length b % 4) 0)) (answer_text (refused reason.BadLength (length b / 4)) [])
     (table_text (words_of (length b / 4) b) blank blank))
 
--- ---- what reading gave, so many bytes or a failure, which is no end of the input; and the reply to it
-
--- no more bytes than there was room for
-abbrev pub Counts : {E : Type 0} → (room : ℕ) → Result ℕ E → Type 0
-Counts k r = IfOk r (λ n. n ≤ k)
+-- ---- what reading gave, the bytes or a failure, which is no end of the input; and the reply to it
 
 -- the text for the bytes that were read goes to standard output; that reading failed is told on standard error
-abbrev pub reply_to : {E : Type 0} → Result ℕ E → Stream
-reply_to (Ok n) = Output
+abbrev pub reply_to : {B E : Type 0} → Result B E → Stream
+reply_to (Ok b) = Output
 reply_to (Err e) = Errors
 
-abbrev pub reply_text : {E : Type 0} → Result ℕ E → (buffer : List ℕ) → List ℕ
-reply_text (Ok n) b = program_text (take n b)
-reply_text (Err e) b = unread_line
+abbrev pub reply_text : {E : Type 0} → Result (Bor (List ℕ)) E → List ℕ
+reply_text (Ok b) = program_text b.now
+reply_text (Err e) = unread_line
+
+-- ---- the text is put behind what its stream held, unless the answer says that this failed, and nothing goes to the other. The output held o
+-- and then p, the errors e and then f, where that is known
+
+abbrev pub Sent : {A E : Type 0} → (to : Stream) (text : List ℕ) → Result A E → (o p e f : Option (List ℕ)) → Type 0
+Sent Output t r o p e f = OnOk r (Appends o p t) × Keeps e f
+Sent Errors t r o p e f = OnOk r (Appends e f t) × Keeps o p

@@ -2,48 +2,31 @@
 // buffer by functions whose contracts say what it is; the program reads, calls them, and writes the buffer out.
 #![tactic(auto)]
 
-ghost use Rattle.std.specs.Prelude.{◌≡◌, ◌+◌, ◌*◌, ◌/◌, ◌%◌, ◌^◌, ◌≤◌, ◌<◌, length, Ok, Err, IfOk, IfErr};
-ghost use Rattle.text.specs.Text.{Wrote};
+ghost use Rattle.std.specs.Prelude.{◌≡◌, ◌+◌, ◌*◌, ◌/◌, ◌%◌, ◌^◌, ◌≤◌, ◌<◌, length, OnOk};
+ghost use Rattle.std.specs.Io.KnownBytes.{Appends};
 ghost use Rattle.text.specs.Puts.{Puts};
+ghost use Rattle.printout.specs.Lines.{unwritten_line};
 ghost use Rattle.words.specs.Bytes.{words_of};
 ghost use Rattle.solve.specs.Program.{input_bytes, buffer_words, blank, text_bytes, table_text, program_text};
-ghost use Rattle.solve.specs.Program.{Counts, reply_to, reply_text};
+ghost use Rattle.solve.specs.Program.{reply_to, reply_text, Sent};
 
 use cards::Card;
 use games::Reason;
 use solver::Verdict;
-use std::io::{self, Read};
+use std::io::{self, Write};
 use tables::Table;
 use text::Writer;
 
 // The most bytes that are taken for a table.
 const INPUT_BYTES: usize = 4096;
 
+const INPUT_WORDS: usize = INPUT_BYTES / 4;
+
 // Work for the most states; document 01 gives the card as many words.
 const BUFFER_WORDS: usize = 4 * games::MAX_SETS as usize;
 
 // A text has no more lines than the card room has words.
 const TEXT_BYTES: usize = BUFFER_WORDS * printout::LINE_BYTES;
-
-// Room for the words of the longest input.
-fn input_words() -> [u32; INPUT_BYTES / 4]
-    ensures { 1024 ≡ length result }
-{
-    [0; INPUT_BYTES / 4]
-}
-
-fn buffer() -> [u32; BUFFER_WORDS]
-    ensures value { result ≡ blank }
-    ensures buffer_words_value { buffer_words ≡ length result }
-{
-    [0; BUFFER_WORDS]
-}
-
-fn text_buffer() -> [u8; TEXT_BYTES]
-    ensures { text_bytes ≡ length result }
-{
-    [0; TEXT_BYTES]
-}
 
 // Takes the verdict apart: a card, a round number or a refusal.
 fn report(table: &[u32], work: &mut [u32], card: &mut [u32], out: &mut Writer)
@@ -72,12 +55,12 @@ fn answer_words(bytes: &[u8], out: &mut Writer)
     ensures { Puts (table_text (words_of (length bytes.now / 4) bytes.now) blank blank) out.old out.new
         × (out.new.at ≤ text_bytes) }
 {
-    let mut words = input_words();
-    let mut work = buffer();
-    let mut card = buffer();
-    let n = bytes.len() / 4;
-    words::decode(bytes, &mut words[..n]);
-    report(&words[..n], &mut work, &mut card, out)
+    let mut room = sets::filled::<u32, INPUT_WORDS>(0);
+    let mut work = sets::filled::<u32, BUFFER_WORDS>(0);
+    let mut card = sets::filled::<u32, BUFFER_WORDS>(0);
+    let words = &mut room[..bytes.len() / 4];
+    words::decode(bytes, words);
+    report(words, &mut work, &mut card, out)
 }
 
 // The text for the bytes of the input.
@@ -86,37 +69,12 @@ fn respond(bytes: &[u8], out: &mut Writer)
     ensures { Puts (program_text bytes.now) out.old out.new × (out.new.at ≤ text_bytes) }
 {
     if INPUT_BYTES < bytes.len() {
-        return printout::put_refused(out, Reason::BadLength.at(INPUT_BYTES / 4 + 1));
+        return printout::put_refused(out, Reason::BadLength.at(INPUT_WORDS + 1));
     }
     if bytes.len() % 4 != 0 {
         return printout::put_refused(out, Reason::BadLength.at(bytes.len() / 4));
     }
     answer_words(bytes, out)
-}
-
-// The bytes so far, with those of one more read. A read that failed is no end of the input.
-fn with_read(done: usize, read: io::Result<usize>) -> io::Result<usize>
-    requires { IfOk read (λ more. done + more < 2 ^ 64) }
-    ensures more { IfOk read (λ more. result ≡ Ok (done + more)) }
-    ensures failed { IfErr read (λ e. result ≡ Err e) }
-{
-    Ok(done + read?)
-}
-
-// Reads until the buffer is full, the input ends or a read fails. The answer is how many bytes were read. A loop by hand: std's
-// `read_to_end` needs a heap, and `read_exact` fails where the input ends.
-fn read_input(reader: &mut impl Read, bytes: &mut [u8]) -> io::Result<usize>
-    ensures { Counts (length bytes.new) result }
-{
-    let mut done: usize = 0;
-    while done < bytes.len() {
-        let next = with_read(done, reader.read(&mut bytes[done..]))?;
-        if next == done {
-            break;
-        }
-        done = next;
-    }
-    Ok(done)
 }
 
 // Where the program writes: its output, or its errors.
@@ -126,18 +84,17 @@ enum Stream {
     Errors,
 }
 
-// What is written, and where: the stream, and the length of the text in front of the buffer.
+// What is written, and where.
 #[derive(Clone, Copy)]
-struct Reply {
+struct Reply<'t> {
     to: Stream,
-    length: usize,
+    text: &'t [u8],
 }
 
 // The answer to what was read; where reading failed, the line that says so, among the errors.
-fn reply_to(input: io::Result<usize>, bytes: &[u8], out: &mut [u8]) -> Reply
-    requires { Counts (length bytes.now) input }
-    ensures { (result.to ≡ reply_to input) × Wrote (reply_text input bytes.now) 0 out.old result.length out.new
-        × (result.length ≤ text_bytes) }
+fn reply_to<'t>(input: io::Result<&[u8]>, out: &'t mut [u8]) -> Reply<'t>
+    requires { text_bytes ≤ length out.old }
+    ensures { (result.to ≡ reply_to input.entry) × (result.text.now ≡ reply_text input.entry) }
 {
     let mut text = Writer::at(out, 0);
     match input {
@@ -145,51 +102,53 @@ fn reply_to(input: io::Result<usize>, bytes: &[u8], out: &mut [u8]) -> Reply
             printout::put_unread(&mut text);
             Reply {
                 to: Stream::Errors,
-                length: text.place(),
+                text: text.written(),
             }
         }
-        Ok(n) => {
-            respond(&bytes[..n], &mut text);
+        Ok(bytes) => {
+            respond(bytes, &mut text);
             Reply {
                 to: Stream::Output,
-                length: text.place(),
+                text: text.written(),
             }
         }
     }
+}
+
+// Writes the reply to its stream, and nothing to the other.
+fn write_to<O: Write, E: Write>(out: &mut O, err: &mut E, reply: Reply) -> io::Result<()>
+    ensures { Sent reply.entry.to reply.entry.text.now result (O.contents out.old) (O.contents out.new) (E.contents err.old) (E.contents err.new) }
+{
+    match reply.to {
+        Stream::Output => out.write_all(reply.text),
+        Stream::Errors => err.write_all(reply.text),
+    }
+}
+
+// Writes out the reply to what was read.
+fn answer<O: Write, E: Write>(out: &mut O, err: &mut E, input: io::Result<&[u8]>) -> io::Result<()>
+    ensures { Sent (reply_to input.entry) (reply_text input.entry) result (O.contents out.old) (O.contents out.new) (E.contents err.old) (E.contents err.new) }
+{
+    let mut text = sets::filled::<u8, TEXT_BYTES>(0);
+    write_to(out, err, reply_to(input, &mut text))
 }
 
 // The text was not written, or not all of it.
-fn tell_unwritten(err: &impl Print) {
+fn tell_unwritten<E: Write>(err: &mut E) -> io::Result<()>
+    ensures { OnOk result (Appends (E.contents err.old) (E.contents err.new) unwritten_line) }
+{
     let mut line = [0u8; printout::LINE_BYTES];
     let mut text = Writer::at(&mut line, 0);
     printout::put_unwritten(&mut text);
-    let length = text.place();
-    let _ = err.write_all(&line[..length]);
-}
-
-fn write_to(out: &impl Print, err: &impl Print, to: Stream, text: &[u8]) -> io::Result<()> {
-    match to {
-        Stream::Output => out.write_all(text),
-        Stream::Errors => err.write_all(text),
-    }
-}
-
-// Writes out the reply.
-fn answer(out: &impl Print, err: &impl Print, input: io::Result<usize>, bytes: &[u8])
-    requires { Counts (length bytes.now) input }
-{
-    let mut text = text_buffer();
-    let reply = reply_to(input, bytes, &mut text);
-    let length = reply.length;
-    let written = write_to(out, err, reply.to, &text[..length]);
-    if written.is_err() {
-        tell_unwritten(err);
-    }
+    err.write_all(text.written())
 }
 
 // One byte more than a table may have, so that a longer input is seen.
 fn main(rt: HostRuntime) {
     let mut bytes = [0u8; INPUT_BYTES + 1];
-    let input = read_input(&mut rt.stdin(), &mut bytes);
-    answer(&rt.stdout(), &rt.stderr(), input, &bytes);
+    let input = words::read_full(&mut rt.stdin(), &mut bytes);
+    let mut errors = rt.stderr();
+    if answer(&mut rt.stdout(), &mut errors, input).is_err() {
+        let _ = tell_unwritten(&mut errors);
+    }
 }

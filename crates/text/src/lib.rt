@@ -1,7 +1,7 @@
 // Text as bytes: a writer into a lent buffer, and readers that answer the place behind what they read.
 #![tactic(auto)]
 
-ghost use Rattle.std.specs.Prelude.{◌≡◌, [], ◌∷◌, ◌+◌, ◌≤◌, ◌<◌, length, IfOk, IfSome, IfNone};
+ghost use Rattle.std.specs.Prelude.{◌≡◌, [], ◌∷◌, ◌+◌, ◌≤◌, ◌<◌, length, take, IfOk, IfSome, IfNone};
 ghost use Rattle.text.specs.Text.{room};
 ghost use Rattle.text.specs.Puts.{Puts};
 ghost use Rattle.text.specs.Decimal.{decimal, digit_at};
@@ -31,6 +31,15 @@ impl<'b> Writer<'b> {
         ensures { result ≡ self.now.at }
     {
         self.at
+    }
+
+    // What stands in the buffer before that place.
+    pub fn written(self) -> &'b [u8]
+        ensures { result.now ≡ take self.entry.at self.entry.out.now }
+    {
+        let Writer { out, at } = self;
+        let end = at.min(out.len());
+        &out[..end]
     }
 
     // Writes one byte.

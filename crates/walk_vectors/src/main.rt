@@ -6,7 +6,6 @@ ghost use Rattle.std.specs.Prelude.{◌≤◌, ◌<◌, ◌≡◌, length};
 ghost use Rattle.games.specs.Words.{game};
 
 use games::{Action, State};
-use rows::input::read_full;
 use rows::print::Refused;
 use std::io;
 use tables::{Accepted, Table};
@@ -73,26 +72,18 @@ fn each_table(rt: &impl Print, words: &[u32]) -> io::Result<()> {
     Ok(())
 }
 
-// Room for the words of the longest input.
-fn input_words() -> [u32; INPUT_WORDS]
-    ensures { 16384 ≡ length result }
+fn print_input(rt: &impl Print, bytes: &[u8]) -> io::Result<()>
+    requires { length bytes.now ≤ 65536 }
 {
-    [0; INPUT_WORDS]
-}
-
-fn print_input(rt: &impl Print, bytes: &[u8]) -> io::Result<()> {
+    let mut room = sets::filled::<u32, INPUT_WORDS>(0);
     let count = bytes.len() / 4;
-    if INPUT_WORDS < count {
-        return Ok(());
-    }
-    let end = 4 * count;
-    let mut words = input_words();
-    words::decode(&bytes[..end], &mut words[..count]);
-    each_table(rt, &words[..count])
+    let words = &mut room[..count];
+    words::decode(&bytes[..4 * count], words);
+    each_table(rt, words)
 }
 
 fn main(rt: HostRuntime) -> io::Result<()> {
     let mut bytes = [0u8; INPUT_BYTES];
-    let input = read_full(&mut rt.stdin(), &mut bytes)?;
+    let input = words::read_full(&mut rt.stdin(), &mut bytes)?;
     print_input(&rt, input)
 }

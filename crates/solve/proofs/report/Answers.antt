@@ -1,5 +1,5 @@
 -- `report` meets its contract: each answer of solve has its text, and the card of a yes lies in front of its room.
-use mathlib.Core.Path.{◌≡◌, sym, ap, ◌∙◌}
+use mathlib.Core.Path.{◌≡◌, ap, ◌∙◌}
 use mathlib.Core.List.{List, ◌++◌}
 use native.Mathlib.Omega.{arith}
 use Prim.Native.Nat.{ℕ}
