@@ -24,5 +24,5 @@ pub read_more : (a b c : Option (List ℕ)) (n m k : ℕ) (d e : List ℕ) → n
 read_more a b c n m k d e l r h g =
     let long : length (take n d) ≡ n = length-take-le n d l in
     let front : take (n + m) (put_mid n k d e) ≡ take n d ++ take m (e ++ post_of n k d) =
-        rw long at (take-append-add (take n d) (e ++ post_of n k d) m) in
+    rw long at (take-append-add (take n d) (e ++ post_of n k d) m) in
     rw (front, take-append-le m e (post_of n k d) r) (consumes_then a b c (take n d) (take m e) h g)
