@@ -13,6 +13,7 @@ use Rattle.std.proofs.lemmas.List.{get_or-take, get_or-drop, get_or_default}
 use Rattle.std.specs.Option.{MatchOption, option_eq, option_copied, option_map, unwrap_or, ok_or}
 use Rattle.std.specs.Bool.{then_some}
 use Rattle.sets.proofs.Logic.{clash}
+use Rattle.text.specs.declared.Wrong.{Wrong}
 use Rattle.form.specs.Form.{byte_at, digit_fits}
 use Rattle.form.specs.Places.{next_byte}
 use Rattle.form.proofs.Steps.{no_digit, past_digit, digit_range}
@@ -62,6 +63,6 @@ digit_there t at width i d s e k l h =
     get_or_default t (at + i) 256 0 (omega arith) ∙ sym there ∙ ap (λ (x : List ℕ). get_or x i 0) (sym e) ∙ h
 
 -- the place of a refusal made of none
-pub place_is : (o : Option ℕ) (p q : ℕ) → ◌≡◌ {A = Result ℕ ℕ} (Err p) (ok_or o q) → o ≡ None → q ≡ p
+pub place_is : (o : Option ℕ) (p q : Wrong) → ◌≡◌ {A = Result ℕ Wrong} (Err p) (ok_or o q) → o ≡ None → q ≡ p
 place_is None p q e n = cc
 place_is (Some x) p q e n = absurd (let z : ◌≡◌ {A = ℕ} 0 1 = cc in omega arith)

@@ -5,3 +5,4 @@ pub mod Choices
 pub mod Values
 pub mod Spelled
 pub mod Bytes
+pub mod Words

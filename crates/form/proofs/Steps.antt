@@ -9,26 +9,13 @@ use native.Mathlib.Nat.{add-zero}
 use native.Mathlib.Nat.{pow-suc, mul-div_cancel, mul-le-mul, div-le_self}
 use native.Mathlib.Omega.{arith, not-le}
 use lib.Dec.{ltb, leb}
-use lib.ListN.{length, get_or, drop, drop_of_length-le, get_or-eq_default}
-use lib.Seq.{drop-cons}
-use borrow.Author.Tests.{eq-eqb, ne_eqb, ltb-true, leb-true, ltb-false, leb-false, lt-ltb, le-ltb, le-leb, lt-leb}
+use lib.ListN.{length, get_or, get_or-eq_default}
+use borrow.Author.Tests.{ne_eqb, ltb-true, leb-true, ltb-false, leb-false, lt-ltb, le-ltb, le-leb, lt-leb}
 use Rattle.form.specs.Form.{Form, read, departs, reads, byte_at, word, finished, numeral, digit_fits}
 
 pub past_end : (t : List ℕ) (k : ℕ) → byte_at t k < 256 → k < length t
 unfolding byte_at
 past_end t k h = not-le (length t) k (λ g. let e : get_or t k 256 ≡ 256 = get_or-eq_default t 256 g in omega arith)
-
-pub word_hit : (w : List ℕ) (j at : ℕ) (s : ℕ → ℕ) (F : Form) → j < length w → s at ≡ get_or w j 0 → reads (word (drop j w) F) s at ≡ reads (word (drop (j + 1) w) F) s (at + 1)
-unfolding reads word
-word_hit w j at s F l e = rw (add-one, add-one, drop-cons w j 0 l, word, reads, eq-eqb (s at) (get_or w j 0) e)
-
-pub word_miss : (w : List ℕ) (j at : ℕ) (s : ℕ → ℕ) (F : Form) → j < length w → (s at ≡ get_or w j 0 → ⊥) → reads (word (drop j w) F) s at ≡ departs at
-unfolding reads word
-word_miss w j at s F l e = rw (drop-cons w j 0 l, word, reads, ne_eqb (s at) (get_or w j 0) e)
-
-pub word_end : (w : List ℕ) (j : ℕ) (F : Form) → length w ≤ j → word (drop j w) F ≡ F
-unfolding word
-word_end w j F l = rw (drop_of_length-le w l, word)
 
 -- a digit that fits
 pub record Digit (base lo hi w v b : ℕ) : Type 0 where
@@ -87,29 +74,6 @@ number_miss base lo hi r w v at s next e h = rw (numeral, reads, ← e, h)
 
 pub less_power : (base r : ℕ) → 0 < base → base ^ suc r / base ≡ base ^ r
 less_power base r l = rw (pow-suc base r) (mul-div_cancel (base ^ r) l)
-
--- the loop over a word: j bytes of it are read
-pub record InWord (t w : List ℕ) (from j : ℕ) : Type 0 where
-  pub within : from + j ≤ length t
-  pub rest : (F : Form) → reads (word w F) (byte_at t) from ≡ reads (word (drop j w) F) (byte_at t) (from + j)
-
-pub in_word_none : (t w : List ℕ) (from : ℕ) → from ≤ length t → InWord t w from 0
-in_word_none t w from l = record { within = omega (arith, l); rest = λ F. rw (add-zero from) refl }
-
-pub in_word_more : (t w : List ℕ) (from j : ℕ) → InWord t w from j → j < length w → byte_at t (from + j) ≡ get_or w j 0 → get_or w j 0 < 256 → InWord t w from (j + 1)
-in_word_more t w from j i l e k =
-    let h : byte_at t (from + j) < 256 = omega arith in
-    let g = past_end t (from + j) h in
-    let step : from + j + 1 ≡ from + (j + 1) = omega arith in
-    record { within = omega arith; rest = λ F. i.rest F ∙ word_hit w j (from + j) (byte_at t) F l e ∙ ap (reads (word (drop (j + 1) w) F) (byte_at t)) step }
-
-pub in_word_miss : (t w : List ℕ) (from j : ℕ) → InWord t w from j → j < length w → (byte_at t (from + j) ≡ get_or w j 0 → ⊥) → (F : Form) → reads (word w F) (byte_at t) from ≡ departs (from + j)
-in_word_miss t w from j i l n F = i.rest F ∙ word_miss w j (from + j) (byte_at t) F l n
-
-pub in_word_end : (t w : List ℕ) (from j : ℕ) → InWord t w from j → length w ≤ j → j ≤ length w → (F : Form) → reads (word w F) (byte_at t) from ≡ reads F (byte_at t) (from + length w)
-in_word_end t w from j i l k F =
-    let e : from + j ≡ from + length w = omega arith in
-    i.rest F ∙ ap₂ (λ (G : Form) (p : ℕ). reads G (byte_at t) p) (word_end w j F l) e
 
 -- the loop over a number: i digits are read, the number v; the digit before the next has weight w
 pub record InNumber (t : List ℕ) (base lo hi width from i v w : ℕ) : Type 0 where

@@ -5,6 +5,8 @@ ghost use Rattle.std.specs.Prelude.{◌≡◌, ◌^◌, ◌<◌, ◌≤◌, fals
 ghost use Rattle.form.specs.Form.{byte_at, digit_fits};
 ghost use Rattle.form.specs.Places.{next_byte, Digit, Said};
 
+use text::Wrong;
+
 // How a number is written: its base and how many digits; `power` numbers have so many.
 #[derive(Clone, Copy)]
 pub struct Numeral {
@@ -24,8 +26,8 @@ pub struct Range {
     pub most: u32,
 }
 
-// A place in a text: what comes next. Where reading is refused, the error is the place alone, a `usize`: why is always that the text
-// departs from its form.
+// A place in a text: what comes next. Where reading is refused, the error is the place alone: why is always that the text departs from
+// its form.
 #[derive(Clone, Copy)]
 pub struct Reader<'t> {
     pub text: &'t [u8],
@@ -76,20 +78,15 @@ impl<'t> Reader<'t> {
     ghost use Rattle.form.specs.Cursors.{Passes, Gives, Ends};
 
     // A fixed run of bytes. Each token refuses a text at the first byte that it does not allow.
-    pub fn expect(&mut self, word: &[u8]) -> Result<(), usize>
+    pub fn expect(&mut self, word: &[u8]) -> Result<(), Wrong>
         ensures { Passes self.old self.new word.now result }
     {
-        for (j, b) in word.iter().enumerate() {
-            if byte_at(self.text, self.at + j) != Some(*b) {
-                return Err(self.at + j);
-            }
-        }
-        self.at += word.len();
+        self.at = text::skip(self.text, self.at, word)?;
         Ok(())
     }
 
     // A number in a range, digit by digit, up to the first that can't be.
-    fn number_by_digits(&mut self, n: Numeral, range: Range) -> Result<u32, usize>
+    fn number_by_digits(&mut self, n: Numeral, range: Range) -> Result<u32, Wrong>
         requires { range.most < n.power }
         ensures { Gives self.old self.new n range result }
     {
@@ -97,15 +94,15 @@ impl<'t> Reader<'t> {
         let mut w = n.power;
         for i in 0..n.width {
             w = w / n.base;
-            let at = self.at + i as usize;
-            v = grown(n, range, w, v, byte_at(self.text, at)).ok_or(at)?;
+            let place = self.at + i as usize;
+            v = grown(n, range, w, v, byte_at(self.text, place)).ok_or(Wrong { place })?;
         }
         self.at += n.width as usize;
         Ok(v)
     }
 
     // A number in a range. It is read at once; only one that can't be is looked at digit by digit.
-    pub fn number(&mut self, n: Numeral, range: Range) -> Result<u32, usize>
+    pub fn number(&mut self, n: Numeral, range: Range) -> Result<u32, Wrong>
         requires { range.most < n.power }
         ensures { Gives self.old self.new n range result }
     {
@@ -119,12 +116,12 @@ impl<'t> Reader<'t> {
     }
 
     // The end of the text.
-    pub fn finish(&self) -> Result<(), usize>
+    pub fn finish(&self) -> Result<(), Wrong>
         ensures { Ends self.now result }
     {
         match byte_at(self.text, self.at) {
             None => Ok(()),
-            Some(_) => Err(self.at),
+            Some(_) => Err(Wrong { place: self.at }),
         }
     }
 }

@@ -17,6 +17,7 @@ use Rattle.games.specs.Words.{card_length}
 use Rattle.cards.specs.Card.{card_cells, checked}
 use Rattle.cards.specs.declared.words.Card.{Card}
 use Rattle.cards.proofs.Written.{written_checked}
+use Rattle.text.specs.declared.Wrong.{Wrong}
 use Rattle.form.specs.Form.{Form, Outcome, read, departs, reads, byte_at}
 use Rattle.form.specs.Cursors.{runs, behind}
 use Rattle.form.specs.declared.Reader.{Reader}
@@ -39,7 +40,7 @@ from_start c e = ap (reads profile (byte_at c.text.now)) (sym e)
 abbrev from_head : ℕ → ℕ → ℕ → Form
 from_head a o s = lines a o (s * o) (blank (s - 1)) 0 0
 
-pub head_reading : (c r : Reader) (e : Result Head ℕ) → c.at ≡ 0 → HeadRead c r e → reading c.text.now ≡ behind e (λ x. runs (from_head x.actions x.observations x.states) r)
+pub head_reading : (c r : Reader) (e : Result Head Wrong) → c.at ≡ 0 → HeadRead c r e → reading c.text.now ≡ behind e (λ x. runs (from_head x.actions x.observations x.states) r)
 unfolding profile
 head_reading c r e at g = from_start c at ∙ g.goes from_head
 
@@ -52,7 +53,7 @@ module _ (c r : Reader) (h : Head) (g : HeadRead c r (Ok h)) (at : c.at ≡ 0) (
       ∙ ap (λ (x : ℕ). lines z.actions x (h.states * x) (blank (h.states - 1)) 0 0) (sym eo)
       ∙ ap₂ (λ (x y : ℕ). lines z.actions z.observations (x * z.observations) (blank y) 0 0) es (sym ec)
 
-  pub lines_reading : (w : List ℕ) (e : Result (Unit {0}) ℕ) → LinesRead z r w e → reading c.text.now ≡ behind e (λ _. read w)
+  pub lines_reading : (w : List ℕ) (e : Result (Unit {0}) Wrong) → LinesRead z r w e → reading c.text.now ≡ behind e (λ _. read w)
   lines_reading w e k = head_reading c r (Ok h) at g ∙ ap (λ (F : Form). runs F r) same_lines ∙ k.goes
 
 -- the words that were read stand in front, and are a card
@@ -101,11 +102,11 @@ abbrev words_of : Result Card Refusal → List ℕ
 words_of (Ok x) = x.words.now
 words_of (Err q) = []
 
-module _ (P : ℕ → Refusal → Type 0) (t : List ℕ) where
-  pub card_told : (e : Result Card ℕ) (m : Result Card Refusal) (x : Card) → m ≡ Ok x → MatchResult e (λ y. m ≡ Ok y) (λ p. IsErrAnd m (P p)) → reading t ≡ behind e (λ y. read y.words.now) → reading t ≡ read x.words.now
+module _ (P : Wrong → Refusal → Type 0) (t : List ℕ) where
+  pub card_told : (e : Result Card Wrong) (m : Result Card Refusal) (x : Card) → m ≡ Ok x → MatchResult e (λ y. m ≡ Ok y) (λ p. IsErrAnd m (P p)) → reading t ≡ behind e (λ y. read y.words.now) → reading t ≡ read x.words.now
   card_told (Ok y) m x is k r = r ∙ ap read (ap words_of (sym k ∙ is))
   card_told (Err p) m x is k r = absurd (subst (λ (y : Result Card Refusal). IsErrAnd y (P p)) is k)
 
-  pub card_departs : (d : List ℕ) (e : Result Card ℕ) (m : Result Card Refusal) (q : Refusal) → m ≡ Err q → MatchResult e (λ x. m ≡ Ok x) (λ p. IsErrAnd m (P p)) → reading t ≡ behind e (λ y. read y.words.now) → ((p : ℕ) → P p q → q ≡ record { reason = reason.Departs; place = p }) → leaves (Err q) d ≡ read_into t d
+  pub card_departs : (d : List ℕ) (e : Result Card Wrong) (m : Result Card Refusal) (q : Refusal) → m ≡ Err q → MatchResult e (λ x. m ≡ Ok x) (λ p. IsErrAnd m (P p)) → reading t ≡ behind e (λ y. read y.words.now) → ((p : Wrong) → P p q → q ≡ record { reason = reason.Departs; place = p.place }) → leaves (Err q) d ≡ read_into t d
   card_departs d (Ok x) m q is k r f = absurd (subst (λ (y : Result Card Refusal). MatchResult y (λ _. Unit {0}) (λ _. ⊥)) (sym k ∙ is) tt)
-  card_departs d (Err p) m q is k r f = ap (λ (y : Refusal). leaves (Err y) d) (f p (subst (λ (y : Result Card Refusal). IsErrAnd y (P p)) is k)) ∙ read_departs t d p r
+  card_departs d (Err p) m q is k r f = ap (λ (y : Refusal). leaves (Err y) d) (f p (subst (λ (y : Result Card Refusal). IsErrAnd y (P p)) is k)) ∙ read_departs t d p.place r

@@ -21,6 +21,7 @@ use Rattle.games.specs.Fields.{low_field, action_field, word}
 use Rattle.games.specs.Words.{card_length, card_words}
 use Rattle.cards.specs.Card.{cell_place}
 use Rattle.cards.proofs.Written.{card_long, cell_at, low_of, action_of_word}
+use Rattle.text.specs.declared.Wrong.{Wrong}
 use Rattle.form.specs.Form.{Form, read, reads, byte_at, word as fixed, or_else}
 use Rattle.form.specs.Cursors.{runs, behind}
 use Rattle.form.specs.declared.Reader.{Reader}
@@ -209,7 +210,7 @@ module _ (z : Sizes) (start : Reader) where
     none h =
         ⊎_elim (λ e. let z0 : k ≡ 0 = e in ap (λ (n : ℕ). comes (byte_at c.text.now c.at) z.cells z.observations free.state free.observation n) z0) (λ l. as_one false l (h l)) (eq-zero-or-pos k)
 
-    pub in_lines_end : (e : Result (Unit {0}) ℕ) → (0 < k → comes (byte_at c.text.now c.at) z.cells z.observations free.state free.observation 1 ≡ false) → EndRead c e → LinesRead z start w e
+    pub in_lines_end : (e : Result (Unit {0}) Wrong) → (0 < k → comes (byte_at c.text.now c.at) z.cells z.observations free.state free.observation 1 ≡ false) → EndRead c e → LinesRead z start w e
     in_lines_end e h g =
         record {
           held = in_lines_held;
@@ -225,7 +226,7 @@ module _ (z : Sizes) (start : Reader) where
       one_line : runs (all_lines z) start ≡ runs (line z.actions z.observations B free.state free.observation following) c
       one_line = i.goes ∙ line_next c z.actions z.observations B free.state free.observation k (sized_as true (as_one true l h))
 
-      pub in_lines_stop : (r : Reader) (p : ℕ) → LineRead c r z free w (Err p) → LinesRead z start w (Err p)
+      pub in_lines_stop : (r : Reader) (p : Wrong) → LineRead c r z free w (Err p) → LinesRead z start w (Err p)
       in_lines_stop r p g = record { held = in_lines_held; goes = one_line ∙ g.goes B i.says following }
 
       pub in_lines_more : (r : Reader) (x : Line) → LineRead c r z free w (Ok x) → (v : List ℕ)

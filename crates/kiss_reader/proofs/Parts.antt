@@ -13,6 +13,7 @@ use mathlib.Core.Logic.{⊎_elim}
 use Rattle.std.proofs.Common.{Result, Ok, Option, Some}
 use Rattle.std.specs.Option.{option_eq}
 use Rattle.sets.proofs.Logic.{and_left, and_right, and_false_cases}
+use Rattle.text.specs.declared.Wrong.{Wrong}
 use Rattle.form.specs.Places.{next_byte}
 use Rattle.form.proofs.Bytes.{next_same, next_other}
 use Rattle.games.specs.Format.{max_actions, max_observations, max_cells, kind_first, kind_next}
@@ -36,7 +37,7 @@ use Rattle.kiss_reader.specs.Sizing.{Sized}
 use Rattle.kiss_reader.specs.Storing.{slot_kind}
 
 -- a number that is read, by the numeral's and the range's parts
-pub given : (c r : Reader) (n : Numeral) (range : Range) (e : Result ℕ ℕ) (base width lo hi : ℕ) → Gives c r n range e
+pub given : (c r : Reader) (n : Numeral) (range : Range) (e : Result ℕ Wrong) (base width lo hi : ℕ) → Gives c r n range e
     → n.base ≡ base → n.width ≡ width → range.least ≡ lo → range.most ≡ hi
     → (next : ℕ → Form) → runs (number base width lo hi next) c ≡ behind e (λ v. runs (next v) r)
 given c r n range e base width lo hi g eb ew el eh next = rw (← eb, ← ew, ← el, ← eh) (g.goes next)

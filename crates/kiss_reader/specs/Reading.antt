@@ -7,6 +7,7 @@ use Rattle.games.specs.Fields.{low_field, action_field}
 use Rattle.games.specs.Words.{card_words}
 use Rattle.cards.specs.Card.{Fitting}
 use Rattle.text.specs.Text.{bytes}
+use Rattle.text.specs.declared.Wrong.{Wrong}
 use Rattle.form.specs.Form.{Form, read, word, number}
 use Rattle.form.specs.Cursors.{runs, behind}
 use Rattle.form.specs.declared.Reader.{Reader}
@@ -23,12 +24,12 @@ use Rattle.kiss_reader.specs.declared.Line.{Line}
 -- ---- parts in general
 
 -- from c to r a part is read that says nothing
-pub record Passed (c r : Reader) (part : Form → Form) (e : Result (Unit {0}) ℕ) : Type 0 where
+pub record Passed (c r : Reader) (part : Form → Form) (e : Result (Unit {0}) Wrong) : Type 0 where
   pub same : r.text.now ≡ c.text.now
   pub goes : (next : Form) → runs (part next) c ≡ behind e (λ _. runs next r)
 
 -- from c to r a part is read that says a number
-pub record Told (c r : Reader) (part : (ℕ → Form) → Form) (most : ℕ) (e : Result ℕ ℕ) : Type 0 where
+pub record Told (c r : Reader) (part : (ℕ → Form) → Form) (most : ℕ) (e : Result ℕ Wrong) : Type 0 where
   pub same : r.text.now ≡ c.text.now
   pub bounded : IfOk e (λ v. v ≤ most)
   pub goes : (next : ℕ → Form) → runs (part next) c ≡ behind e (λ v. runs (next v) r)
@@ -44,7 +45,7 @@ widths i u next = word (bytes "\n.i ") (number 10 1 i i (λ _. word (bytes "\n.o
 unfoldable pub states : (ℕ → Form) → Form
 states next = word (bytes "\n.s ") (number 10 5 2 (max_cells + 1) (λ s. word (bytes "\n.r reset\n") (next s)))
 
-pub record CountsRead (c r : Reader) (e : Result Counts ℕ) : Type 0 where
+pub record CountsRead (c r : Reader) (e : Result Counts Wrong) : Type 0 where
   pub same : r.text.now ≡ c.text.now
   pub actions : IfOk e (λ x. x.actions ≤ max_actions)
   pub observations : IfOk e (λ x. x.observations ≤ max_observations)
@@ -59,7 +60,7 @@ pub record Limited (r : Head) : Type 0 where
   pub some_state : 2 ≤ r.states
   pub states : r.states ≤ max_cells + 1
 
-pub record HeadRead (c r : Reader) (e : Result Head ℕ) : Type 0 where
+pub record HeadRead (c r : Reader) (e : Result Head Wrong) : Type 0 where
   pub same : r.text.now ≡ c.text.now
   pub limited : IfOk e Limited
   pub goes : (next : ℕ → ℕ → ℕ → Form) → runs (head next) c ≡ behind e (λ x. runs (next x.actions x.observations x.states) r)
@@ -107,7 +108,7 @@ abbrev pub outputs_by : (a own : ℕ) → Range
 outputs_by a x = cond (eqb (low_field x) 0) (record { least = action_field x; most = action_field x }) (record { least = 0; most = a - 1 })
 
 -- a line is read, from the lowest free slot on
-pub record LineRead (c r : Reader) (z : Sizes) (free : Slot) (w : List ℕ) (e : Result Line ℕ) : Type 0 where
+pub record LineRead (c r : Reader) (z : Sizes) (free : Slot) (w : List ℕ) (e : Result Line Wrong) : Type 0 where
   pub same : r.text.now ≡ c.text.now
   pub bounded : IfOk e (Bounded z)
   pub goes : (B : Automaton) → Says z B w → (next : ℕ → ℕ → ℕ → ℕ → Form)
@@ -120,7 +121,7 @@ pub record LineRead (c r : Reader) (z : Sizes) (free : Slot) (w : List ℕ) (e :
 abbrev pub comes : (b m o q from k : ℕ) → Bool
 comes b m o q from k = ltb 0 k && more m o q from && not (eqb b 46)
 
-pub record EndRead (c : Reader) (e : Result (Unit {0}) ℕ) : Type 0 where
+pub record EndRead (c : Reader) (e : Result (Unit {0}) Wrong) : Type 0 where
   pub goes : (a o : ℕ) (B : Automaton) → runs (end a o B) c ≡ behind e (λ _. read (card_words B a o))
 
 -- all lines, from nothing said on
@@ -135,6 +136,6 @@ pub record InLines (z : Sizes) (start c : Reader) (k : ℕ) (free : Slot) (B : A
   pub goes : runs (all_lines z) start ≡ runs (lines z.actions z.observations k B free.state free.observation) c
 
 -- the lines and the end are read
-pub record LinesRead (z : Sizes) (start : Reader) (w : List ℕ) (e : Result (Unit {0}) ℕ) : Type 0 where
+pub record LinesRead (z : Sizes) (start : Reader) (w : List ℕ) (e : Result (Unit {0}) Wrong) : Type 0 where
   pub held : Held z w
   pub goes : runs (all_lines z) start ≡ behind e (λ _. read w)

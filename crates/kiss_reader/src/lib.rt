@@ -23,6 +23,7 @@ use form::{Numeral, Range, Reader};
 use games::{Action, Cell, Kind, Observation, Reason, Refusal};
 use kiss::Slot;
 pub use sizes::Sizes;
+use text::Wrong;
 
 #[derive(Clone, Copy)]
 pub struct Counts {
@@ -83,7 +84,7 @@ const CELL: Numeral = Numeral {
 
 // ---- the head
 
-fn read_counts(r: &mut Reader) -> Result<Counts, usize>
+fn read_counts(r: &mut Reader) -> Result<Counts, Wrong>
     ensures { CountsRead r.old r.new result }
 {
     r.expect(b"# actions ")?;
@@ -109,7 +110,7 @@ fn read_counts(r: &mut Reader) -> Result<Counts, usize>
 }
 
 // The bits of an input and of an output, which are known.
-fn read_widths(r: &mut Reader, input: u32, output: u32) -> Result<(), usize>
+fn read_widths(r: &mut Reader, input: u32, output: u32) -> Result<(), Wrong>
     requires { (input < 10) × (output < 10) }
     ensures { Passed r.old r.new (widths input output) result }
 {
@@ -133,7 +134,7 @@ fn read_widths(r: &mut Reader, input: u32, output: u32) -> Result<(), usize>
 }
 
 // The number of states and the reset state.
-fn read_states(r: &mut Reader) -> Result<u32, usize>
+fn read_states(r: &mut Reader) -> Result<u32, Wrong>
     ensures { Told r.old r.new states (max_cells + 1) result }
 {
     r.expect(b"\n.s ")?;
@@ -148,7 +149,7 @@ fn read_states(r: &mut Reader) -> Result<u32, usize>
     Ok(states)
 }
 
-fn read_head(r: &mut Reader) -> Result<Head, usize>
+fn read_head(r: &mut Reader) -> Result<Head, Wrong>
     ensures { HeadRead r.old r.new result }
 {
     let counts = read_counts(r)?;
@@ -168,7 +169,7 @@ fn read_head(r: &mut Reader) -> Result<Head, usize>
 // ---- a line
 
 // The name of a state from number `least` up: the reset state is number 0, cell c is number 1 + c.
-fn read_state(r: &mut Reader, m: u32, least: u32) -> Result<u32, usize>
+fn read_state(r: &mut Reader, m: u32, least: u32) -> Result<u32, Wrong>
     requires { (1 ≤ m) × (m ≤ max_cells) }
     ensures { Told r.old r.new (state_from m least) m result }
 {
@@ -237,7 +238,7 @@ impl<'w> Machine<'w> {
 }
 
 // A line, from the lowest free slot on. It is read at once: with its slot and its entry as results of their own, reading is a tenth slower.
-fn read_line(r: &mut Reader, machine: Machine, free: Slot) -> Result<Line, usize>
+fn read_line(r: &mut Reader, machine: Machine, free: Slot) -> Result<Line, Wrong>
     requires { free.state ≤ machine.sizes.cells }
     ensures { LineRead r.old r.new machine.entry.sizes free machine.entry.words.now result }
 {
@@ -336,7 +337,7 @@ fn line_comes(r: &Reader, z: Sizes, free: Slot) -> bool
 }
 
 #[tactic(auto, using(crate::proofs::Parts::end_parts))]
-fn read_end(r: &mut Reader) -> Result<(), usize>
+fn read_end(r: &mut Reader) -> Result<(), Wrong>
     ensures { EndRead r.old result }
 {
     r.expect(b".e\n")?;
@@ -344,7 +345,7 @@ fn read_end(r: &mut Reader) -> Result<(), usize>
 }
 
 // The lines and the end, stored in a blank card.
-fn read_lines(r: &mut Reader, z: Sizes, words: &mut [u32]) -> Result<(), usize>
+fn read_lines(r: &mut Reader, z: Sizes, words: &mut [u32]) -> Result<(), Wrong>
     requires { words.old ≡ card_words (blank z.cells) z.actions z.observations }
     ensures { LinesRead z r.old words.new result }
 {
@@ -368,7 +369,7 @@ fn read_lines(r: &mut Reader, z: Sizes, words: &mut [u32]) -> Result<(), usize>
 }
 
 // The card that a text says, in words that are lent for the longest one.
-fn read_card<'w>(text: &[u8], words: &'w mut [u32]) -> Result<Card<'w>, usize>
+fn read_card<'w>(text: &[u8], words: &'w mut [u32]) -> Result<Card<'w>, Wrong>
     requires { length words.old ≡ most_words }
     ensures { reading text.now ≡ behind result (λ card. read card.words.now) }
 {
@@ -404,10 +405,10 @@ fn tell(card: Card, out: &mut [u32]) -> Result<Extent, Refusal>
 }
 
 // The refusal of a text that departs at a place.
-fn departing(at: usize) -> Refusal
-    ensures { result ≡ record { reason = Departs; place = at } }
+fn departing(wrong: Wrong) -> Refusal
+    ensures { result ≡ record { reason = Departs; place = wrong.place } }
 {
-    Reason::Departs.at(at)
+    Reason::Departs.at(wrong.place)
 }
 
 // Reading KISS2 text: the card that it says.

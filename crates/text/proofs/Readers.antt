@@ -1,6 +1,6 @@
 -- Laws of the readers as the code goes: one for each way on, and one for each way out.
 -- Assumes nothing.
-use mathlib.Core.Path.{◌≡◌}
+use mathlib.Core.Path.{◌≡◌, refl, sym, ◌∙◌}
 use Rattle.std.specs.Prelude.{Ok, IfOk}
 use mathlib.Core.Logic.{⊎_elim}
 use mathlib.Core.Bool.{true, false}
@@ -10,9 +10,14 @@ use native.Mathlib.Numerals.{add-one}
 use native.Mathlib.Omega.{arith}
 use borrow.Author.Tests.{lt-ltb, le-ltb, ltb-true, ltb-false, eq-eqb, ne_eqb, eqb-false}
 use lib.Dec.{eqb, ltb}
-use lib.ListN.{length, get_or, drop, drop_of_length-le}
+use lib.ListN.{length, get_or, drop, drop_of_length-le, get_or-eq_default}
 use lib.Seq.{drop-cons}
 use Rattle.sets.proofs.Logic.{decided, lt_or_le, same_truth, or_left, or_right, or_false_left, or_false_right, or_false_intro}
+use Rattle.std.proofs.Common.{Option, None, Some, Bor}
+use Rattle.std.proofs.lemmas.List.{get_or_default}
+use Rattle.std.specs.Option.{option_eq, option_copied, option_map, unwrap_or}
+use borrow.Author.Tests.{eqb-true, eqb-false}
+use Rattle.sets.proofs.Logic.{clash}
 use Rattle.text.specs.Decimal.{digit_of, digit_at}
 use Rattle.text.specs.Read.{wrong, matched, number, no_number, misplaced, further_digits, number_of}
 use Rattle.text.proofs.Decimals.{digit_within}
@@ -41,6 +46,34 @@ module _ (s l : List ℕ) (i next : ℕ) where
       pub matched_more : get_or l next 0 ≡ get_or s i 0 → matched (drop i s) next (drop next l) ≡ matched (drop (i + 1) s) (next + 1) (drop (next + 1) l)
       unfolding matched
       matched_more e = rw (drop-cons s i 0 h, drop-cons l next 0 m, eq-eqb (get_or l next 0) (get_or s i 0) e, add-one i, add-one next)
+
+  -- the byte at the next place, or 256 past the end
+  module _ (h : i < length s) (b : get_or s i 0 < 256) where
+    pub matched_wrong : (get_or l next 256 ≡ get_or s i 0 → ⊥) → matched (drop i s) next (drop next l) ≡ wrong next
+    matched_wrong d =
+        ⊎_elim (λ (m : next < length l). matched_other h m (λ e. d (get_or_default l next 256 0 m ∙ e))) (λ (m : length l ≤ next). matched_short h m) (lt_or_le next (length l))
+
+    pub matched_next : get_or l next 256 ≡ get_or s i 0 → (next < length l) × (matched (drop i s) next (drop next l) ≡ matched (drop (i + 1) s) (next + 1) (drop (next + 1) l))
+    matched_next e =
+        ⊎_elim (λ (m : next < length l). (m, matched_more h m (sym (get_or_default l next 256 0 m) ∙ e)))
+        (λ (m : length l ≤ next). let z : get_or l next 256 ≡ 256 = get_or-eq_default l 256 m in absurd (omega arith)) (lt_or_le next (length l))
+
+-- what the code has: none past the end
+abbrev pub byte_of : Option ℕ → ℕ
+byte_of None = 256
+byte_of (Some b) = b
+
+pub byte_of_is : (o : Option (Bor ℕ)) → byte_of (option_copied o) ≡ unwrap_or (option_map (λ x. x.now) o) 256
+byte_of_is None = refl
+byte_of_is (Some x) = refl
+
+pub byte_same : (o : Option ℕ) (b : ℕ) → option_eq eqb o (Some b) ≡ true → byte_of o ≡ b
+byte_same None b e = clash e refl
+byte_same (Some x) b e = eqb-true x b e
+
+pub byte_other : (o : Option ℕ) (b : ℕ) → b < 256 → option_eq eqb o (Some b) ≡ false → byte_of o ≡ b → ⊥
+byte_other None b l e f = omega (arith, l, f)
+byte_other (Some x) b l e f = eqb-false x b e f
 
 -- ---- a digit behind a number
 

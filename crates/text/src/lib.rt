@@ -94,9 +94,8 @@ pub fn skip(text: &[u8], at: usize, s: &[u8]) -> Result<usize, Wrong>
     ensures { result ≡ skipped s.now text.now at }
 {
     for (i, b) in s.iter().enumerate() {
-        let place = at + i;
-        if text.len() <= place || text[place] != *b {
-            return Err(Wrong { place });
+        if text.get(at + i).copied() != Some(*b) {
+            return Err(Wrong { place: at + i });
         }
     }
     Ok(at + s.len())

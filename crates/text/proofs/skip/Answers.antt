@@ -1,24 +1,25 @@
-use mathlib.Core.Path.{◌≡◌, sym, ◌∙◌}
+use Rattle.std.proofs.Common.{◌≡◌, sym, ◌∙◌, ap, ℕ}
 use native.Mathlib.Omega.{arith}
 use native.Mathlib.Nat.{add_assoc}
+use borrow.Author.Tests.{not-true, not-false}
 use lib.ListN.{length}
 use Rattle.text.specs.Read.{skipped}
-use Rattle.text.proofs.Readers.{matched_end, matched_short, matched_other, matched_more}
+use Rattle.text.proofs.Readers.{matched_end, matched_wrong, matched_next, byte_of, byte_of_is, byte_same, byte_other}
 use Rattle.text.proofs.skip.Goals as goal
-use Rattle.text.proofs.skip.Goals.{then-text-place-via-then-text-place, then-text-place-via-else-text-place+then-text-place-2}
 
-pub returns-then-text-place : goal.returns-then-text-place
+pub returns-then-ne : goal.returns-then-ne
 unfolding skipped
-returns-then-text-place c =
-    elim c.then-text-place.branch [
-      | then-text-place-via-then-text-place w ↦ sym (c.loop-i.invariant.1 ∙ matched_short _ _ _ _ c.loop-i-test.true w.if-text-place.true)
-      | then-text-place-via-else-text-place+then-text-place-2 w ↦
-          sym (c.loop-i.invariant.1 ∙ matched_other _ _ _ _ c.loop-i-test.true w.if-text-place.false w.if-text-place-2.true)
-    ]
+returns-then-ne c =
+    let small = c.type_inv.s c.loop-i.i in
+    let is = ap byte_of c.copied.ensures ∙ byte_of_is c.get.result ∙ c.get.ensures.lookup.4 (omega arith) 256 in
+    sym (c.loop-i.invariant.1 ∙ matched_wrong _ _ _ _ c.loop-i-test.true (omega (arith, small)) (λ e. byte_other _ _ (omega (arith, small)) (not-true _ (sym c.ne.ensures ∙ c.if-ne.true)) (is ∙ e)))
 
 pub loop-i-preserved : goal.loop-i-preserved
 loop-i-preserved c =
-    (omega arith, rw (← (add_assoc c.args.at c.loop-i.i 1)) (c.loop-i.invariant.1 ∙ matched_more _ _ _ _ c.loop-i-test.true c.if-text-place.false c.if-text-place-2.false))
+    let small = c.type_inv.s c.loop-i.i in
+    let is = ap byte_of c.copied.ensures ∙ byte_of_is c.get.result ∙ c.get.ensures.lookup.4 (omega arith) 256 in
+    let next = matched_next _ _ _ _ c.loop-i-test.true (omega (arith, small)) (sym is ∙ byte_same _ _ (not-false _ (sym c.ne.ensures ∙ c.if-ne.false))) in
+    (omega (arith, next.0), rw (← (add_assoc c.args.at c.loop-i.i 1)) (c.loop-i.invariant.1 ∙ next.1))
 
 pub returns : goal.returns
 unfolding skipped

@@ -1,24 +1,19 @@
+-- `form::Reader::expect` meets its contract, by that of `text::skip`.
 use Rattle.std.proofs.Common.{refl, sym, ◌∙◌, arith}
-use borrow.Author.Tests.{not-true, not-false}
+use Rattle.std.proofs.lemmas.Result.{err_from_is_err_and}
 use Rattle.form.specs.Cursors.{runs}
-use Rattle.form.proofs.Steps.{in_word_more, in_word_miss, in_word_end}
-use Rattle.form.proofs.Bytes.{next_same, next_other}
+use Rattle.form.proofs.Words.{word_passed, word_departs, skipped_within}
 use Rattle.form.proofs.Reader.expect.Goals as goal
 
-pub returns-then-ne : goal.returns-then-ne
+pub returns-in_err-self : goal.returns-in_err-self
 unfolding runs
-returns-then-ne c =
-    record {
-      same = refl;
-      goes = in_word_miss _ _ _ _ c.loop-j.invariant c.loop-j-test.true
-          (λ e. next_other _ _ (omega (arith, c.type_inv.word c.loop-j.j)) (not-true _ (sym c.ne.ensures ∙ c.if-ne.true)) (c.byte_at.ensures.there ∙ e));
-    }
+returns-in_err-self c =
+    let p = err_from_is_err_and c.from_residual.result c.from_residual.ensures.1 in
+    rw (p.1, p.2) (record { same = refl; goes = λ F. word_departs c.args.word.now _ _ (λ k. omega (arith, c.type_inv.word k)) F _ (sym c.skip.ensures ∙ c.in_err-self.was) })
 
-pub loop-j-preserved : goal.loop-j-preserved
-loop-j-preserved c =
-    in_word_more _ _ _ _ c.loop-j.invariant c.loop-j-test.true (sym c.byte_at.ensures.there ∙ next_same _ _ (not-false _ (sym c.ne.ensures ∙ c.if-ne.false)))
-    (omega (arith, c.type_inv.word c.loop-j.j))
+pub invariant_of-self : goal.invariant_of-self
+invariant_of-self c = record { within = skipped_within c.args.word.now _ _ _ c.args.self.now.within (sym c.skip.ensures ∙ c.in_ok-self.was) }
 
 pub returns : goal.returns
 unfolding runs
-returns c = record { same = refl; goes = in_word_end _ _ _ _ c.loop-j.invariant c.loop-j-test.false c.loop-j.auto.j-end }
+returns c = record { same = refl; goes = λ F. word_passed c.args.word.now _ _ (λ k. omega (arith, c.type_inv.word k)) F _ (sym c.skip.ensures ∙ c.in_ok-self.was) }

@@ -1,5 +1,6 @@
 use Rattle.std.proofs.Common.{refl, sym, ap, ◌∙◌}
 use Rattle.std.proofs.lemmas.Result.{err_from_is_err_and}
+use Rattle.text.specs.declared.Wrong.{Wrong}
 use Rattle.form.specs.Form.{departs}
 use Rattle.form.specs.Cursors.{runs}
 use Rattle.form.proofs.Steps.{in_number_more, in_number_miss, in_number_end}
@@ -15,7 +16,7 @@ returns-in_err-v c =
       same = refl;
       bounded = tt;
       goes = λ next. in_number_miss _ _ _ _ _ _ _ _ _ _ c.loop-i.invariant c.loop-i-test.true c.args.n.binary_up c.byte_at.ensures.there (rw c.in_err-v.ensures.ok_part at c.grown.ensures) next
-          ∙ ap departs (place_is _ _ _ c.in_err-v.ensures.value c.in_err-v.ensures.ok_part ∙ sym p.2);
+          ∙ ap (λ (x : Wrong). departs x.place) (place_is _ _ _ c.in_err-v.ensures.value c.in_err-v.ensures.ok_part ∙ sym p.2);
     }
 
 pub loop-i-preserved : goal.loop-i-preserved
