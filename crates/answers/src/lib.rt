@@ -43,7 +43,7 @@ impl Told for bool {
     ghost told = { bool_words };
 
     fn told(self) -> [u64; 3] {
-        if self { [0, 1, 0] } else { [0, 0, 0] }
+        [0, u64::from(self), 0]
     }
 }
 

@@ -22,10 +22,7 @@ fn named(word: u32) -> Option<Cell>
     ensures { result ≡ led (low_field word) }
 {
     let cell = games::low_field(word);
-    if cell == games::NO_CELL {
-        return None;
-    }
-    Some(Cell(cell))
+    (cell != games::NO_CELL).then_some(Cell(cell))
 }
 
 // The cell with its action where there is one, else 14.
