@@ -72,8 +72,8 @@ verdict_tells = record { one = one; done_first = apart } where
 pub length_tells : Telling length_words
 length_tells = record { one = λ x y h. cc; done_first = λ x e h. let z : ◌≡◌ {A = ℕ} 0 2 = cc in omega arith }
 
-pub extent_tells : Telling extent_words
-extent_tells = record { one = one; done_first = λ x e h. let z : ◌≡◌ {A = ℕ} 0 2 = cc in omega arith } where
+pub read_tells : Telling extent_words
+read_tells = record { one = one; done_first = λ x e h. let z : ◌≡◌ {A = ℕ} 0 2 = cc in omega arith } where
   one : (x y : Extent) → extent_words x ≡ extent_words y → x ≡ y
   one x y h =
       let words : x.words ≡ y.words = cc in
@@ -82,7 +82,7 @@ extent_tells = record { one = one; done_first = λ x e h. let z : ◌≡◌ {A =
 
 -- as of the trimmer's answers
 pub same_trim : (r s : TrimAnswer) → trim_words r ≡ trim_words s → r ≡ s
-same_trim = same_answer extent_words extent_tells
+same_trim = same_answer extent_words read_tells
 
 -- ---- join, meet and write
 

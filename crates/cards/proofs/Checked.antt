@@ -58,6 +58,17 @@ named_told k m j x d y kl ml jl dl e f =
     rw (le-ltb d m (omega arith), ne_eqb d no_cell (λ h. omega arith), ne_eqb x (word k (low_field x) j 0) other))
     (lt_or_le d low_values)
 
+-- four in a row, by the place of the first
+pub four_told : (w : List ℕ) (k at j m : ℕ) → m ≡ card_cells w
+    → (cell_named k m j (get_or w (at + j) 0) && cell_named k m (j + 1) (get_or w (at + j + 1) 0)
+    && cell_named k m (j + 2) (get_or w (at + j + 2) 0) && cell_named k m (j + 3) (get_or w (at + j + 3) 0))
+    ≡ (names w k at j && names w k at (j + 1) && names w k at (j + 2) && names w k at (j + 3))
+four_told w k at j m e =
+    let one : at + j + 1 ≡ at + (j + 1) = omega arith in
+    let two : at + j + 2 ≡ at + (j + 2) = omega arith in
+    let three : at + j + 3 ≡ at + (j + 3) = omega arith in
+    rw (e, one, two, three)
+
 -- a cell's own word by how far it is above the frame of its kind: its set and its action, more than any where it has another frame
 pub cell_told : (a x d y : ℕ) → a < action_values → d < 2 ^ 32 → y ≡ word kind_cell 0 0 0 → (d + y) % 2 ^ 32 ≡ x
     → (ltb (d % action_at) max_sets && ltb d (a * action_at)) ≡ cell_fits a x
