@@ -1,8 +1,10 @@
 -- What the functions of the judge of cards promise each other.
 -- Assumes nothing.
-use Rattle.std.specs.Prelude.{◌≡◌, Bool, eqb, List, ℕ, ◌+◌, length, Option, None, Some, IfSome}
+use Rattle.std.specs.Prelude.{◌≡◌, Bool, eqb, List, ℕ, ◌+◌, length, Option, None, Some}
+use Rattle.std.specs.Option.{ForSome}
 use Rattle.sets.specs.Mask.{subset}
 use Rattle.games.specs.Game.{Game}
+use Rattle.games.specs.Step.{post}
 use Rattle.games.specs.Automaton.{Automaton}
 use Rattle.games.specs.declared.Cell.{Cell}
 use Rattle.cards.specs.Card.{cell_place, card_observations}
@@ -17,7 +19,11 @@ lies_in A s (Some c) = subset s (A.set c.0)
 
 -- where there are half tables, they are those of the table's moves
 abbrev pub Halves : (table : List ℕ) → Option Moves → Type 0
-Halves w moves = IfSome moves (λ m. m.accepted.table.words.now ≡ w)
+Halves w moves = ForSome moves (λ m. m.accepted.table.words.now ≡ w)
+
+-- u has the successors of a cell's set under its action
+abbrev pub Successors : Game → Automaton → (cell u : ℕ) → Type 0
+Successors g A c u = u ≡ post g (A.set c) (A.action c)
 
 -- the words below place p hold
 abbrev pub HoldsBelow : Game → (card : List ℕ) → (p : ℕ) → Type 0

@@ -107,7 +107,8 @@ fn answer_with(
     }
 }
 
-// The successors of every set at hand, then the search.
+// The successors of every set at hand, then the search. The two rooms of the moves stand here, as in the judge's `judge_many`: a maker
+// cannot lend arrays of its own, and a struct of both would be copied out, 4 KiB.
 fn decide(accepted: Accepted, work: &mut [u32], card: &mut [u32]) -> Result<Verdict, Refusal>
     requires { length work.old ≡ work_words (game accepted.table.words.now).states }
     ensures { leaves result card.new

@@ -10,7 +10,7 @@ returns-then-held-observations c =
 
 pub judge_parts-requires : goal.judge_parts-requires
 judge_parts-requires c =
-    (tt, firsts_pass _ _ c.args.pair.card.checked _ c.firsts_hold-held.ensures (omega (arith, c.if-held-observations.false, c.observations.ensures)))
+    firsts_pass _ _ c.args.pair.card.checked _ c.firsts_hold-held.ensures (omega (arith, c.if-held-observations.false, c.observations.ensures))
 
 pub judge_many-requires : goal.judge_many-requires
 judge_many-requires c = firsts_pass _ _ c.args.pair.card.checked _ c.firsts_hold-held.ensures (omega (arith, c.if-held-observations.false, c.observations.ensures))
