@@ -55,6 +55,7 @@ fn put_line(out: &mut Writer, word: &[u8], fields: &[Field])
 }
 
 // The line of a yes: the settling count and the cells.
+#[tactic(auto, unfolding(crate::specs::Lines::yes_line))]
 pub fn put_yes(out: &mut Writer, settled: u32, cells: u32)
     requires { out.old.at + line_bytes < room }
     ensures { Puts (yes_line settled cells) out.old out.new × (out.new.at ≤ out.old.at + line_bytes) }
@@ -67,6 +68,7 @@ pub fn put_yes(out: &mut Writer, settled: u32, cells: u32)
 }
 
 // The line of a no: the round number.
+#[tactic(auto, unfolding(crate::specs::Lines::no_line))]
 pub fn put_no(out: &mut Writer, round: u32)
     requires { out.old.at + line_bytes < room }
     ensures { Puts (no_line round) out.old out.new × (out.new.at ≤ out.old.at + line_bytes) }
@@ -75,6 +77,7 @@ pub fn put_no(out: &mut Writer, round: u32)
 }
 
 // The line of a refusal: its number and place.
+#[tactic(auto, unfolding(crate::specs::Lines::refused_line))]
 pub fn put_refused(out: &mut Writer, refusal: Refusal)
     requires { out.old.at + line_bytes < room }
     ensures { Puts (refused_line (number_of refusal.reason) refusal.place) out.old out.new
@@ -92,6 +95,7 @@ pub fn put_refused(out: &mut Writer, refusal: Refusal)
 }
 
 // The line of an observation's first cell.
+#[tactic(auto, using(crate::proofs::Texts::entered_field), unfolding(crate::specs::Lines::first_line))]
 fn put_first(out: &mut Writer, card: Card, first: Observation)
     requires { (first.0 < card_observations card.words.now) × (out.old.at + line_bytes < room) }
     ensures { Puts (first_text card.entry.words.now first.0) out.old out.new
@@ -106,6 +110,7 @@ fn put_first(out: &mut Writer, card: Card, first: Observation)
 }
 
 // A cell's own line: its set and action.
+#[tactic(auto, unfolding(crate::specs::Lines::cell_line))]
 fn put_own(out: &mut Writer, card: Card, cell: Cell)
     requires { (cell.0 < card_cells card.words.now) × (out.old.at + line_bytes < room) }
     ensures { Puts (own_text card.entry.words.now cell.0) out.old out.new
@@ -122,6 +127,7 @@ fn put_own(out: &mut Writer, card: Card, cell: Cell)
 }
 
 // The line of the cell that an observation leads to.
+#[tactic(auto, using(crate::proofs::Texts::entered_field), unfolding(crate::specs::Lines::next_line))]
 fn put_next(out: &mut Writer, card: Card, from: Cell, seen: Observation)
     requires { (from.0 < card_cells card.words.now) × (seen.0 < card_observations card.words.now) × (out.old.at + line_bytes < room) }
     ensures { Puts (next_text card.entry.words.now from.0 seen.0) out.old out.new

@@ -17,7 +17,7 @@ use Rattle.solver.specs.Solve.{Buffers, buffers, solved, written}
 use Rattle.solver.specs.Solve.{Answer, says_yes, says_no}
 use Rattle.text.specs.Puts.{Puts}
 use Rattle.text.specs.declared.Writer.{Writer}
-use Rattle.text.proofs.Writing.{wrote_front}
+use Rattle.printout.proofs.Texts.{front_taken}
 use Rattle.printout.specs.Lines.{yes_line, card_text, no_line, refused_line, answer_text, unread_line}
 use Rattle.words.specs.Bytes.{words_of}
 use Rattle.solve.specs.Program.{input_bytes, buffer_words, blank, card_in, table_text, program_text, reply_to, reply_text}
@@ -33,10 +33,7 @@ puts_same {s} {t} {w} {v} h p = subst (λ (x : List ℕ). Puts x w v) h p
 
 -- what a writer that began at the front, with room for its text, has written
 pub text_is : {s : List ℕ} {w v : Writer} → w.at ≡ 0 → Puts s w v → v.at ≤ length w.out.now → take v.at v.out.now ≡ s
-text_is {s} {w} {v} z p l =
-    let long : v.at ≡ length s = omega (arith, p.wrote.next, z) in
-    let e : v.out.now ≡ s ++ drop (length s) w.out.now = wrote_front (rw z at p.wrote) (omega arith) in
-    rw (long, e) (take-append_seam s (drop (length s) w.out.now))
+text_is z p l = front_taken (rw z at p.wrote) l
 
 -- ---- a table, by solve's answer r, which left d in the card room
 
