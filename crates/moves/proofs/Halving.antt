@@ -5,13 +5,13 @@ use mathlib.Core.Logic.{◌⊎◌, inl, inr, ⊎_elim}
 use mathlib.Core.Bool.{Bool, true, false, cond, ◌||◌}
 use mathlib.Core.List.{List, ◌++◌}
 use Prim.Native.Nat.{ℕ, zero, suc, ◌+◌, ◌-◌, ◌*◌, ◌/◌, ◌%◌, ◌^◌, ◌≤◌, ◌<◌, min}
-use native.Mathlib.Nat.{mod-le, le_refl, le_step, le_trans, not-suc-le-zero, pow-suc, add-sub_cancel_left}
+use native.Mathlib.Nat.{mod-le, le_refl, le_step, le_trans, pow-suc, add-sub_cancel_left}
 use native.Mathlib.Numerals.{add-one}
 use native.Mathlib.Omega.{arith}
 use lib.Dec.{eqb, ltb}
-use lib.ListN.{length, get_or, take, drop, set, length-set, get_or-append}
+use lib.ListN.{length, get_or, take, set, length-set, get_or-append}
 use lib.Pow.{pow_mono, shr-shr, field, mod-mod-pow, shr_lt}
-use lib.Seq.{get_or-set_same, get_or-set_other, length-take-le, get_or-take, get_or-append-add}
+use lib.Seq.{get_or-set_same, length-take-le, get_or-take, get_or-append-add}
 use borrow.Rule.Slice.PartMut.{put_mid, post_of, same_len_mid, mid_len}
 use borrow.Author.Count.{below_more}
 use borrow.Author.Tests.{ltb-true, ltb-false, lt-ltb, le-ltb}
@@ -29,7 +29,7 @@ use Rattle.tables.proofs.Bounds.{few_states}
 use Rattle.std.specs.Prelude.{Option, Some, None, unwrap_or}
 use Rattle.std.specs.Bool.{then_some}
 use Rattle.walk.proofs.Moves.{moved_enabled, moved_blocked}
-use Rattle.moves.specs.Halves.{posted, half_states, half_sets, side_words, blocked_mark, mark, Doubled, Halved, Sided, Tabled}
+use Rattle.moves.specs.Halves.{posted, half_states, half_sets, blocked_mark, mark, Doubled, Halved, Sided, Tabled}
 use Rattle.std.specs.Prelude.{Ok}
 
 -- the union sees only the members below the bound
@@ -46,25 +46,6 @@ pub record Doubling (size w x : ℕ) (d e : List ℕ) : Type 0 where
   pub same : length e ≡ length d
   pub front : (y : ℕ) → y < size → get_or e y 0 ≡ get_or d y 0
   pub behind : (y : ℕ) → y < x → get_or e (size + y) 0 ≡ union (get_or d y 0) w
-
-module _ (size w : ℕ) (d : List ℕ) where
-  pub doubling_none : Doubling size w 0 d d
-  doubling_none =
-      record { within = omega arith; same = refl; front = λ y l. refl; behind = λ y l. absurd (not-suc-le-zero l) }
-
-  pub doubling_more : (x v : ℕ) (e : List ℕ) → x < size → size + size ≤ length d → v ≡ union (get_or e x 0) w → Doubling size w x d e → Doubling size w (x + 1) d (set e (size + x) v)
-  doubling_more x v e l r is k =
-      record {
-        within = omega arith;
-        same = length-set e (size + x) v ∙ k.same;
-        front = λ y b. get_or-set_other e (size + x) y v 0 (λ h. omega arith) ∙ k.front y b;
-        behind = below_more (λ y. get_or (set e (size + x) v) (size + y) 0 ≡ union (get_or d y 0) w) x
-            (λ y b. get_or-set_other e (size + x) (size + y) v 0 (λ h. omega arith) ∙ k.behind y b)
-            (get_or-set_same e (size + x) v 0 (omega (arith, k.same)) ∙ is ∙ ap (λ (z : ℕ). union z w) (k.front x l));
-      }
-
-  pub doubling_end : (x : ℕ) (e : List ℕ) → size ≤ x → Doubling size w x d e → Doubled size w d e
-  doubling_end x e h k = record { same = k.same; front = k.front; behind = λ y l. k.behind y (omega arith) }
 
 -- ---- one half: after i states their sets are known; state i leads to F i
 
@@ -130,11 +111,6 @@ module _ (F : ℕ → ℕ) (count : ℕ) where
             sum_is h f = omega (arith, k.power)
 
   module _ (i size : ℕ) (half : List ℕ) (k : Halving F count i size half) where
-    pub halving_end : count ≤ i → (x : ℕ) → x < 2 ^ count → get_or half x 0 ≡ union_over count x F
-    halving_end h x l =
-        let e : i ≡ count = omega (arith, k.within) in
-        k.at x (subst (λ (n : ℕ). x < n) (sym (k.power ∙ ap (λ (n : ℕ). 2 ^ n) e)) l) ∙ ap (λ (n : ℕ). union_over n x F) e
-
     -- the doubled part fits
     pub halving_room : i < count → count ≤ half_states → size + size ≤ length half
     halving_room l b =
@@ -258,9 +234,6 @@ put_inside a k h xs ys l b =
     ∙ get_or-append ys (post_of a k xs) 0 h l
 
 module _ (g : Game) (first count : ℕ) where
-  pub sided_none : (side : List ℕ) → length side ≡ side_words → Sided g first count 0 side
-  sided_none side h = record { size = h; at = λ a h l b. absurd (not-suc-le-zero l) }
-
   pub sided_more : (a : ℕ) (side e : List ℕ) → a < max_actions → count ≤ half_states → Sided g first count a side → Halved g a first count e → Sided g first count (a + 1) (put_mid (a * half_sets) (a * half_sets + half_sets - a * half_sets) side e)
   sided_more a side e l few w h =
       let at = a * half_sets in
@@ -283,10 +256,6 @@ pub high_small : (w : List ℕ) → checked w ≡ Ok tt → (s : ℕ) → s < 2 
 high_small w h s l =
     let p = pow_mono {i = (game w).states} {j = max_states} (few_states w (sized w h)) in
     omega arith
-
--- the part of an action that is lent
-pub side_length : (side : List ℕ) (a : ℕ) → length side ≡ side_words → a < max_actions → length (take (a * half_sets + half_sets - a * half_sets) (drop (a * half_sets) side)) ≡ half_sets
-side_length side a h l = mid_len (a * half_sets) (a * half_sets + half_sets) side (omega arith) ∙ add-sub_cancel_left (a * half_sets) half_sets
 
 -- both sides together
 pub sides_tabled : (g : Game) (k : ℕ) (low high : List ℕ) → g.states ≤ max_states → k ≡ min g.states half_states → Sided g 0 k g.actions low → Sided g k (g.states - k) g.actions high → Tabled g low high

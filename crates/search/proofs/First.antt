@@ -8,8 +8,8 @@ use native.Mathlib.Nat.{le_refl, lt_of_lt_of_le}
 use native.Mathlib.Omega.{arith}
 use lib.ListN.{length, get_or, set, take}
 use lib.Seq.{get_or-set_same, get_or-set_other, get_or-take}
-use lib.Pow.{pow_pos, pow_mono, pow-lt}
-use borrow.Author.Count.{below_none, below_more}
+use lib.Pow.{pow_mono, pow-lt}
+use borrow.Author.Count.{below_more}
 use borrow.Author.Tests.{eq-eqb, not-true}
 use Rattle.sets.specs.Mask.{member, union, common}
 use Rattle.sets.specs.Family.{holds}
@@ -23,9 +23,6 @@ use Rattle.games.proofs.Steps.{safe_at, enabled_at_is, enabled_intro, meets_intr
 use Rattle.search.specs.Stages.{safely_enabled, EnabledStates}
 
 module _ (g : Game) (a : ℕ) where
-  pub states_none : EnabledStates g a 0 0
-  states_none = record { below = pow_pos 0; at = below_none (λ j. member 0 j ≡ safely_enabled g a j) }
-
   module _ (i mask : ℕ) (w : EnabledStates g a i mask) where
     narrow : mask < 2 ^ (i + 1)
     narrow = lt_of_lt_of_le w.below (pow_mono (omega arith))
@@ -52,9 +49,6 @@ module _ (g : Game) (a : ℕ) where
 -- the first places of the list are the states of the actions below the bound
 abbrev pub ByAction : Game → ℕ → List ℕ → Type 0
 ByAction g bound masks = (a : ℕ) → a < bound → EnabledStates g a g.states (get_or masks a 0)
-
-pub actions_none : (g : Game) (masks : List ℕ) → ByAction g 0 masks
-actions_none g masks = below_none (λ a. EnabledStates g a g.states (get_or masks a 0))
 
 pub actions_more : (g : Game) (masks : List ℕ) (a mask : ℕ) → a < length masks → EnabledStates g a g.states mask → ByAction g a masks → ByAction g (a + 1) (set masks a mask)
 actions_more g masks a mask l w h =

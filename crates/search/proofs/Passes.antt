@@ -18,9 +18,9 @@ use Rattle.std.proofs.lemmas.Slice.Eq.{slice_eq-Decides}
 use Rattle.std.proofs.lemmas.Bool.Decides.{Decides-eqb}
 use borrow.Author.Tests.{eqb-true, eqb-false, not-true}
 use Rattle.sets.specs.Mask.{member, common, union, subset}
-use Rattle.sets.proofs.Logic.{decided, clash, refuted, affirmed, same_truth, and_left, and_right, and_intro, or_cases, or_false_left, or_false_right, false_not}
+use Rattle.sets.proofs.Logic.{decided, clash, refuted, same_truth, and_left, and_right, and_intro, or_cases, or_false_left, or_false_right, false_not}
 use Rattle.sets.proofs.Bounded.{any_found}
-use Rattle.sets.proofs.Mask.{member_zero, member_and, member_or, member_below, member_rest, ext, subset_parts, subset_refl, subset_le, subset_add, common_lt, member_sub_other, sub_less}
+use Rattle.sets.proofs.Mask.{member_zero, member_and, member_or, member_below, member_rest, ext, subset_parts, subset_refl, subset_le, subset_add, common_lt, member_sub_other}
 use Rattle.families.specs.Bits.{lane_sets, high_states, has, has_with, larger_has, Bits}
 use Rattle.families.proofs.Lanes.{has_at, by_lane, lane_there}
 use Rattle.games.specs.Game.{Game}
@@ -65,10 +65,6 @@ highest word l some =
       small = omega (arith, w.1);
       here = ap (member word) e ∙ ap (λ (x : ℕ). eqb (x % 2) 1) (top_bit word j w.2 w.3);
     }
-
--- so it has at most 63 zeros in front
-pub few_zeros : (word : ℕ) → word < 2 ^ 64 → (word ≡ 0 → ⊥) → count_leading_zeros 64 word ≤ 63
-few_zeros word l some = let w = leading_top 64 word (omega (arith, some)) l in omega (arith, w.1)
 
 -- ---- one lane
 
@@ -126,9 +122,6 @@ module _ (g : Game) (bits : List ℕ) (S : Stage g bits) (lane : ℕ) where
                 (refuted (member left t) (λ n. clash (without left below t b l ∙ and_intro n (false_not none)) e));
           }
 
-    pub miss_less : left - 2 ^ h < left
-    miss_less = sub_less left h top.here
-
     pub trying_miss : false ≡ step g (has bits) (lane * lane_sets + h) → Trying g bits lane found (left - 2 ^ h)
     trying_miss f₀ =
         record {
@@ -137,15 +130,6 @@ module _ (g : Game) (bits : List ℕ) (S : Stage g bits) (lane : ℕ) where
           of_family = λ t m. w.of_family t (⊎_elim (λ e. ap (member left) e ∙ top.here) (λ n. sym (member_sub_other left h top.here t n) ∙ m) (same_or t h));
           fails = λ t l m f e. ⊎_elim (λ q. ap (λ (x : ℕ). step g (has bits) (lane * lane_sets + x)) q ∙ sym f₀) (λ n. w.fails t l m f (sym (member_sub_other left h top.here t n) ∙ e)) (same_or t h);
         }
-
-  pub trying_end : (found left : ℕ) → Trying g bits lane found left → left ≡ 0 → Passed g (has bits) lane found
-  trying_end found left w e =
-      record {
-        sound = w.sound;
-        complete = λ t l m.
-            let here : member (get_or bits lane 0) t ≡ true = sym (has_at bits lane t l) ∙ S.falls (lane * lane_sets + t) m.0 m.1 in
-            affirmed (member found t) (λ f. clash m.1 (w.fails t l here f (ap (λ (x : ℕ). member x t) e ∙ member_zero t)));
-      }
 
 -- ---- the lanes, from the highest down
 
@@ -168,9 +152,6 @@ grown_subset lane i t h l =
     (ap₂ subset (place_of_lem lane t l) (place_of_lem (lane + 2 ^ i) t l) ∙ subset_refl t)
 
 module _ (g : Game) (bits : List ℕ) (S : Stage g bits) (next : List ℕ) where
-  pub passing_none : length next ≡ length bits → Passing g bits (length bits) next
-  passing_none e = record { size = e; done = λ m l k. absurd (omega arith) }
-
   -- what larger lanes have meets the step in this one
   pub covered_sound : (above lane : ℕ) → above ≡ lane + 1 → Passing g bits above next → (covered : ℕ) → covered < 2 ^ 64 → ((t : ℕ) → t < lane_sets → member covered t ≡ larger_has next lane t) → Sound g (has bits) lane covered
   covered_sound above lane is-next w covered b is t m =
