@@ -87,7 +87,7 @@ impl Row<'_> {
     }
 
     // How many words are right before one that is wrong, where those below a number are; all, where none is wrong. It is a count and no
-    // `Option`: the count is the place of the refusal.
+    // `Option`: it goes on from the count of the fours, and one definition (`FirstWrong`) says both ends.
     fn right_from(self, from: u32) -> u32
         requires { Pass (names self.draft.words.now (kind_number self.kind) self.at) (card_observations self.draft.words.now) from }
         ensures { RightNames self.entry.draft.words.now (kind_number self.entry.kind) self.entry.at
