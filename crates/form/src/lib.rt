@@ -26,6 +26,31 @@ pub struct Range {
     pub most: u32,
 }
 
+impl Range {
+    ghost use Rattle.std.specs.Prelude.{◌≡◌, ◌≤◌, ◌↔◌, IsTrue};
+
+    // The numbers from one to another.
+    pub fn of(least: u32, most: u32) -> Range
+        ensures { (result.least ≡ least) × (result.most ≡ most) }
+    {
+        Range { least, most }
+    }
+
+    // A number alone.
+    pub fn only(x: u32) -> Range
+        ensures { (result.least ≡ x) × (result.most ≡ x) }
+    {
+        Range::of(x, x)
+    }
+
+    // Whether a number lies in the range.
+    pub fn holds(self, v: u32) -> bool
+        ensures { IsTrue result ↔ ((self.least ≤ v) × (v ≤ self.most)) }
+    {
+        (self.least <= v) & (v <= self.most)
+    }
+}
+
 // A place in a text: what comes next. Where reading is refused, the error is the place alone: why is always that the text departs from
 // its form.
 #[derive(Clone, Copy)]
@@ -107,7 +132,7 @@ impl<'t> Reader<'t> {
         ensures { Gives self.old self.new n range result }
     {
         if let Some(v) = value_at(self.text, self.at, n) {
-            if (range.least <= v) & (v <= range.most) {
+            if range.holds(v) {
                 self.at += n.width as usize;
                 return Ok(v);
             }

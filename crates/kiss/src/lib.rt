@@ -14,8 +14,8 @@ ghost use Rattle.kiss.specs.Idle.{idle, cell_found};
 use cards::Card;
 use games::{Cell, Observation};
 
-// A state and an observation. A state is a number, 0 for the reset state and 1 + c for cell c, and no `Option<Cell>`: states are ordered with
-// the reset state first, as in the text. The observation is a number too, for the lowest free slot may be one past the last.
+// A state and an observation. A state is a number, 0 for the reset state and 1 + c for cell c, and no `Option<Cell>`: the least state of the
+// next line is computed by + 1. The observation is a number too, for the lowest free slot may be one past the last.
 #[derive(Clone, Copy)]
 pub struct Slot {
     pub state: u32,
@@ -28,13 +28,11 @@ pub fn bits(n: u32) -> u32
     requires { n ≤ max_actions }
     ensures { result ≡ fewest_bits n }
 {
-    if n <= 2 {
-        return 1;
+    match n {
+        0..=2 => 1,
+        3..=4 => 2,
+        _ => 3,
     }
-    if n <= 4 {
-        return 2;
-    }
-    3
 }
 
 // Whether no first word names a cell.
