@@ -40,16 +40,16 @@ from_start c e = ap (reads profile (byte_at c.text.now)) (sym e)
 abbrev from_head : ℕ → ℕ → ℕ → Form
 from_head a o s = lines a o (s * o) (blank (s - 1)) 0 0
 
-pub head_reading : (c r : Reader) (e : Result Head Wrong) → c.at ≡ 0 → HeadRead c r e → reading c.text.now ≡ behind e (λ x. runs (from_head x.actions x.observations x.states) r)
+pub head_reading : (c r : Reader) (e : Result Head Wrong) → c.at ≡ 0 → HeadRead c r e → reading c.text.now ≡ behind e (λ x. runs (from_head x.counts.actions x.counts.observations x.states) r)
 unfolding profile
 head_reading c r e at g = from_start c at ∙ g.goes from_head
 
 -- the sizes are those of the head
-module _ (c r : Reader) (h : Head) (g : HeadRead c r (Ok h)) (at : c.at ≡ 0) (z : Sizes) (ea : z.actions ≡ h.actions) (eo : z.observations ≡ h.observations) (ec : z.cells ≡ h.states - 1) where
-  same_lines : from_head h.actions h.observations h.states ≡ all_lines z
+module _ (c r : Reader) (h : Head) (g : HeadRead c r (Ok h)) (at : c.at ≡ 0) (z : Sizes) (ea : z.actions ≡ h.counts.actions) (eo : z.observations ≡ h.counts.observations) (ec : z.cells ≡ h.states - 1) where
+  same_lines : from_head h.counts.actions h.counts.observations h.states ≡ all_lines z
   same_lines =
-      let es : h.states ≡ z.cells + 1 = omega (arith, g.limited.some_state) in
-      ap (λ (x : ℕ). lines x h.observations (h.states * h.observations) (blank (h.states - 1)) 0 0) (sym ea)
+      let es : h.states ≡ z.cells + 1 = omega (arith, g.bounded.some_state) in
+      ap (λ (x : ℕ). lines x h.counts.observations (h.states * h.counts.observations) (blank (h.states - 1)) 0 0) (sym ea)
       ∙ ap (λ (x : ℕ). lines z.actions x (h.states * x) (blank (h.states - 1)) 0 0) (sym eo)
       ∙ ap₂ (λ (x y : ℕ). lines z.actions z.observations (x * z.observations) (blank y) 0 0) es (sym ec)
 

@@ -230,25 +230,25 @@ module _ (z : Sizes) (start : Reader) where
       in_lines_stop r p g = record { held = in_lines_held; goes = one_line ∙ g.goes B i.says following }
 
       pub in_lines_more : (r : Reader) (x : Line) → LineRead c r z free w (Ok x) → (v : List ℕ)
-          → v ≡ stored z.observations x.slot.state x.slot.observation x.entry.cell x.entry.output w → (left : ℕ) → left ≡ k - 1
-          → InLines z start r left (slot_after x) (with_line B x.slot.state x.slot.observation x.entry.cell x.entry.output) v
+          → v ≡ stored z.observations x.slot.state x.slot.observation x.entered.cell.0 x.entered.action.0 w → (left : ℕ) → left ≡ k - 1
+          → InLines z start r left (slot_after x) (with_line B x.slot.state x.slot.observation x.entered.cell.0 x.entered.action.0) v
       in_lines_more r x g v e left one =
           let a = z.actions in
           let o = z.observations in
           let b = g.bounded in
           let same = i.says.size in
-          let inside : x.entry.cell < B.size = omega (arith, b.entry.cell) in
+          let inside : x.entered.cell.0 < B.size = omega (arith, b.entry.cell) in
           record {
             says = record {
-              size = line_size B x.slot.state x.slot.observation x.entry.cell x.entry.output ∙ same;
-              fitting = fitting_line B x.slot.state x.slot.observation x.entry.cell x.entry.output a o i.says.fitting inside b.entry.output;
+              size = line_size B x.slot.state x.slot.observation x.entered.cell.0 x.entered.action.0 ∙ same;
+              fitting = fitting_line B x.slot.state x.slot.observation x.entered.cell.0 x.entered.action.0 a o i.says.fitting inside b.entry.output;
               words =
-                  e ∙ ap (stored o x.slot.state x.slot.observation x.entry.cell x.entry.output) i.says.words
-                  ∙ stored_line B a o x.slot.state x.slot.observation x.entry.cell x.entry.output (omega (arith, b.slot.state)) b.slot.observation inside;
+                  e ∙ ap (stored o x.slot.state x.slot.observation x.entered.cell.0 x.entered.action.0) i.says.words
+                  ∙ stored_line B a o x.slot.state x.slot.observation x.entered.cell.0 x.entered.action.0 (omega (arith, b.slot.state)) b.slot.observation inside;
             };
             state = b.slot.state;
             observation = omega (arith, b.slot.observation);
             goes =
                 one_line ∙ g.goes B i.says following
-                ∙ ap (λ (n : ℕ). runs (lines a o n (with_line B x.slot.state x.slot.observation x.entry.cell x.entry.output) x.slot.state (x.slot.observation + 1)) r) (sym one);
+                ∙ ap (λ (n : ℕ). runs (lines a o n (with_line B x.slot.state x.slot.observation x.entered.cell.0 x.entered.action.0) x.slot.state (x.slot.observation + 1)) r) (sym one);
           }

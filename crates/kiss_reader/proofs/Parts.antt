@@ -32,7 +32,7 @@ use Rattle.kiss.specs.Text.{bits}
 use Rattle.kiss.specs.Profile.{state_from, end_rest, end, head}
 use Rattle.kiss.proofs.Widths.{bits_enough, bits_few}
 use Rattle.kiss_reader.specs.declared.Head.{Head}
-use Rattle.kiss_reader.specs.Reading.{Limited, HeadRead}
+use Rattle.kiss_reader.specs.Reading.{counts, widths, states, Limited, HeadRead}
 use Rattle.kiss_reader.specs.Sizing.{Sized}
 use Rattle.kiss_reader.specs.Storing.{slot_kind}
 
@@ -56,11 +56,15 @@ stopped_has vs (b ∷ w) us h = absurd h
 same_three : (a o s b p r : ℕ) → a ∷ o ∷ s ∷ [] ≡ b ∷ p ∷ r ∷ [] → (a ≡ b) × (o ≡ p) × (s ≡ r)
 same_three a o s b p r e = (cc, cc, cc)
 
+pub head_parts : (c : Reader) (next : ℕ → ℕ → ℕ → Form) → runs (head next) c ≡ runs (counts (λ a o. widths (bits o) (bits a) (states (λ s. next a o s)))) c
+unfolding head counts widths states
+head_parts c next = refl
+
 -- a text of the head has numbers within the limits
-head_limited : (w : List ℕ) (r : Head) → Has (head three) w (r.actions ∷ r.observations ∷ r.states ∷ []) → Limited r
+head_limited : (w : List ℕ) (r : Head) → Has (head three) w (r.counts.actions ∷ r.counts.observations ∷ r.states ∷ []) → Limited r
 head_limited w r h =
-    let k = head_out three w (r.actions ∷ r.observations ∷ r.states ∷ []) h in
-    let e = same_three k.actions k.observations (suc k.cells) r.actions r.observations r.states (stopped_has _ k.rest _ k.has) in
+    let k = head_out three w (r.counts.actions ∷ r.counts.observations ∷ r.states ∷ []) h in
+    let e = same_three k.actions k.observations (suc k.cells) r.counts.actions r.counts.observations r.states (stopped_has _ k.rest _ k.has) in
     record {
       some_action = subst (λ (x : ℕ). 1 ≤ x) e.0 k.some_action;
       actions = subst (λ (x : ℕ). x ≤ max_actions) e.0 k.few_actions;
@@ -71,14 +75,14 @@ head_limited w r h =
     }
 
 -- the numbers of a head that was read
-head_within : (c r : Reader) (x : Head) → ((next : ℕ → ℕ → ℕ → Form) → runs (head next) c ≡ runs (next x.actions x.observations x.states) r) → Limited x
+head_within : (c r : Reader) (x : Head) → ((next : ℕ → ℕ → ℕ → Form) → runs (head next) c ≡ runs (next x.counts.actions x.counts.observations x.states) r) → Limited x
 unfolding runs reads
 head_within c r x go =
-    let k = taken (head three) (byte_at c.text.now) c.at (x.actions ∷ x.observations ∷ x.states ∷ []) (go three) in
+    let k = taken (head three) (byte_at c.text.now) c.at (x.counts.actions ∷ x.counts.observations ∷ x.states ∷ []) (go three) in
     head_limited k.text x k.has
 
-pub head_read : (c r : Reader) (x : Head) → r.text.now ≡ c.text.now → ((next : ℕ → ℕ → ℕ → Form) → runs (head next) c ≡ runs (next x.actions x.observations x.states) r) → HeadRead c r (Ok x)
-head_read c r x same go = record { same = same; limited = head_within c r x go; goes = go }
+pub head_read : (c r : Reader) (x : Head) → r.text.now ≡ c.text.now → ((next : ℕ → ℕ → ℕ → Form) → runs (head next) c ≡ runs (next x.counts.actions x.counts.observations x.states) r) → HeadRead c r (Ok x)
+head_read c r x same go = record { same = same; bounded = head_within c r x go; goes = go }
 
 -- ---- the name of a state
 

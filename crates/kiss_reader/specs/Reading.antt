@@ -11,6 +11,7 @@ use Rattle.text.specs.declared.Wrong.{Wrong}
 use Rattle.form.specs.Form.{Form, read, word, number}
 use Rattle.form.specs.Cursors.{runs, behind}
 use Rattle.form.specs.declared.Reader.{Reader}
+use Rattle.form.specs.declared.Numeral.{Numeral}
 use Rattle.form.specs.declared.Range.{Range}
 use Rattle.kiss.specs.Text.{bits, newline}
 use Rattle.kiss.specs.Profile.{blank, state_from, least_output, most_output, least_input, least_state, more, line, end, lines, head}
@@ -18,21 +19,28 @@ use Rattle.kiss_reader.specs.declared.Counts.{Counts}
 use Rattle.kiss_reader.specs.declared.Head.{Head}
 use Rattle.kiss_reader.specs.declared.sizes.Sizes.{Sizes}
 use Rattle.kiss.specs.declared.Slot.{Slot}
-use Rattle.kiss_reader.specs.declared.Entry.{Entry}
+use Rattle.cards.specs.declared.Entered.{Entered}
 use Rattle.kiss_reader.specs.declared.Line.{Line}
 
 -- ---- parts in general
 
--- from c to r a part is read that says nothing
-pub record Passed (c r : Reader) (part : Form → Form) (e : Result (Unit {0}) Wrong) : Type 0 where
+-- from c to r a part is read; what it says is of a kind, and `on` gives what follows by it
+pub record Parted {A K : Type 0} (part : K → Form) (on : K → A → Form) (kind : A → Type 0) (c r : Reader) (e : Result A Wrong) : Type 0 where
   pub same : r.text.now ≡ c.text.now
-  pub goes : (next : Form) → runs (part next) c ≡ behind e (λ _. runs next r)
+  pub bounded : IfOk e kind
+  pub goes : (next : K) → runs (part next) c ≡ behind e (λ x. runs (on next x) r)
 
--- from c to r a part is read that says a number
-pub record Told (c r : Reader) (part : (ℕ → Form) → Form) (most : ℕ) (e : Result ℕ Wrong) : Type 0 where
-  pub same : r.text.now ≡ c.text.now
-  pub bounded : IfOk e (λ v. v ≤ most)
-  pub goes : (next : ℕ → Form) → runs (part next) c ≡ behind e (λ v. runs (next v) r)
+-- a part that says nothing
+abbrev pub Passed : (c r : Reader) (part : Form → Form) (e : Result (Unit {0}) Wrong) → Type 0
+Passed c r part e = Parted part (λ next _. next) (λ _. Unit {0}) c r e
+
+-- a part that says a number
+abbrev pub Told : (c r : Reader) (part : (ℕ → Form) → Form) (most : ℕ) (e : Result ℕ Wrong) → Type 0
+Told c r part most e = Parted part (λ next v. next v) (λ v. v ≤ most) c r e
+
+-- a fixed run of bytes, then a number
+abbrev pub after : List ℕ → Numeral → (least most : ℕ) → (ℕ → Form) → Form
+after w n lo hi next = word w (number n.base n.width lo hi next)
 
 -- ---- the head, in three parts
 
@@ -45,25 +53,24 @@ widths i u next = word (bytes "\n.i ") (number 10 1 i i (λ _. word (bytes "\n.o
 unfoldable pub states : (ℕ → Form) → Form
 states next = word (bytes "\n.s ") (number 10 5 2 (max_cells + 1) (λ s. word (bytes "\n.r reset\n") (next s)))
 
-pub record CountsRead (c r : Reader) (e : Result Counts Wrong) : Type 0 where
-  pub same : r.text.now ≡ c.text.now
-  pub actions : IfOk e (λ x. x.actions ≤ max_actions)
-  pub observations : IfOk e (λ x. x.observations ≤ max_observations)
-  pub goes : (next : ℕ → ℕ → Form) → runs (counts next) c ≡ behind e (λ x. runs (next x.actions x.observations) r)
+-- the counts are within the limits
+abbrev pub Few : Counts → Type 0
+Few x = (x.actions ≤ max_actions) × (x.observations ≤ max_observations)
+
+abbrev pub CountsRead : (c r : Reader) (e : Result Counts Wrong) → Type 0
+CountsRead c r e = Parted counts (λ next x. next x.actions x.observations) Few c r e
 
 -- the numbers of a head that was read are within the limits
 pub record Limited (r : Head) : Type 0 where
-  pub some_action : 1 ≤ r.actions
-  pub actions : r.actions ≤ max_actions
-  pub some_observation : 1 ≤ r.observations
-  pub observations : r.observations ≤ max_observations
+  pub some_action : 1 ≤ r.counts.actions
+  pub actions : r.counts.actions ≤ max_actions
+  pub some_observation : 1 ≤ r.counts.observations
+  pub observations : r.counts.observations ≤ max_observations
   pub some_state : 2 ≤ r.states
   pub states : r.states ≤ max_cells + 1
 
-pub record HeadRead (c r : Reader) (e : Result Head Wrong) : Type 0 where
-  pub same : r.text.now ≡ c.text.now
-  pub limited : IfOk e Limited
-  pub goes : (next : ℕ → ℕ → ℕ → Form) → runs (head next) c ≡ behind e (λ x. runs (next x.actions x.observations x.states) r)
+abbrev pub HeadRead : (c r : Reader) (e : Result Head Wrong) → Type 0
+HeadRead c r e = Parted head (λ next x. next x.counts.actions x.counts.observations x.states) Limited c r e
 
 -- ---- a line, in two parts
 
@@ -85,13 +92,13 @@ pub record SlotIn (z : Sizes) (x : Slot) : Type 0 where
   pub state : x.state ≤ z.cells
   pub observation : x.observation < z.observations
 
-pub record EntryIn (z : Sizes) (x : Entry) : Type 0 where
-  pub cell : x.cell < z.cells
-  pub output : x.output < z.actions
+pub record EntryIn (z : Sizes) (x : Entered) : Type 0 where
+  pub cell : x.cell.0 < z.cells
+  pub output : x.action.0 < z.actions
 
 pub record Bounded (z : Sizes) (x : Line) : Type 0 where
   pub slot : SlotIn z x.slot
-  pub entry : EntryIn z x.entry
+  pub entry : EntryIn z x.entered
 
 -- the words are those of the card of a machine of these sizes
 pub record Says (z : Sizes) (B : Automaton) (w : List ℕ) : Type 0 where
@@ -113,7 +120,7 @@ pub record LineRead (c r : Reader) (z : Sizes) (free : Slot) (w : List ℕ) (e :
   pub bounded : IfOk e (Bounded z)
   pub goes : (B : Automaton) → Says z B w → (next : ℕ → ℕ → ℕ → ℕ → Form)
       → runs (line z.actions z.observations B free.state free.observation next) c
-      ≡ behind e (λ x. runs (next x.slot.state x.slot.observation x.entry.cell x.entry.output) r)
+      ≡ behind e (λ x. runs (next x.slot.state x.slot.observation x.entered.cell.0 x.entered.action.0) r)
 
 -- ---- the lines
 

@@ -11,14 +11,14 @@ ghost use Rattle.cards.specs.Card.{cell_place};
 ghost use Rattle.form.specs.Form.{read, byte_at};
 ghost use Rattle.form.specs.Cursors.{behind};
 ghost use Rattle.kiss.specs.Profile.{blank, state_from, least_input, least_state, reading};
-ghost use Rattle.kiss_reader.specs.Reading.{widths, states, Passed, Told, CountsRead, HeadRead, Held, outputs_by, LineRead, Bounded, comes, EndRead, LinesRead};
+ghost use Rattle.kiss_reader.specs.Reading.{after, widths, states, Passed, Told, CountsRead, HeadRead, Held, outputs_by, LineRead, Bounded, comes, EndRead, LinesRead};
 ghost use Rattle.games.specs.Kinds.{kind_number};
 ghost use Rattle.kiss_reader.specs.Storing.{most_words, blank_row, slot_kind, stored};
 ghost use Rattle.kiss_reader.specs.Read.{of_card, read_into, Reads};
 
 mod sizes;
 
-use cards::{Card, Extent};
+use cards::{Card, Entered, Extent};
 use form::{Numeral, Range, Reader};
 use games::{Action, Cell, Kind, Observation, Reason, Refusal};
 use kiss::Slot;
@@ -34,22 +34,14 @@ pub struct Counts {
 // The numbers of the head.
 #[derive(Clone, Copy)]
 pub struct Head {
-    pub actions: u32,
-    pub observations: u32,
+    pub counts: Counts,
     pub states: u32,
-}
-
-// A cell that is entered and its output.
-#[derive(Clone, Copy)]
-pub struct Entry {
-    pub cell: u32,
-    pub output: u32,
 }
 
 #[derive(Clone, Copy)]
 pub struct Line {
     pub slot: Slot,
-    pub entry: Entry,
+    pub entered: Entered,
 }
 
 // What the lines so far say: a machine's sizes and the words of its card.
@@ -84,24 +76,25 @@ const CELL: Numeral = Numeral {
 
 // ---- the head
 
+// A fixed run of bytes, then a number in a range.
+fn read_after(r: &mut Reader, word: &[u8], n: Numeral, range: Range) -> Result<u32, Wrong>
+    requires { range.most < n.power }
+    ensures { Told r.old r.new (after word.now n range.least range.most) range.most result }
+{
+    r.expect(word)?;
+    r.number(n, range)
+}
+
+#[tactic(auto, unfolding(crate::specs::Reading::counts))]
 fn read_counts(r: &mut Reader) -> Result<Counts, Wrong>
     ensures { CountsRead r.old r.new result }
 {
-    r.expect(b"# actions ")?;
-    let actions = r.number(
+    let actions = read_after(r, b"# actions ", COUNT, Range::of(1, games::MAX_ACTIONS))?;
+    let observations = read_after(
+        r,
+        b" observations ",
         COUNT,
-        Range {
-            least: 1,
-            most: games::MAX_ACTIONS,
-        },
-    )?;
-    r.expect(b" observations ")?;
-    let observations = r.number(
-        COUNT,
-        Range {
-            least: 1,
-            most: games::MAX_OBSERVATIONS,
-        },
+        Range::of(1, games::MAX_OBSERVATIONS),
     )?;
     Ok(Counts {
         actions,
@@ -110,45 +103,27 @@ fn read_counts(r: &mut Reader) -> Result<Counts, Wrong>
 }
 
 // The bits of an input and of an output, which are known.
+#[tactic(auto, unfolding(crate::specs::Reading::widths))]
 fn read_widths(r: &mut Reader, input: u32, output: u32) -> Result<(), Wrong>
     requires { (input < 10) × (output < 10) }
     ensures { Passed r.old r.new (widths input output) result }
 {
-    r.expect(b"\n.i ")?;
-    r.number(
-        WIDTH,
-        Range {
-            least: input,
-            most: input,
-        },
-    )?;
-    r.expect(b"\n.o ")?;
-    r.number(
-        WIDTH,
-        Range {
-            least: output,
-            most: output,
-        },
-    )?;
+    read_after(r, b"\n.i ", WIDTH, Range::only(input))?;
+    read_after(r, b"\n.o ", WIDTH, Range::only(output))?;
     Ok(())
 }
 
 // The number of states and the reset state.
+#[tactic(auto, unfolding(crate::specs::Reading::states))]
 fn read_states(r: &mut Reader) -> Result<u32, Wrong>
     ensures { Told r.old r.new states (max_cells + 1) result }
 {
-    r.expect(b"\n.s ")?;
-    let states = r.number(
-        CELL,
-        Range {
-            least: 2,
-            most: games::MAX_CELLS + 1,
-        },
-    )?;
+    let states = read_after(r, b"\n.s ", CELL, Range::of(2, games::MAX_CELLS + 1))?;
     r.expect(b"\n.r reset\n")?;
     Ok(states)
 }
 
+#[tactic(auto, using(kiss::proofs::Widths::bits_few, crate::proofs::Parts::head_parts))]
 fn read_head(r: &mut Reader) -> Result<Head, Wrong>
     ensures { HeadRead r.old r.new result }
 {
@@ -159,16 +134,13 @@ fn read_head(r: &mut Reader) -> Result<Head, Wrong>
         kiss::bits(counts.actions),
     )?;
     let states = read_states(r)?;
-    Ok(Head {
-        actions: counts.actions,
-        observations: counts.observations,
-        states,
-    })
+    Ok(Head { counts, states })
 }
 
 // ---- a line
 
 // The name of a state from number `least` up: the reset state is number 0, cell c is number 1 + c.
+#[tactic(auto, using(crate::proofs::Parts::state_first, crate::proofs::Parts::state_other))]
 fn read_state(r: &mut Reader, m: u32, least: u32) -> Result<u32, Wrong>
     requires { (1 ≤ m) × (m ≤ max_cells) }
     ensures { Told r.old r.new (state_from m least) m result }
@@ -178,13 +150,7 @@ fn read_state(r: &mut Reader, m: u32, least: u32) -> Result<u32, Wrong>
         return Ok(0);
     }
     r.expect(b"c")?;
-    let cell = r.number(
-        CELL,
-        Range {
-            least: least.saturating_sub(1),
-            most: m - 1,
-        },
-    )?;
+    let cell = r.number(CELL, Range::of(least.saturating_sub(1), m - 1))?;
     Ok(cell + 1)
 }
 
@@ -224,44 +190,34 @@ impl<'w> Machine<'w> {
     {
         let own = self.own_word(cell);
         if games::low_field(own) == 0 {
-            let action = games::action_field(own);
-            return Range {
-                least: action,
-                most: action,
-            };
+            return Range::only(games::action_field(own));
         }
-        Range {
-            least: 0,
-            most: self.sizes.actions - 1,
-        }
+        Range::of(0, self.sizes.actions - 1)
     }
 }
 
 // A line, from the lowest free slot on. It is read at once: with its slot and its entry as results of their own, reading is a tenth slower.
+#[tactic(auto, using(crate::proofs::Lines::line_parts), unfolding(crate::specs::Reading::slot, crate::specs::Reading::entry))]
 fn read_line(r: &mut Reader, machine: Machine, free: Slot) -> Result<Line, Wrong>
     requires { free.state ≤ machine.sizes.cells }
     ensures { LineRead r.old r.new machine.entry.sizes free machine.entry.words.now result }
 {
     let z = machine.sizes;
-    let inputs = Range {
-        least: least_input(free, z.cells),
-        most: z.observations - 1,
-    };
+    let inputs = Range::of(least_input(free, z.cells), z.observations - 1);
     let observation = r.number(z.input, inputs)?;
     r.expect(b" ")?;
     let state = read_state(r, z.cells, least_state(free, observation))?;
     r.expect(b" c")?;
-    let cells = Range {
-        least: 0,
-        most: z.cells - 1,
-    };
-    let cell = r.number(CELL, cells)?;
+    let cell = r.number(CELL, Range::of(0, z.cells - 1))?;
     r.expect(b" ")?;
     let output = r.number(z.output, machine.outputs(cell))?;
     r.expect(b"\n")?;
     Ok(Line {
         slot: Slot { state, observation },
-        entry: Entry { cell, output },
+        entered: Entered {
+            cell: Cell(cell),
+            action: Action(output),
+        },
     })
 }
 
@@ -311,19 +267,19 @@ fn slot_kind(state: u32) -> Kind
 #[tactic(auto, using(crate::proofs::Storing::stored_is))]
 fn store(words: &mut [u32], z: Sizes, line: Line)
     requires { Bounded z line × (length words.old ≡ card_length z.cells z.observations) }
-    ensures { words.new ≡ stored z.observations line.slot.state line.slot.observation line.entry.cell line.entry.output words.old }
+    ensures { words.new ≡ stored z.observations line.slot.state line.slot.observation line.entered.cell.0 line.entered.action.0 words.old }
 {
     let slot = line.slot;
     let row = slot.state as usize * games::part_length(z.observations);
     let kind = slot_kind(slot.state);
-    let cell = Cell(line.entry.cell);
+    let Entered { cell, action } = line.entered;
     let place = cards::cell_place(z.observations, cell);
     words[row + 1 + slot.observation as usize] = cards::naming(
         kind,
         cell,
         Observation(slot.observation),
     );
-    words[place] = cards::picking(0, Action(line.entry.output));
+    words[place] = cards::picking(0, action);
 }
 
 // ---- the lines and the end
@@ -375,7 +331,8 @@ fn read_card<'w>(text: &[u8], words: &'w mut [u32]) -> Result<Card<'w>, Wrong>
 {
     let mut r = Reader { text, at: 0 };
     let head = read_head(&mut r)?;
-    let z = Sizes::new(head.actions, head.observations, head.states - 1);
+    let counts = head.counts;
+    let z = Sizes::new(counts.actions, counts.observations, head.states - 1);
     let need = games::card_length(z.cells, z.observations);
     write_blank(z, &mut words[..need]);
     read_lines(&mut r, z, &mut words[..need])?;

@@ -26,7 +26,7 @@ store-requires c = (c.in_ok-line.ensures.bounded, in_lines_long _ _ _ _ _ c.loop
 pub loop-line-preserved : goal.loop-line-preserved
 loop-line-preserved c =
     let more : 0 < (c.args.z.cells + 1) * c.args.z.observations - c.loop-line._line = omega (arith, c.loop-line-test.true) in (
-      with_line c.loop-line.invariant.0 c.in_ok-line.line.slot.state c.in_ok-line.line.slot.observation c.in_ok-line.line.entry.cell c.in_ok-line.line.entry.output,
+      with_line c.loop-line.invariant.0 c.in_ok-line.line.slot.state c.in_ok-line.line.slot.observation c.in_ok-line.line.entered.cell.0 c.in_ok-line.line.entered.action.0,
       in_lines_more _ _ _ _ _ c.loop-line.invariant.0 _ c.loop-line.invariant.1 more (sym c.line_comes.ensures ∙ c.if-not-line_comes.false) _ _ c.in_ok-line.ensures _ c.store.ensures _ (omega arith),
     )
 
