@@ -5,13 +5,13 @@ ghost use Rattle.std.specs.Prelude.{◌≡◌, suc, ◌+◌, ◌-◌, ◌*◌, �
 ghost use Rattle.sets.specs.Bounded.{gather};
 ghost use Rattle.games.specs.Answers.{leaves};
 ghost use Rattle.games.specs.Format.{max_actions, max_observations, max_cells};
-ghost use Rattle.cards.specs.Card.{automaton, card_cells, card_observations};
+ghost use Rattle.cards.specs.Card.{automaton, card_actions, card_cells, card_observations};
 ghost use Rattle.cards.specs.Run.{led};
 ghost use Rattle.text.specs.Text.{room};
 ghost use Rattle.text.specs.Puts.{Puts};
 ghost use Rattle.form.specs.Form.{digits};
 ghost use Rattle.kiss.specs.Text.{cell_name, state_name, target, kiss_text};
-ghost use Rattle.kiss_writer.specs.Lines.{line_front, line_of, head_front, head_of, card_head_text, Narrow, Wide, LineLong, slot_of, lines_of};
+ghost use Rattle.kiss_writer.specs.Lines.{line_front, line_of, head_front, card_head_text, Narrow, Wide, LineLong, slot_of, lines_of};
 ghost use Rattle.kiss_writer.specs.Lines.{cell_bytes, most_bytes, front_bytes, head_bytes, lines_bytes};
 ghost use Rattle.kiss_writer.specs.Write.{by_room, written_to, Writes};
 
@@ -121,32 +121,6 @@ fn put_line(out: &mut Writer, widths: Bits, slot: Slot, to: Entered)
     out.put(b'\n')
 }
 
-// The head up to the bits of input, and the whole head.
-fn put_head_front(out: &mut Writer, a: u32, o: u32, input: u32)
-    requires { (a ≤ max_actions) × (o ≤ max_observations) × (input ≤ 3) × (out.old.at + head_bytes < room) }
-    ensures { Puts (head_front a o input) out.old out.new × (out.new.at ≤ out.old.at + front_bytes) }
-{
-    out.put_bytes(b"# actions ");
-    put_digits::<10, 2>(out, a);
-    out.put_bytes(b" observations ");
-    put_digits::<10, 2>(out, o);
-    out.put_bytes(b"\n.i ");
-    put_digits::<10, 1>(out, input)
-}
-
-fn put_head(out: &mut Writer, a: u32, o: u32, states: u32, widths: Bits)
-    requires { (a ≤ max_actions) × (o ≤ max_observations) × (states ≤ 1 + max_cells) × Narrow widths × (out.old.at + head_bytes < room) }
-    ensures { Puts (head_of a o states widths.input widths.output) out.old out.new
-        × (out.new.at ≤ out.old.at + head_bytes) }
-{
-    put_head_front(out, a, o, widths.input);
-    out.put_bytes(b"\n.o ");
-    put_digits::<10, 1>(out, widths.output);
-    out.put_bytes(b"\n.s ");
-    put_digits::<10, 5>(out, states);
-    out.put_bytes(b"\n.r reset\n")
-}
-
 // A card, with its bits.
 #[derive(Clone, Copy)]
 struct Sheet<'c> {
@@ -218,16 +192,33 @@ impl<'c> Sheet<'c> {
         }
     }
 
-    // The head of the card's text.
-    fn put_card_head(self, out: &mut Writer)
+    // The head of the card's text up to the bits of input, and the whole head.
+    #[tactic(auto, using(crate::proofs::Lines::actions_few, crate::proofs::Lines::observations_few))]
+    fn put_head_front(self, out: &mut Writer)
+        requires { out.old.at + head_bytes < room }
+        ensures { Puts (head_front (card_actions self.entry.card.words.now) (card_observations self.entry.card.words.now) self.entry.widths.input) out.old out.new
+            × (out.new.at ≤ out.old.at + front_bytes) }
+    {
+        out.put_bytes(b"# actions ");
+        put_digits::<10, 2>(out, self.card.actions());
+        out.put_bytes(b" observations ");
+        put_digits::<10, 2>(out, self.card.observations());
+        out.put_bytes(b"\n.i ");
+        put_digits::<10, 1>(out, self.widths.input)
+    }
+
+    #[tactic(auto, using(crate::proofs::Lines::cells_few))]
+    fn put_head(self, out: &mut Writer)
         requires { out.old.at + head_bytes < room }
         ensures { Puts (card_head_text self.entry.card.words.now) out.old out.new
             × (out.new.at ≤ out.old.at + head_bytes) }
     {
-        let a = self.card.actions();
-        let o = self.card.observations();
-        let states = self.card.cells() + 1;
-        put_head(out, a, o, states, self.widths)
+        self.put_head_front(out);
+        out.put_bytes(b"\n.o ");
+        put_digits::<10, 1>(out, self.widths.output);
+        out.put_bytes(b"\n.s ");
+        put_digits::<10, 5>(out, self.card.cells() + 1);
+        out.put_bytes(b"\n.r reset\n")
     }
 
     // The card's text: the head, the lines, the end.
@@ -235,7 +226,7 @@ impl<'c> Sheet<'c> {
         requires { out.old.at ≡ 0 }
         ensures { Puts (kiss_text self.entry.card.words.now) out.old out.new }
     {
-        self.put_card_head(out);
+        self.put_head(out);
         self.put_lines(out);
         out.put_bytes(b".e\n")
     }

@@ -6,4 +6,4 @@ use Rattle.kiss_writer.proofs.Sheet.put_text.Goals as goal
 pub returns : goal.returns
 returns c =
     rw (text_is c.args.self.card.words.now)
-    (puts_then (puts_then c.put_card_head.ensures.0 c.put_lines.ensures.0) c.put_bytes.ensures)
+    (puts_then (puts_then c.put_head.ensures.0 c.put_lines.ensures.0) c.put_bytes.ensures)
