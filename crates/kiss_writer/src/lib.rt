@@ -232,6 +232,7 @@ impl<'c> Sheet<'c> {
     }
 
     // How many bytes the lines of a state have, where a line of it has so many: each word that names a cell is a line.
+    // Counted by hand: with `filter(..).count() * line` it was not proved that this is the length of the lines (tried).
     #[tactic(auto, using(crate::proofs::Lines::observations_few, crate::proofs::Lines::line_short, crate::proofs::Rows::counted_fits))]
     fn state_length(self, state: u32, line: usize) -> usize
         requires { (state ≤ card_cells self.card.words.now) × LineLong self.card.words.now state line }
