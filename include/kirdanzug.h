@@ -36,9 +36,9 @@ extern "C" {
 #define KIRDANZUG_VERSION "0.16.0"
 
 /* The stack that is enough for a call of any function but write_kiss and read_kiss, in bytes. Measured:
- * 6,208 (solve); some 3,100 more where memcpy and memset are bound at their first call, by the dynamic linker. The
+ * 6,096 (solve); some 3,100 more where memcpy and memset are bound at their first call, by the dynamic linker. The
  * rest is margin. */
-#define KIRDANZUG_STACK_BYTES 12288
+#define KIRDANZUG_STACK_BYTES 12032
 
 /* The same for write_kiss, which keeps a mark for each of 4,096 cells on the stack, and for read_kiss,
  * which keeps the words of a whole card and these marks there. No work room is lent to them. */

@@ -75,7 +75,7 @@ pub const KISS_BYTES_MAX: usize = kiss_bytes(MAX_CELLS, MAX_OBSERVATIONS, MAX_AC
 pub const KISS_CARD_WORDS_MAX: usize = card_words(MAX_CELLS, MAX_OBSERVATIONS);
 
 /// The stack that is enough for a call of any function of the archive but [`write_kiss`] and [`read_kiss`], in bytes.
-pub const STACK_BYTES: usize = 12_288;
+pub const STACK_BYTES: usize = 12_032;
 /// The same for [`write_kiss`], which keeps a mark for each of 4,096 cells there.
 pub const WRITE_KISS_STACK_BYTES: usize = 24_576;
 /// The same for [`read_kiss`], which keeps the words of a whole card and these marks there.
