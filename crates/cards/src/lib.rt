@@ -2,7 +2,7 @@
 #![tactic(auto)]
 
 ghost use Rattle.std.specs.Prelude.{◌≡◌, ◌<◌};
-ghost use Rattle.games.specs.Format.{low_values, number_values, action_values, kind_cell};
+ghost use Rattle.games.specs.Format.{low_values, number_values, action_values, kind_values, kind_cell};
 ghost use Rattle.games.specs.Kinds.{kind_number};
 ghost use Rattle.games.specs.Fields.{word};
 ghost use Rattle.games.specs.Words.{card_head};
@@ -47,7 +47,15 @@ pub fn naming(kind: Kind, cell: Cell, seen: Observation) -> u32
     requires { (cell.0 < low_values) × (seen.0 < number_values) }
     ensures { result ≡ word (kind_number kind) cell.0 seen.0 0 }
 {
-    games::word(kind, cell.0, seen.0, 0)
+    naming_by_number(kind.number(), cell, seen)
+}
+
+// The same, of a kind by its number.
+pub fn naming_by_number(kind: u32, cell: Cell, seen: Observation) -> u32
+    requires { (kind < kind_values) × (cell.0 < low_values) × (seen.0 < number_values) }
+    ensures { result ≡ word kind cell.0 seen.0 0 }
+{
+    games::word_by_number(kind, cell.0, seen.0, 0)
 }
 
 // The word of a cell: its set and the action picked there.

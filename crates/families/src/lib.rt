@@ -156,7 +156,7 @@ impl Lane<'_> {
     }
 
     // What this lane and the lanes with one state more have, united: no lane is tested for a state.
-    fn own_or_larger(self) -> u64
+    pub fn own_or_larger(self) -> u64
         requires { self.index < length self.bits.now }
         ensures { (t : ℕ) → member result t ≡ own_or_larger self.entry.bits.now self.entry.index t }
     {
@@ -200,7 +200,7 @@ fn unpack(word: u64, base: u32, out: &mut [u32]) -> usize
         × (out.new ≡ raised base (select lane_sets (member word)) ++ drop result out.old) }
 {
     let mut rest = word;
-    // `at` is also the answer: a `for` over the room would have to count the word's sets first, and is no plainer
+    // (No range: each turn takes the lowest bit off. `at` counts what is written, and is the answer.)
     let mut at = 0;
     while rest != 0 {
         let t = rest.trailing_zeros();
@@ -224,7 +224,8 @@ pub fn maximal_bits(bits: &[u64], n: u32, found: &mut [u64])
     }
 }
 
-// How many sets there are.
+// How many sets there are. (That there are at most so many lanes is a bound on a lent slice, as any length is: a type for it had to be made
+// anew of each part that is lent.)
 pub fn size(bits: &[u64]) -> usize
     requires { length bits.now ≤ max_lanes }
     ensures { result ≡ length (sets bits.now) }

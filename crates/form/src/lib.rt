@@ -68,7 +68,7 @@ pub fn byte_at(text: &[u8], at: usize) -> Option<u8>
     text.get(at).copied()
 }
 
-// What a byte says as a digit. By hand: its clause says which byte is which digit; the library's parsing says nothing of a byte.
+// What a byte says as a digit of any base (`text::digit_at` is that of a text's place, in base 10). By hand: its clause says which byte is which digit; the library's parsing says nothing of a byte.
 fn digit(b: u8, base: u32) -> Option<u32>
     requires { base ≤ 10 }
     ensures { Digit base b result }

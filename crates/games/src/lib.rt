@@ -12,7 +12,8 @@ ghost use Rattle.games.specs.Answers.{number_of};
 ghost use Rattle.games.specs.Kinds.{kind_number};
 
 // Document 01's four columns: state, action, reading and cell numbers. One can't be passed as another.
-// That a number lies below its table's or card's count is a fact on two values, so it stands in clauses and not in the type.
+// That a number lies below its table's or card's count stands in clauses: a type of both would be made anew in each turn of a loop over the
+// numbers, and would say no more than the clause.
 #[derive(Clone, Copy, PartialEq, Eq, Debug)]
 pub struct State(pub u32);
 
@@ -181,11 +182,19 @@ pub fn action_field(w: u32) -> u32
     w / ACTION_AT % ACTION_VALUES
 }
 
+// The word of a kind by its number, one that has no name too.
+pub fn word_by_number(kind: u32, low: u32, number: u32, action: u32) -> u32
+    requires { (kind < kind_values) × (low < low_values) × (number < number_values) × (action < action_values) }
+    ensures { result ≡ word_of kind low number action }
+{
+    kind * KIND_AT + action * ACTION_AT + number * NUMBER_AT + low
+}
+
 pub fn word(kind: Kind, low: u32, number: u32, action: u32) -> u32
     requires { (low < low_values) × (number < number_values) × (action < action_values) }
     ensures { result ≡ word_of (kind_number kind) low number action }
 {
-    kind.number() * KIND_AT + action * ACTION_AT + number * NUMBER_AT + low
+    word_by_number(kind.number(), low, number, action)
 }
 
 // The numbers of a table's head: states, actions and observations; and whether it marks parked states.

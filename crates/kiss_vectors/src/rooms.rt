@@ -54,7 +54,7 @@ fn shown_words(room: &[u32]) -> Words<'_> {
     }
 }
 
-// The words and the cells of a card that was read.
+// The words and the cells of a card that was read. (`trim_vectors` has such a one, with another word: `rows`, which both use, knows no cards.)
 #[derive(Clone, Copy)]
 struct Got(Extent);
 

@@ -77,20 +77,24 @@ pub fn put_no(out: &mut Writer, round: u32)
 }
 
 // The line of a refusal: its number and place.
-#[tactic(auto, unfolding(crate::specs::Lines::refused_line))]
 pub fn put_refused(out: &mut Writer, refusal: Refusal)
     requires { out.old.at + line_bytes < room }
     ensures { Puts (refused_line (number_of refusal.reason) refusal.place) out.old out.new
         × (out.new.at ≤ out.old.at + line_bytes) }
 {
-    let number = refusal.reason.number();
+    put_refused_number(out, refusal.reason.number(), refusal.place)
+}
+
+// The same, of a refusal by its number, one that no reason has too.
+#[tactic(auto, unfolding(crate::specs::Lines::refused_line))]
+pub fn put_refused_number(out: &mut Writer, number: u32, place: usize)
+    requires { out.old.at + line_bytes < room }
+    ensures { Puts (refused_line number place) out.old out.new × (out.new.at ≤ out.old.at + line_bytes) }
+{
     put_line(
         out,
         b"refused",
-        &[
-            Field::Number(number as u64),
-            Field::Number(refusal.place as u64),
-        ],
+        &[Field::Number(number as u64), Field::Number(place as u64)],
     )
 }
 
@@ -177,7 +181,7 @@ pub fn put_card(out: &mut Writer, card: Card)
     }
 }
 
-// The line of an input that can't be read.
+// The line of an input that can't be read, and below of an answer that can't be written: one call each of what serves both.
 pub fn put_unread(out: &mut Writer)
     requires { out.old.at + line_bytes < room }
     ensures { Puts unread_line out.old out.new × (out.new.at ≤ out.old.at + line_bytes) }

@@ -165,19 +165,20 @@ fn first_family(table: Table, family: &mut [u64])
 }
 
 // How the search ends: the families settled at k with the start sets in them, or a start set is not good for k.
-// (No Result: either end is an answer of the search, and none is an error.)
+// (No Result, whose `?` would say that a lost start is a failure, and no Option: both have numbers.)
 #[derive(Clone, Copy, PartialEq, Eq, Debug)]
 pub enum Ended {
     Settled(u32),
     Lost(u32),
 }
 
-// Applies the step, from good for one round on, until a start set is lost or nothing changes.
+// Applies the step, from good for one round on, until a start set is lost or nothing changes. (The two rooms stay two parameters, as they are
+// lent: `solver` finds the cells in the second one, with the first at hand.)
 fn settle(moves: Moves, family: &mut [u64], next: &mut [u64]) -> Ended
     requires { Reached (game moves.accepted.table.words.now) 1 family.old × (length next.old ≡ length family.old) }
     ensures { Searched (game moves.entry.accepted.table.words.now) result family.new }
 {
-    // (No range: how many rounds there are is what is sought.)
+    // (No range: how many rounds there are is what is sought, and of `1..` it had to be said that it doesn't end first.)
     let mut k: u32 = 1;
     loop {
         Round { moves, family }.pass(next);

@@ -45,7 +45,8 @@ pub fn without(s: u32, i: u32) -> u32
     if member(s, i) { s - single(i) } else { s }
 }
 
-// Sets the first `end` places to v. A name of its own for the slice's method, since what entries leave of their work is stated by it.
+// Sets the first `end` places to v. It says what is left of the whole list, the rest as it was; the slice's method on a part says it of that
+// part, and each caller would have to put the two together.
 pub fn fill(d: &mut [u32], end: usize, v: u32)
     requires { end ≤ length d.old }
     ensures { d.new ≡ filled end v d.old }
@@ -53,8 +54,8 @@ pub fn fill(d: &mut [u32], end: usize, v: u32)
     d[..end].fill(v);
 }
 
-// A copy at the front of its room. A loop: the slice's method is compiled to `memmove`, and the archive needs `memcpy` and `memset`
-// alone.
+// A copy at the front of its room. A loop: where the compiler can't see that both lie apart, the slice's method is compiled to `memmove`, and
+// the archive needs `memcpy` and `memset` alone. (In `search` it can.)
 pub fn copy<T: Copy>(from: &[T], out: &mut [T])
     requires { length from.now ≤ length out.old }
     ensures { out.new ≡ from.now ++ drop (length from.now) out.old }
@@ -64,14 +65,14 @@ pub fn copy<T: Copy>(from: &[T], out: &mut [T])
     }
 }
 
-// Room for N values, each of them v. Its name keeps the checker from counting the places of a long array.
+// Room for N values, each of them v. What it promises is the list itself, so a caller knows the length of a long one without counting.
 pub fn filled<T: Copy, const N: usize>(v: T) -> [T; N]
     ensures { result ≡ replicate N v }
 {
     [v; N]
 }
 
-// Some number below n passes.
+// Some number below n passes. A loop, here and in `all`: by the range's own method it was tried, and the proof over any test did not close.
 pub fn any<F: Fn(u32) -> bool>(n: u32, test: F) -> bool
     requires { (i : ℕ) → i < n → F.pre test i }
     ensures { (said : ℕ → Bool) → Answers (F.post test) n said → result ≡ is_any n said }

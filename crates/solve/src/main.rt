@@ -84,7 +84,7 @@ enum Stream {
     Errors,
 }
 
-// What is written, and where.
+// What is written, and where. (No `Result`: what goes among the errors is a text as well, and writing it out is the same call.)
 #[derive(Clone, Copy)]
 struct Reply<'t> {
     to: Stream,

@@ -27,14 +27,15 @@ fn set_count(n: u32) -> usize
 }
 
 // The verdict on a table: yes with the settling count and the number of cells, no with the round number.
-// (No Result: neither answer is an error, and no Option: both have numbers.)
+// (No Result: a caller of `solve` would have one in another, and no Option: both have numbers.)
 #[derive(Clone, Copy, PartialEq, Eq, Debug)]
 pub enum Verdict {
     Yes(u32, u32),
     No(u32),
 }
 
-// A yes, settled after so many rounds: the card is written if there is room for it.
+// A yes, settled after so many rounds: the card is written if there is room for it. (Work and card stay two parameters, here and below: both
+// are lent `&mut`, and in a struct each step had to say that the other one stays.)
 fn grant(
     settled: Settled,
     work: &mut [u32],

@@ -163,7 +163,7 @@ impl<'w> Marks<'w> {
 }
 
 // Marks the reached cells: each waiting cell is taken up once, and the cells that its next words name wait then. How many cells are
-// reached.
+// reached. (Card and work stay two parameters: the card is read, the work is lent `&mut` and written on by what follows.)
 pub fn mark_reached(card: Card, work: &mut [u32]) -> usize
     requires { length work.old ≡ card_cells card.words.now }
     ensures { Marked (automaton card.entry.words.now) (card_observations card.entry.words.now) work.new result }
@@ -186,7 +186,7 @@ fn number(work: &mut [u32])
     requires { length work.old ≤ half_values }
     ensures { Numbered (length work.old) (marked work.old) work.new }
 {
-    // it counts what is marked, and is no index of the loop
+    // it counts what is marked: the next kept cell's number
     let mut kept: usize = 0;
     for c in 0..work.len() {
         if 0 < lower(work, c) {

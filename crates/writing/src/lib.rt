@@ -20,7 +20,8 @@ pub struct Settled<'a> {
 }
 
 impl Settled<'_> {
-    // The card's head and first cells.
+    // The card's head and first cells. (How many cells there are stays a parameter: it is the length of the front of the work, which is lent
+    // apart.)
     fn write_front(self, work: &mut [u32], count: u32, out: &mut [u32])
         requires { Noted self.cells.tops.now self.cells.base work.old
             × (count ≡ length (sets_of self.cells.tops.now))
