@@ -100,7 +100,7 @@ fn read_and_written(rt: &impl Print) -> io::Result<()> {
     write(rt, "marked n 12 a 8 o 8", most, &mut [GUARD; 107])
 }
 
-// A with parked states, and with the bit that says so or without.
+// A with parked states, and with the bit that says so or without. (No `Option`: a row without the bit has a mask too.)
 #[derive(Clone, Copy)]
 struct Parked(bool, u32);
 

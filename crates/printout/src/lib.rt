@@ -98,7 +98,8 @@ pub fn put_refused_number(out: &mut Writer, number: u32, place: usize)
     )
 }
 
-// The line of an observation's first cell.
+// The line of an observation's first cell. (Writer and card stay two parameters, here and below: the writer is lent `&mut`, and each part goes
+// on from the one before.)
 #[tactic(auto, using(crate::proofs::Texts::entered_field), unfolding(crate::specs::Lines::first_line))]
 fn put_first(out: &mut Writer, card: Card, first: Observation)
     requires { (first.0 < card_observations card.words.now) × (out.old.at + line_bytes < room) }

@@ -28,7 +28,8 @@ const BUFFER_WORDS: usize = 4 * games::MAX_SETS as usize;
 // A text has no more lines than the card room has words.
 const TEXT_BYTES: usize = BUFFER_WORDS * printout::LINE_BYTES;
 
-// Takes the verdict apart: a card, a round number or a refusal.
+// Takes the verdict apart: a card, a round number or a refusal. (That the writer stands at the front is a clause here and below: a type for
+// it would be made once, and be left with the first byte.)
 fn report(table: &[u32], work: &mut [u32], card: &mut [u32], out: &mut Writer)
     requires { (length card.old ≡ buffer_words) × (out.old.at ≡ 0) }
     ensures { Puts (table_text table.now work.old card.old) out.old out.new × (out.new.at ≤ text_bytes) }
