@@ -1,8 +1,7 @@
 // Rows that write a card, and that read what was written.
 use crate::rooms::{self, FREE, MOST_BYTES, MOST_WORDS};
-use crate::source::{Source, Subject, number, word};
+use crate::source::{Source, Subject, from_column, number, word};
 use rows::stations::{Change, GUARD};
-use std::fmt::{self, Display};
 use std::io;
 
 // A row on the card of a subject: so much room, and the change of a word if it has one.
@@ -14,12 +13,14 @@ struct Row<'a> {
 }
 
 impl<'a> Row<'a> {
-    fn of(subject: Subject<'a>, text: &str) -> Row<'a> {
-        let mut words = text.split_whitespace();
-        let room = number(words.next()).unwrap_or(0);
-        let place = number(words.next());
-        let word = words.next().map_or(0, word);
-        let change = place.map(|place| Change(place, word));
+    fn of(subject: Subject<'a>, line: &[u8]) -> Row<'a> {
+        let room = number(from_column(line, 2));
+        let change = if 8 < line.len() {
+            let place = number(from_column(line, 8));
+            Some(Change(place, word(from_column(line, 14))))
+        } else {
+            None
+        };
         Row {
             subject,
             room,
@@ -35,35 +36,37 @@ impl<'a> Row<'a> {
         }
         card
     }
-}
 
-// The name of the card, whether it is that of a text, and the change of a word.
-impl Display for Row<'_> {
-    fn fmt<W: fmt::Write>(&self, f: &mut fmt::Formatter<W>) -> fmt::Result {
+    // Whether the card is that of a text, its name, and the change of a word. No Display, since a name need not be text.
+    fn print(self, rt: &impl Print) -> io::Result<()> {
         if let Source::Text(_) = self.subject.source {
-            f.write_str("the card of ")?;
+            print!(rt; "the card of ")?;
         }
-        f.write_str(self.subject.name)?;
+        rt.write_all(self.subject.name)?;
         if let Some(change) = self.change {
-            write!(f, " with {change}")?;
+            print!(rt; " with {change}")?;
         }
         Ok(())
     }
 }
 
 impl Subject<'_> {
-    pub(crate) fn write(self, rt: &impl Print, row: &str) -> io::Result<()> {
-        let row = Row::of(self, row);
+    pub(crate) fn write(self, rt: &impl Print, line: &[u8]) -> io::Result<()> {
+        let row = Row::of(self, line);
         let mut words = [GUARD; MOST_WORDS];
-        rooms::write(rt, row, row.card(&mut words), row.room)
+        print!(rt; "write ")?;
+        row.print(rt)?;
+        rooms::write(rt, row.card(&mut words), row.room)
     }
 
-    pub(crate) fn read_back(self, rt: &impl Print, row: &str) -> io::Result<()> {
-        let row = Row::of(self, row);
+    pub(crate) fn read_back(self, rt: &impl Print, line: &[u8]) -> io::Result<()> {
+        let row = Row::of(self, line);
         let mut words = [GUARD; MOST_WORDS];
         let mut bytes = [FREE; MOST_BYTES];
         let written = kiss_writer::write(row.card(&mut words), &mut bytes).unwrap_or(0);
         let text = bytes.get(..written).unwrap_or(&[]);
-        rooms::read(rt, format_args!("the text of {row}"), text, row.room)
+        print!(rt; "read the text of ")?;
+        row.print(rt)?;
+        rooms::read(rt, text, row.room)
     }
 }

@@ -65,34 +65,24 @@ impl Display for Got {
     }
 }
 
-// With room for so many bytes.
-pub(crate) fn write(
-    rt: &impl Print,
-    name: impl Display + Drop,
-    card: &[u32],
-    room: usize,
-) -> io::Result<()> {
+// Behind the name, with room for so many bytes; nothing where there is no such room.
+pub(crate) fn write(rt: &impl Print, card: &[u32], room: usize) -> io::Result<()> {
     let mut bytes = [FREE; MOST_BYTES];
     let Some(out) = bytes.get_mut(..room) else {
         return Ok(());
     };
     let answer = Told(kiss_writer::write(card, out).map(Wrote));
     let text = TextRoom(out);
-    println!(rt; "write {name} into {room}: {answer} {text}")
+    println!(rt; " into {room}: {answer} {text}")
 }
 
-// With room for so many words.
-pub(crate) fn read(
-    rt: &impl Print,
-    name: impl Display + Drop,
-    text: &[u8],
-    room: usize,
-) -> io::Result<()> {
+// Behind the name, with room for so many words; nothing where there is no such room.
+pub(crate) fn read(rt: &impl Print, text: &[u8], room: usize) -> io::Result<()> {
     let mut words = [GUARD; MOST_WORDS];
     let Some(out) = words.get_mut(..room) else {
         return Ok(());
     };
     let answer = Told(kiss_reader::read(text, out).map(Got));
     let words = shown_words(out);
-    println!(rt; "read {name} into {room}: {answer} {words}")
+    println!(rt; " into {room}: {answer} {words}")
 }

@@ -1,26 +1,32 @@
-// What rows are about: the card or the text of a line.
-ghost use Rattle.std.specs.Prelude.{◌≡◌, MatchOption, SomeIff};
+// What rows are about: the card or the text of a line, and what its columns hold.
+ghost use Rattle.std.specs.Prelude.{◌≡◌, ◌≤◌, drop};
 ghost use Rattle.std.specs.Iterator.{IsFinite};
-ghost use Rattle.kiss_vectors.specs.Input.{meant, Numeral, value, text_of};
+ghost use Rattle.kiss_vectors.specs.Input.{meant, digit, value, text_of, letter_of, known, letter};
 
 use crate::rooms::FREE;
 
 // A text has up to so many bytes.
 pub const TEXT_BYTES: usize = 500;
 
+// A card that a line gives has up to so many words, each in eight columns with one between them.
+const LINE_WORDS: usize = 100;
+
+const WORD_COLUMNS: usize = 9;
+
+// What a line gives, with the bytes behind its letter.
 #[derive(Clone, Copy)]
 pub enum Source<'a> {
     // a card's words
-    Words(&'a str),
+    Words(&'a [u8]),
     // the card of 4,096 cells
-    Chain,
-    Text(&'a str),
+    Chain(&'a [u8]),
+    Text(&'a [u8]),
 }
 
 // A card or a text with its name: what the rows behind it are about.
 #[derive(Clone, Copy)]
 pub struct Subject<'a> {
-    pub name: &'a str,
+    pub name: &'a [u8],
     pub source: Source<'a>,
 }
 
@@ -58,19 +64,50 @@ pub(crate) fn meant(shown: u8) -> u8
     }
 }
 
-// The number that a word of a row is, if there is one.
-pub(crate) fn number(word: Option<&str>) -> Option<usize>
-    ensures { MatchOption word.entry (result ≡ None) (λ w. SomeIff result (Numeral 64 10 w.now) (value 10 w.now)) }
+// What stands in a line from a column on; nothing behind its end.
+pub(crate) fn from_column(line: &[u8], column: usize) -> &[u8]
+    ensures { result.now ≡ drop column line.now }
 {
-    word.and_then(|digits| digits.parse().ok())
+    line.get(column..).unwrap_or(&[])
 }
 
-// Eight hexadecimal digits, else 0.
-pub(crate) fn word(digits: &str) -> u32
-    ensures numeral { Numeral 32 16 digits.now → result ≡ value 16 digits.now }
-    ensures other { ¬ Numeral 32 16 digits.now → result ≡ 0 }
+// The digit that a byte is, decimal or hexadecimal. No byte is refused: a space is 0.
+fn digit(byte: u8) -> u32
+    ensures { result ≡ digit byte }
 {
-    u32::from_str_radix(digits, 16).unwrap_or(0)
+    if byte < b'A' {
+        u32::from(byte % 16)
+    } else {
+        u32::from((byte - b'A' + 10) % 16)
+    }
+}
+
+// What so many columns in front hold; 0 stands for each that isn't there.
+#[tactic(auto, using(crate::proofs::Columns::more_fits, crate::proofs::Columns::word_fits), unfolding(crate::specs::Input::value))]
+fn value(columns: &[u8], count: usize, radix: u32) -> u32
+    requires { (radix ≤ 16) × (count ≤ 8) }
+    ensures { result ≡ value radix count columns.now }
+{
+    let mut value = 0;
+    for i in 0..count {
+        let byte = columns.get(i).copied().unwrap_or(0);
+        value = value * radix + digit(byte);
+    }
+    value
+}
+
+// The number of five decimal digits.
+pub(crate) fn number(columns: &[u8]) -> usize
+    ensures { result ≡ value 10 5 columns.now }
+{
+    value(columns, 5, 10) as usize
+}
+
+// The word of eight hexadecimal digits.
+pub(crate) fn word(columns: &[u8]) -> u32
+    ensures { result ≡ value 16 8 columns.now }
+{
+    value(columns, 8, 16)
 }
 
 // The words of the card of 4,096 cells: each cell names the one above it, and the last cell none.
@@ -85,9 +122,9 @@ fn chain_word(place: u32) -> u32 {
 }
 
 // The card of the text, empty where it is refused.
-fn read_card<'c>(text: &str, room: &'c mut [u32]) -> &'c mut [u32] {
+fn read_card<'c>(text: &[u8], room: &'c mut [u32]) -> &'c mut [u32] {
     let mut bytes = [FREE; TEXT_BYTES];
-    let text = fill(&mut bytes, text.bytes().map(meant));
+    let text = fill(&mut bytes, text.iter().copied().map(meant));
     let words = match kiss_reader::read(text, room) {
         Ok(read) => read.words,
         Err(_) => 0,
@@ -95,23 +132,45 @@ fn read_card<'c>(text: &str, room: &'c mut [u32]) -> &'c mut [u32] {
     front(room, words)
 }
 
+// The words of a card's line. The last digit of the last word may be missing.
+fn card_words<'c>(words: &[u8], room: &'c mut [u32]) -> &'c mut [u32] {
+    let words = words
+        .chunks(WORD_COLUMNS)
+        .take_while(|columns| WORD_COLUMNS - 2 <= columns.len());
+    fill(room, words.take(LINE_WORDS).map(word))
+}
+
+impl<'a> Source<'a> {
+    // What a line gives, by its first letter: the words of a card where that is neither `k` nor `t`.
+    pub(crate) fn of(line: &'a [u8]) -> Source<'a>
+        ensures letter { letter_of result ≡ known (letter line.now) }
+        ensures text { text_of result ≡ drop 2 line.now }
+    {
+        let text = from_column(line, 2);
+        match line.first() {
+            Some(b'k') => Source::Chain(text),
+            Some(b't') => Source::Text(text),
+            _ => Source::Words(text),
+        }
+    }
+}
+
 impl Source<'_> {
     // The card, or that of the text, in front of the room.
     pub(crate) fn card<'c>(self, room: &'c mut [u32]) -> &'c mut [u32] {
         match self {
-            Source::Words(words) => fill(room, words.split_whitespace().map(word)),
-            Source::Chain => fill(room, (0..8194).map(chain_word)),
+            Source::Words(words) => card_words(words, room),
+            Source::Chain(_) => fill(room, (0..8194).map(chain_word)),
             Source::Text(text) => read_card(text, room),
         }
     }
 
-    // The text, empty where it is a card.
-    pub(crate) fn text(&self) -> &str
+    // The text: what stands behind the letter, also where that is a card.
+    pub(crate) fn text(&self) -> &[u8]
         ensures { result.now ≡ text_of self.now }
     {
         match self {
-            Source::Text(text) => text,
-            _ => "",
+            Source::Words(text) | Source::Chain(text) | Source::Text(text) => text,
         }
     }
 }
