@@ -43,19 +43,19 @@ pub struct Extent {
 }
 
 // The word of a kind that names the cell to go to on an observation.
-pub fn naming(kind: Kind, cell: Cell, seen: Observation) -> u32
+pub fn kind_naming(kind: Kind, cell: Cell, seen: Observation) -> u32
     requires { (cell.0 < low_values) × (seen.0 < number_values) }
     ensures { result ≡ word (kind_number kind) cell.0 seen.0 0 }
 {
-    naming_by_number(kind.number(), cell, seen)
+    naming(kind.number(), cell, seen)
 }
 
 // The same, of a kind by its number.
-pub fn naming_by_number(kind: u32, cell: Cell, seen: Observation) -> u32
+pub fn naming(kind: u32, cell: Cell, seen: Observation) -> u32
     requires { (kind < kind_values) × (cell.0 < low_values) × (seen.0 < number_values) }
     ensures { result ≡ word kind cell.0 seen.0 0 }
 {
-    games::word_by_number(kind, cell.0, seen.0, 0)
+    games::word(kind, cell.0, seen.0, 0)
 }
 
 // The word of a cell: its set and the action picked there.
@@ -63,7 +63,7 @@ pub fn picking(set: u32, picked: Action) -> u32
     requires { (set < low_values) × (picked.0 < action_values) }
     ensures { result ≡ word kind_cell set 0 picked.0 }
 {
-    games::word(Kind::Cell, set, 0, picked.0)
+    games::kind_word(Kind::Cell, set, 0, picked.0)
 }
 
 // A card's head.
@@ -71,7 +71,7 @@ pub fn heading(cells: u32, o: u32, a: u32) -> u32
     requires { (cells < low_values) × (o < number_values) × (a < action_values) }
     ensures { result ≡ card_head cells o a }
 {
-    games::word(Kind::Card, cells, o, a)
+    games::kind_word(Kind::Card, cells, o, a)
 }
 
 fn head_fits(x: u32) -> bool
@@ -90,7 +90,7 @@ fn cell_named(kind: Kind, m: u32, j: u32, x: u32) -> bool
     requires { (m < low_values) × (j < number_values) }
     ensures { result ≡ cell_named (kind_number kind) m j x }
 {
-    let cell = std::num::wrapping_sub_u32(x, games::word(kind, 0, j, 0));
+    let cell = std::num::wrapping_sub_u32(x, games::kind_word(kind, 0, j, 0));
     (cell < m) | (cell == games::NO_CELL)
 }
 
@@ -99,7 +99,7 @@ fn cell_fits(a: u32, x: u32) -> bool
     requires { a < action_values }
     ensures { result ≡ cell_fits a x }
 {
-    let picked = std::num::wrapping_sub_u32(x, games::word(Kind::Cell, 0, 0, 0));
+    let picked = std::num::wrapping_sub_u32(x, games::kind_word(Kind::Cell, 0, 0, 0));
     (picked % games::ACTION_AT < games::MAX_SETS) & (picked < a * games::ACTION_AT)
 }
 

@@ -108,7 +108,29 @@ impl Row<'_> {
         ensures { RightNames self.entry.draft.words.now (kind_number self.entry.kind) self.entry.at
             (card_observations self.entry.draft.words.now) result }
     {
+        if self.draft.head.observations < 4 {
+            return self.right_few();
+        }
         self.right_from(self.right_fours())
+    }
+
+    // The same for fewer than four, one by one: the compiler leaves a loop over so few standing, and the check took a third more time.
+    fn right_few(self) -> u32
+        requires { card_observations self.draft.words.now < 4 }
+        ensures { RightNames self.entry.draft.words.now (kind_number self.entry.kind) self.entry.at
+            (card_observations self.entry.draft.words.now) result }
+    {
+        let o = self.draft.head.observations;
+        if o == 0 || !self.named(0) {
+            return 0;
+        }
+        if o == 1 || !self.named(1) {
+            return 1;
+        }
+        if o == 2 || !self.named(2) {
+            return 2;
+        }
+        o
     }
 }
 

@@ -183,18 +183,19 @@ pub fn action_field(w: u32) -> u32
 }
 
 // The word of a kind by its number, one that has no name too.
-pub fn word_by_number(kind: u32, low: u32, number: u32, action: u32) -> u32
+pub fn word(kind: u32, low: u32, number: u32, action: u32) -> u32
     requires { (kind < kind_values) × (low < low_values) × (number < number_values) × (action < action_values) }
     ensures { result ≡ word_of kind low number action }
 {
     kind * KIND_AT + action * ACTION_AT + number * NUMBER_AT + low
 }
 
-pub fn word(kind: Kind, low: u32, number: u32, action: u32) -> u32
+// The word of a kind.
+pub fn kind_word(kind: Kind, low: u32, number: u32, action: u32) -> u32
     requires { (low < low_values) × (number < number_values) × (action < action_values) }
     ensures { result ≡ word_of (kind_number kind) low number action }
 {
-    word_by_number(kind.number(), low, number, action)
+    word(kind.number(), low, number, action)
 }
 
 // The numbers of a table's head: states, actions and observations; and whether it marks parked states.

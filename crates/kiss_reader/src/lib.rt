@@ -230,7 +230,7 @@ fn blank_row(kind: Kind, own: u32, o: u32, row: &mut [u32])
     ensures { row.new ≡ blank_row (kind_number kind) own o }
 {
     for j in 0..o {
-        row[1 + j as usize] = cards::naming(kind, Cell(games::NO_CELL), Observation(j));
+        row[1 + j as usize] = cards::kind_naming(kind, Cell(games::NO_CELL), Observation(j));
     }
     row[0] = own;
 }
@@ -274,7 +274,7 @@ fn store(words: &mut [u32], z: Sizes, line: Line)
     let kind = slot_kind(slot.state);
     let Entered { cell, action } = line.entered;
     let place = cards::cell_place(z.observations, cell);
-    words[row + 1 + slot.observation as usize] = cards::naming(
+    words[row + 1 + slot.observation as usize] = cards::kind_naming(
         kind,
         cell,
         Observation(slot.observation),

@@ -1,7 +1,7 @@
 // Join and meet of two lists of sets (document 01, "Lists").
 #![tactic(auto)]
 
-ghost use Rattle.std.specs.Prelude.{◌≡◌, Bool, List, ℕ, ◌≤◌, ◌<◌, length, take, MatchOption, MatchResult, Ok};
+ghost use Rattle.std.specs.Prelude.{◌≡◌, Bool, List, ℕ, ◌^◌, ◌≤◌, ◌<◌, length, take, MatchOption, MatchResult, Ok};
 ghost use Rattle.sets.specs.Mask.{member};
 ghost use Rattle.sets.specs.Bounded.{nothing, found};
 ghost use Rattle.sets.specs.Family.{join as join_of, meet as meet_of};
@@ -71,12 +71,12 @@ struct Lists<'t> {
     ghost masks: { Masks n first.now second.now },
 }
 
-// The first mask that names a state from n up.
-fn foreign(n: u32, list: &[u32]) -> Option<usize>
-    requires { n ≤ max_states }
-    ensures { MatchOption result (foreign_in n list.now ≡ nothing) (λ i. (i < length list.now) × (foreign_in n list.now ≡ found i)) }
+// The first mask that names a state from n up, where `end` is 2 ^ n. It is made once for both lists: made here, from n, each comparison became
+// a shift by n and a test, and the search took nearly twice the time.
+fn foreign(end: u32, list: &[u32]) -> Option<usize>
+    ensures { (n : ℕ) → end ≡ 2 ^ n
+        → MatchOption result (foreign_in n list.now ≡ nothing) (λ i. (i < length list.now) × (foreign_in n list.now ≡ found i)) }
 {
-    let end = sets::single(n);
     list.iter().position(|mask| end <= *mask)
 }
 
@@ -91,10 +91,11 @@ fn checked<'t>(n: u32, first: &'t [u32], second: &'t [u32]) -> Result<Lists<'t>,
     if !games::within(n, MAX_STATES) {
         return Err(Reason::BadHead.at(0));
     }
-    if let Some(i) = foreign(n, first) {
+    let end = sets::single(n);
+    if let Some(i) = foreign(end, first) {
         return Err(Reason::StateBeyond.at(i));
     }
-    if let Some(i) = foreign(n, second) {
+    if let Some(i) = foreign(end, second) {
         return Err(Reason::StateBeyond.at(first.len() + i));
     }
     Ok(Lists { n, first, second })

@@ -76,18 +76,18 @@ pub fn put_no(out: &mut Writer, round: u32)
     put_line(out, b"no", &[Field::Number(round as u64)])
 }
 
-// The line of a refusal: its number and place.
-pub fn put_refused(out: &mut Writer, refusal: Refusal)
+// The line of a refusal.
+pub fn put_refusal(out: &mut Writer, refusal: Refusal)
     requires { out.old.at + line_bytes < room }
     ensures { Puts (refused_line (number_of refusal.reason) refusal.place) out.old out.new
         × (out.new.at ≤ out.old.at + line_bytes) }
 {
-    put_refused_number(out, refusal.reason.number(), refusal.place)
+    put_refused(out, refusal.reason.number(), refusal.place)
 }
 
-// The same, of a refusal by its number, one that no reason has too.
+// The same, of a refusal by its number and its place: a number that no reason has too.
 #[tactic(auto, unfolding(crate::specs::Lines::refused_line))]
-pub fn put_refused_number(out: &mut Writer, number: u32, place: usize)
+pub fn put_refused(out: &mut Writer, number: u32, place: usize)
     requires { out.old.at + line_bytes < room }
     ensures { Puts (refused_line number place) out.old out.new × (out.new.at ≤ out.old.at + line_bytes) }
 {

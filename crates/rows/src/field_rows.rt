@@ -32,8 +32,9 @@ impl Display for Printed {
 }
 
 pub fn read(rt: &impl Print, name: impl Display + Drop, table: &[u32]) -> io::Result<()> {
-    let answer = Told(tables::check(table).map(Fine));
-    let printed = Printed(fields_of(table));
+    let read = fields::read(table);
+    let answer = Told(read.map(|_| Fine(())));
+    let printed = Printed(read.unwrap_or(NO_FIELDS));
     println!(rt; "read {name}: {answer} {printed}")
 }
 

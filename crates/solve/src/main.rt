@@ -34,20 +34,27 @@ fn report(table: &[u32], work: &mut [u32], card: &mut [u32], out: &mut Writer)
     requires { (length card.old ≡ buffer_words) × (out.old.at ≡ 0) }
     ensures { Puts (table_text table.now work.old card.old) out.old out.new × (out.new.at ≤ text_bytes) }
 {
-    match solver::solve(table, work, card) {
-        Err(refusal) => printout::put_refused(out, refusal),
-        Ok(Verdict::No(round)) => printout::put_no(out, round),
-        Ok(Verdict::Yes(settled, cells)) => {
-            let length = games::card_length(cells, Table { words: table }.observations());
-            printout::put_yes(out, settled, cells);
-            printout::put_card(
-                out,
-                Card {
-                    words: &card[..length],
-                },
-            )
-        }
-    }
+    let answer = solver::solve(table, work, card);
+    let Ok(verdict) = answer else {
+        let Err(refusal) = answer else {
+            return;
+        };
+        return printout::put_refusal(out, refusal);
+    };
+    let Verdict::Yes(settled, cells) = verdict else {
+        let Verdict::No(round) = verdict else {
+            return;
+        };
+        return printout::put_no(out, round);
+    };
+    let length = games::card_length(cells, Table { words: table }.observations());
+    printout::put_yes(out, settled, cells);
+    printout::put_card(
+        out,
+        Card {
+            words: &card[..length],
+        },
+    )
 }
 
 // The text for the bytes of a whole number of words.
@@ -70,10 +77,10 @@ fn respond(bytes: &[u8], out: &mut Writer)
     ensures { Puts (program_text bytes.now) out.old out.new × (out.new.at ≤ text_bytes) }
 {
     if INPUT_BYTES < bytes.len() {
-        return printout::put_refused(out, Reason::BadLength.at(INPUT_WORDS + 1));
+        return printout::put_refusal(out, Reason::BadLength.at(INPUT_WORDS + 1));
     }
     if bytes.len() % 4 != 0 {
-        return printout::put_refused(out, Reason::BadLength.at(bytes.len() / 4));
+        return printout::put_refusal(out, Reason::BadLength.at(bytes.len() / 4));
     }
     answer_words(bytes, out)
 }
@@ -148,8 +155,9 @@ fn tell_unwritten<E: Write>(err: &mut E) -> io::Result<()>
 fn main(rt: HostRuntime) {
     let mut bytes = [0u8; INPUT_BYTES + 1];
     let input = words::read_full(&mut rt.stdin(), &mut bytes);
-    let mut errors = rt.stderr();
-    if answer(&mut rt.stdout(), &mut errors, input).is_err() {
+    let (output, errors) = (rt.stdout(), rt.stderr());
+    let mut errors = io::writer(&errors);
+    if answer(&mut io::writer(&output), &mut errors, input).is_err() {
         let _ = tell_unwritten(&mut errors);
     }
 }

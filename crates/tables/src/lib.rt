@@ -85,11 +85,11 @@ impl Sizes {
         ensures { result ≡ bare_word (place_at self.shape p) }
     {
         match games::place_at(self.shape, p) {
-            Place::Start => games::word(Kind::Start, 0, 0, 0),
-            Place::Bad => games::word(Kind::Bad, 0, 0, 0),
-            Place::Parked => games::word(Kind::Parked, 0, 0, 0),
-            Place::Shown(seen) => games::word(Kind::Shown, 0, seen.0, 0),
-            Place::Move(a, i) => games::word(Kind::Move, 0, i.0, a.0),
+            Place::Start => games::kind_word(Kind::Start, 0, 0, 0),
+            Place::Bad => games::kind_word(Kind::Bad, 0, 0, 0),
+            Place::Parked => games::kind_word(Kind::Parked, 0, 0, 0),
+            Place::Shown(seen) => games::kind_word(Kind::Shown, 0, seen.0, 0),
+            Place::Move(a, i) => games::kind_word(Kind::Move, 0, i.0, a.0),
         }
     }
 }

@@ -168,14 +168,15 @@ pub fn mark_reached(card: Card, work: &mut [u32]) -> usize
     requires { length work.old ≡ card_cells card.words.now }
     ensures { Marked (automaton card.entry.words.now) (card_observations card.entry.words.now) work.new result }
 {
-    let o = card.observations() as usize;
+    let o = card.observations();
     let mut marks = Marks::firsts(card, work);
     let mut taken: usize = 0;
     // no index is counted: a cell that is taken up may let others wait
     while 0 < marks.waiting {
         let cell = marks.take_next();
-        let at = card.cell_place(cell) + 1;
-        marks.mark_named(&card.words[at..at + o], cell);
+        // (by the number at hand: the card's own method reads the head again for each cell, since the work is written between)
+        let at = cards::cell_place(o, cell) + 1;
+        marks.mark_named(&card.words[at..at + o as usize], cell);
         taken += 1;
     }
     taken
@@ -226,7 +227,7 @@ fn write_row(names: &[u32], kind: Kind, own: u32, work: &[u32], out: &mut [u32])
 {
     for (j, name) in names.iter().enumerate() {
         let new = new_name(work, Cell(games::low_field(*name)));
-        out[1 + j] = cards::naming(kind, new, Observation(j as u32));
+        out[1 + j] = cards::kind_naming(kind, new, Observation(j as u32));
     }
     out[0] = own;
 }
@@ -244,7 +245,7 @@ fn write_trimmed(card: Card, work: &[u32], kept: u32, out: &mut [u32])
     let words = card.words;
     write_row(&words[1..front], Kind::First, head, work, &mut out[..front]);
     for i in 0..kept {
-        let from = card.cell_place(Cell(upper(work, i as usize)));
+        let from = cards::cell_place(o, Cell(upper(work, i as usize)));
         let own = words[from];
         let at = cards::cell_place(o, Cell(i));
         let names = &words[from + 1..from + part];

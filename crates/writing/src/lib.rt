@@ -34,7 +34,7 @@ impl Settled<'_> {
             let j = Observation(j);
             let held = self.cells.holding(work, table.start_set(j));
             let first = held.unwrap_or(Cell(NO_CELL));
-            out[1 + j.0 as usize] = cards::naming(Kind::First, first, j);
+            out[1 + j.0 as usize] = cards::kind_naming(Kind::First, first, j);
         }
         out[0] = cards::heading(count, table.observations(), table.actions());
     }
@@ -49,17 +49,21 @@ impl Settled<'_> {
     {
         let table = self.moves.accepted.table;
         let o = table.observations();
-        // (Two loops in one: an observation without a cell goes on to the next action. The label says so in a word, an inner function by a further answer.)
+        // (Two loops in one: an observation without a cell goes on to the next action. The label says so in a word, an inner function by a further answer.
+        // The innermost loop runs once: `break` yields the holding cell.)
         'actions: for a in 0..table.actions() {
             let Some(u) = self.moves.post(s, Action(a)) else {
                 continue 'actions;
             };
             for j in 0..o {
                 let t = u & table.shown(Observation(j));
-                let Some(cell) = self.cells.holding(work, t) else {
-                    continue 'actions;
+                let cell = loop {
+                    let Some(holder) = self.cells.holding(work, t) else {
+                        continue 'actions;
+                    };
+                    break holder;
                 };
-                out[1 + j as usize] = cards::naming(Kind::Next, cell, Observation(j));
+                out[1 + j as usize] = cards::kind_naming(Kind::Next, cell, Observation(j));
             }
             out[0] = cards::picking(s, Action(a));
             return;

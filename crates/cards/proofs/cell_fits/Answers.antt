@@ -4,4 +4,4 @@ use Rattle.cards.proofs.Checked.{cell_told}
 use Rattle.cards.proofs.cell_fits.Goals as goal
 
 pub returns : goal.returns
-returns c = cell_told c.args.a _ _ _ c.requires (omega arith) c.word.ensures c.wrapping_sub_u32-picked.ensures.value
+returns c = cell_told c.args.a _ _ _ c.requires (omega arith) c.kind_word.ensures c.wrapping_sub_u32-picked.ensures.value

@@ -5,4 +5,4 @@ use Rattle.cards.proofs.Checked.{named_told}
 use Rattle.cards.proofs.cell_named.Goals as goal
 
 pub returns : goal.returns
-returns c = named_told _ c.args.m _ _ _ _ (kind_below c.args.kind) c.requires.0 c.requires.1 (omega arith) c.word.ensures c.wrapping_sub_u32-cell.ensures.value
+returns c = named_told _ c.args.m _ _ _ _ (kind_below c.args.kind) c.requires.0 c.requires.1 (omega arith) c.kind_word.ensures c.wrapping_sub_u32-cell.ensures.value

@@ -4,4 +4,4 @@ use Rattle.lists.proofs.Outcomes.{foreign_is}
 use Rattle.lists.proofs.foreign.Goals as goal
 
 pub returns : goal.returns
-returns c = foreign_is c.args.n c.args.list.now c.single-end.result c.single-end.ensures c.position.result (search rules)
+returns c = λ n e. foreign_is n c.args.list.now c.args.end e c.position.result (search rules)

@@ -15,8 +15,8 @@ use Rattle.trimmer.proofs.write_row.Goals as goal
 pub loop-j-init : goal.loop-j-init
 loop-j-init c = filled_none _ _ c.args.out.now c.requires.2
 
-pub naming-requires : goal.naming-requires
-naming-requires c =
+pub kind_naming-requires : goal.kind_naming-requires
+kind_naming-requires c =
     let names : ℕ → ℕ = named_from c.args.names.now 0 in
     let new : c.new_name-new.result.0 ≡ new_name c.args.work.now (names c.loop-j.j) = c.new_name-new.ensures ∙ ap (new_name c.args.work.now) (name_here c.args.names.now c.loop-j.j c.low_field.result c.low_field.ensures) in (
       subst (λ (y : ℕ). y < low_values) (sym new) (name_small c.args.work.now (names c.loop-j.j)),
@@ -28,8 +28,8 @@ loop-j-preserved c =
     let names : ℕ → ℕ = named_from c.args.names.now 0 in
     let written : ℕ → ℕ = λ i. word (kind_number c.args.kind) (new_name c.args.work.now (names i)) i 0 in
     let new : c.new_name-new.result.0 ≡ new_name c.args.work.now (names c.loop-j.j) = c.new_name-new.ensures ∙ ap (new_name c.args.work.now) (name_here c.args.names.now c.loop-j.j c.low_field.result c.low_field.ensures) in
-    filled_more (length c.args.names.now) written c.loop-j.j c.loop-j.out c.naming.result c.loop-j-test.true
-    (c.naming.ensures ∙ ap (λ (y : ℕ). word (kind_number c.args.kind) y c.loop-j.j 0) new) c.loop-j.invariant
+    filled_more (length c.args.names.now) written c.loop-j.j c.loop-j.out c.kind_naming.result c.loop-j-test.true
+    (c.kind_naming.ensures ∙ ap (λ (y : ℕ). word (kind_number c.args.kind) y c.loop-j.j 0) new) c.loop-j.invariant
 
 pub returns : goal.returns
 unfolding row_words

@@ -1,5 +1,6 @@
-use Rattle.std.proofs.Common.{◌+◌, ◌-◌, sym, refl, arith}
+use Rattle.std.proofs.Common.{ℕ, ap, ◌∙◌, ◌+◌, ◌-◌, sym, refl, arith}
 use lib.Seq.{length-take-le}
+use Rattle.cards.specs.Card.{cell_place}
 use Rattle.cards.proofs.Checked.{fitting}
 use Rattle.cards.proofs.Running.{size_of}
 use Rattle.trimmer.proofs.Writing.{kept_fit, kept_inside, front_fits, front_inside, front_needs, fronted, all_written, from_inside, part_inside, part_needs, part_written}
@@ -39,12 +40,14 @@ upper-requires c =
 
 pub cell_place-from-requires : goal.cell_place-from-requires
 cell_place-from-requires c =
-    kept_inside c.args.card.words.now c.args.card.checked c.args.work.now c.requires.0 _ _ c.observations-o.ensures c.requires.1 _ _ c.loop-i-test.true c.upper.ensures.half
+    let F = fitting c.args.card.words.now c.args.card.checked in
+    let inside = kept_inside c.args.card.words.now c.args.card.checked c.args.work.now c.requires.0 _ _ c.observations-o.ensures c.requires.1 _ _ c.loop-i-test.true c.upper.ensures.half in
+    (omega (arith, c.observations-o.ensures, F.observations), omega (arith, inside, F.cells, size_of c.args.card.words.now))
 
 pub bounds-words-from : goal.bounds-words-from
 bounds-words-from c =
     from_inside c.args.card.words.now c.args.card.checked c.args.work.now c.requires.0 _ _ c.observations-o.ensures c.requires.1 _ _ c.loop-i-test.true c.upper.ensures.half
-    _ c.cell_place-from.ensures
+    _ (c.cell_place-from.ensures ∙ ap (λ (n : ℕ). cell_place n c.upper.result) c.observations-o.ensures)
 
 pub cell_place-at-requires : goal.cell_place-at-requires
 cell_place-at-requires c =
@@ -56,17 +59,17 @@ cell_place-at-requires c =
 pub slice_bounds-names-end : goal.slice_bounds-names-end
 slice_bounds-names-end c =
     part_inside c.args.card.words.now c.args.card.checked c.args.work.now c.requires.0 _ _ c.observations-o.ensures c.requires.1 _ _ c.loop-i-test.true c.upper.ensures.half
-    _ c.cell_place-from.ensures _ c.part_length-part.ensures
+    _ (c.cell_place-from.ensures ∙ ap (λ (n : ℕ). cell_place n c.upper.result) c.observations-o.ensures) _ c.part_length-part.ensures
 
 pub write_row-requires-in-loop-i : goal.write_row-requires-in-loop-i
 write_row-requires-in-loop-i c =
     part_needs c.args.card.words.now c.args.card.checked c.args.work.now c.requires.0 _ _ c.observations-o.ensures c.requires.1 _ _ c.loop-i-test.true c.upper.ensures.half
-    _ c.cell_place-from.ensures _ c.part_length-part.ensures _ _ c.loop-i.invariant _ c.cell_place-at.ensures _ (omega (arith, c.part_length-part.ensures))
+    _ (c.cell_place-from.ensures ∙ ap (λ (n : ℕ). cell_place n c.upper.result) c.observations-o.ensures) _ c.part_length-part.ensures _ _ c.loop-i.invariant _ c.cell_place-at.ensures _ (omega (arith, c.part_length-part.ensures))
 
 pub loop-i-preserved : goal.loop-i-preserved
 loop-i-preserved c =
     part_written c.args.card.words.now c.args.card.checked c.args.work.now c.requires.0 _ _ c.observations-o.ensures c.requires.1 _ _ c.loop-i-test.true c.upper.ensures.half
-    _ c.cell_place-from.ensures _ c.part_length-part.ensures _ _ c.loop-i.invariant _ c.cell_place-at.ensures
+    _ (c.cell_place-from.ensures ∙ ap (λ (n : ℕ). cell_place n c.upper.result) c.observations-o.ensures) _ c.part_length-part.ensures _ _ c.loop-i.invariant _ c.cell_place-at.ensures
     (c.cell_place-from.result + c.part_length-part.result - (c.cell_place-from.result + 1)) _ (omega (arith, c.part_length-part.ensures)) refl _ c.write_row-in-loop-i.ensures
 
 pub returns : goal.returns

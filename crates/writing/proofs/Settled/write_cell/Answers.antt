@@ -53,12 +53,15 @@ loop-j-init c = (
   c.actions.invariant.2,
 )
 
+pub loop-holder-init : goal.loop-holder-init
+loop-holder-init c = (refl, refl, c.loop-j.invariant.5)
+
 pub holding-requires : goal.holding-requires
 holding-requires c =
     let g = game c.args.self.moves.accepted.table.words.now in
     let there : c.loop-j.j < g.observations = omega (arith, c.loop-j-test.true, c.actions.invariant.0.observations_are) in
     let below = part_below g (accepted c.args.self.moves.accepted.table.words.now c.args.self.moves.accepted.checked) (sets c.args.self.cells.tops.now) c.args.self.listed.are c.in-Some.u c.shown.result c.loop-j.j there c.shown.ensures in
-    (c.loop-j.invariant.5, rw c.args.self.listed.wide (lane_there g.states _ below), rw c.args.self.listed.all_sets below)
+    (c.loop-holder.invariant.2, rw c.args.self.listed.wide (lane_there g.states _ below), rw c.args.self.listed.all_sets below)
 
 pub actions-preserved : goal.actions-preserved
 actions-preserved c =
@@ -69,16 +72,16 @@ actions-preserved c =
       none_next g c.args.s c.observations-o.result c.actions-a-end.result c.actions.a c.loop-j.out c.loop-j.invariant.2
           (uncovered_fails g c.args.s c.actions.a c.post.result c.post.ensures c.in-Some.u c.in-Some.is c.loop-j.j there lost)
           (omega (arith, c.actions-test.true)),
-      c.holding.auto.work ∙ c.loop-j.invariant.4 ∙ c.actions.invariant.1,
+      c.holding.auto.work ∙ c.loop-holder.invariant.1 ∙ c.loop-j.invariant.4 ∙ c.actions.invariant.1,
       c.holding.ensures.1,
     )
 
-pub naming-requires : goal.naming-requires
-naming-requires c =
+pub kind_naming-requires : goal.kind_naming-requires
+kind_naming-requires c =
     let g = game c.args.self.moves.accepted.table.words.now in
     let l = sets c.args.self.cells.tops.now in
     let there : c.loop-j.j < g.observations = omega (arith, c.loop-j-test.true, c.actions.invariant.0.observations_are) in
-    let named = part_named g (accepted c.args.self.moves.accepted.table.words.now c.args.self.moves.accepted.checked) l c.args.self.listed.are c.in-Some.u c.shown.result c.loop-j.j there c.shown.ensures c.holding.result c.holding.ensures.0 c.in-Some-holding.cell c.in-Some-holding.is in
+    let named = part_named g (accepted c.args.self.moves.accepted.table.words.now c.args.self.moves.accepted.checked) l c.args.self.listed.are c.in-Some.u c.shown.result c.loop-j.j there c.shown.ensures c.holding.result c.holding.ensures.0 c.in-Some-holding.holder c.in-Some-holding.is in
     (subst (λ (x : ℕ). x < low_values) (sym named.1) (holding_small _ _ c.args.self.cells.indexed.cells_few), omega (arith, there, c.actions.invariant.0.observations_are, c.actions.invariant.0.observations_few))
 
 pub loop-j-preserved : goal.loop-j-preserved
@@ -86,13 +89,13 @@ loop-j-preserved c =
     let g = game c.args.self.moves.accepted.table.words.now in
     let l = sets c.args.self.cells.tops.now in
     let there : c.loop-j.j < g.observations = omega (arith, c.loop-j-test.true, c.actions.invariant.0.observations_are) in
-    let named = part_named g (accepted c.args.self.moves.accepted.table.words.now c.args.self.moves.accepted.checked) l c.args.self.listed.are c.in-Some.u c.shown.result c.loop-j.j there c.shown.ensures c.holding.result c.holding.ensures.0 c.in-Some-holding.cell c.in-Some-holding.is in (
-      c.loop-j.invariant.0,
+    let named = part_named g (accepted c.args.self.moves.accepted.table.words.now c.args.self.moves.accepted.checked) l c.args.self.listed.are c.in-Some.u c.shown.result c.loop-j.j there c.shown.ensures c.holding.result c.holding.ensures.0 c.in-Some-holding.holder c.in-Some-holding.is in (
+      c.loop-holder.invariant.0 ∙ c.loop-j.invariant.0,
       all_more c.loop-j.j (λ i. settled g (common c.in-Some.u (g.shown i))) ∙ and_intro c.loop-j.invariant.1 named.0,
-      none_with g c.args.s c.observations-o.result c.actions-a-end.result c.actions.a c.loop-j.out c.loop-j.invariant.2 (set c.loop-j.out (1 + c.loop-j.j) c.naming.result) (length-set c.loop-j.out (1 + c.loop-j.j) c.naming.result ∙ c.loop-j.invariant.2.size),
-      filled_more c.observations-o.result (next_word g l c.in-Some.u) c.loop-j.j c.loop-j.out c.naming.result c.loop-j-test.true
-          (next_word_lem g l c.in-Some.u c.loop-j.j c.naming.result _ c.shown.result _ c.naming.ensures named.1 refl c.shown.ensures) c.loop-j.invariant.3,
-      c.holding.auto.work ∙ c.loop-j.invariant.4,
+      none_with g c.args.s c.observations-o.result c.actions-a-end.result c.actions.a c.loop-j.out c.loop-j.invariant.2 (set c.loop-j.out (1 + c.loop-j.j) c.kind_naming.result) (length-set c.loop-j.out (1 + c.loop-j.j) c.kind_naming.result ∙ c.loop-j.invariant.2.size),
+      filled_more c.observations-o.result (next_word g l c.in-Some.u) c.loop-j.j c.loop-j.out c.kind_naming.result c.loop-j-test.true
+          (next_word_lem g l c.in-Some.u c.loop-j.j c.kind_naming.result _ c.shown.result _ c.kind_naming.ensures named.1 refl c.shown.ensures) c.loop-j.invariant.3,
+      c.holding.auto.work ∙ c.loop-holder.invariant.1 ∙ c.loop-j.invariant.4,
       c.holding.ensures.1,
     )
 

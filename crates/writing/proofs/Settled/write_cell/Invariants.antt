@@ -13,6 +13,13 @@ use Rattle.index.specs.Index.{Noted}
 use Rattle.writing.proofs.Choosing.{NoneMeets, next_word}
 use Rattle.writing.proofs.Settled.write_cell.Given as goal
 
+-- the loop that is left at once, with the holding cell
+abbrev pub invariant-loop-holder : goal.invariant-loop-holder
+invariant-loop-holder l = (l.a ≡ l.initial.a) × (length l.work ≡ length l.initial.work) × Noted l.self.cells.tops.now l.self.cells.base l.work
+
+abbrev pub decreases-loop-holder : goal.decreases-loop-holder
+decreases-loop-holder l = 0
+
 abbrev pub invariant-loop-j : goal.invariant-loop-j
 invariant-loop-j l = (l.a ≡ l.initial.a) × (all l.j (λ i. settled (game l.self.moves.accepted.table.words.now) (common l.u ((game l.self.moves.accepted.table.words.now).shown i))) ≡ true) × NoneMeets (game l.self.moves.accepted.table.words.now) l.s l.o l.a-end l.initial.a l.out × Filled l.o (next_word (game l.self.moves.accepted.table.words.now) (sets l.self.cells.tops.now) l.u) l.j l.out × (length l.work ≡ length l.initial.work) × Noted l.self.cells.tops.now l.self.cells.base l.work
 

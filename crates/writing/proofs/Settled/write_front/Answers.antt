@@ -37,8 +37,8 @@ holding-held-requires c =
       rw (c.args.self.listed.all_sets, c.start_set.ensures) b,
     )
 
-pub naming-requires : goal.naming-requires
-naming-requires c =
+pub kind_naming-requires : goal.kind_naming-requires
+kind_naming-requires c =
     let e = ap (λ (n : ℕ). 1 + n) c.start_sets-j-end.ensures ∙ sets_front (game c.args.self.moves.accepted.table.words.now) in
     let played : Game = game c.args.self.moves.accepted.table.words.now in
     let listed : List ℕ = sets_of c.args.self.cells.tops.now in
@@ -50,8 +50,8 @@ loop-j-preserved c =
     let played : Game = game c.args.self.moves.accepted.table.words.now in
     let listed : List ℕ = sets_of c.args.self.cells.tops.now in
     let first_cell : c.unwrap_or-first.result.0 ≡ holding listed (start_set played c.loop-j.j) = ap (λ (x : Cell). x.0) c.unwrap_or-first.ensures ∙ ap named c.holding-held.ensures.0 ∙ named_holding listed c.start_set.result ∙ ap (holding listed) c.start_set.ensures in (
-      filled_more c.start_sets-j-end.result (first_word played listed) c.loop-j.j c.loop-j.out c.naming.result (omega arith)
-          (c.naming.ensures ∙ ap (λ (n : ℕ). word kind_first n c.loop-j.j 0) first_cell) c.loop-j.invariant.0,
+      filled_more c.start_sets-j-end.result (first_word played listed) c.loop-j.j c.loop-j.out c.kind_naming.result (omega arith)
+          (c.kind_naming.ensures ∙ ap (λ (n : ℕ). word kind_first n c.loop-j.j 0) first_cell) c.loop-j.invariant.0,
       c.holding-held.auto.work ∙ c.loop-j.invariant.1,
       c.holding-held.ensures.1,
     )
