@@ -45,7 +45,7 @@ extern "C" {
 #define KIRDANZUG_WRITE_KISS_STACK_BYTES 24576
 #define KIRDANZUG_READ_KISS_STACK_BYTES 196608
 
-/* The same for what runs a card: check_card, open, step, run and show. Measured: 272. */
+/* The same for what runs a card: check_card, open, step, run and show. Measured: 200. */
 #define KIRDANZUG_RUN_STACK_BYTES 384
 
 /* ---- Limits ---------------------------------------------------------------------------------- */

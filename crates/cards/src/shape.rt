@@ -74,10 +74,6 @@ impl Row<'_> {
             (card_observations self.entry.draft.words.now) result }
     {
         let o = self.draft.head.observations;
-        // by itself, so that the compiler asks it once for a card and not for each cell
-        if o < 4 {
-            return 0;
-        }
         for k in 0..o / 4 {
             if !self.four_named(4 * k) {
                 return 4 * k;
@@ -102,8 +98,8 @@ impl Row<'_> {
         o
     }
 
-    // The same count, by fours first. It is called in one place, so that the compiler puts it into the loop over the cells: with the first
-    // words by fours too, the check took more than twice as long.
+    // The same count: fewer than four one by one, more by fours first. It is called in one place, so that the compiler puts it into the loop
+    // over the cells: with the first words by fours too, the check took more than twice as long.
     fn right(self) -> u32
         ensures { RightNames self.entry.draft.words.now (kind_number self.entry.kind) self.entry.at
             (card_observations self.entry.draft.words.now) result }
